@@ -1,0 +1,260 @@
+-- The laws of sets of small numbers: what `including` and `excluding` do to each member and to the width, and that a set is known by its members.
+-- Every proof that speaks of drawn relays, pushed buttons or windings cites these. The last section is for the proofs of `has`, `with`, `without` and `all_below`.
+-- Assumes nothing.
+use Prim.Native.Nat.{ℕ, zero, suc, _+_, _-_, _*_, _/_, _%_, _^_, _≤_, _<_}
+use mathlib.Core.Path.{_≡_, refl, sym, ap, ap₂, _∙_}
+use mathlib.Core.Bool.{Bool, true, false, false≢true}
+use native.Mathlib.Omega.{arith}
+use native.Mathlib.Nat.{mod-lt, div-eq-of-lt, div-one, pow-suc, lt-of-lt-of-le, add-div-right, one-mul, zero-mul, add-zero, zero-div, sub-add-cancel}
+use native.Mathlib.Numerals.{one-add}
+use borrow.Author.Tests.{ltb-true, ltb-false, eqb-true, eqb-false, lt-ltb, le-ltb, eq-eqb, ne-eqb}
+use lib.Dec.{ltb, eqb}
+use lib.Arith.{bin-ind}
+use lib.Pow.{pow-pos, pow-mono, split, shr-shr, shl-exact}
+use lib.Bits.{bitAnd, bitOr, bitXor, and-block, and-mask, and-zero-r, or-add-and, xor-add-and}
+use Rattle.bits.specs.Sets.{member, including, excluding, within}
+
+-- ---- a member by its bit, lowest first
+
+member-lowest : (s : ℕ) → member s 0 ≡ eqb (s % 2) 1
+unfolding member
+member-lowest s = ap (λ (x : ℕ). eqb (x % 2) 1) (div-one s)
+
+member-next : (s n : ℕ) → member s (suc n) ≡ member (s / 2) n
+unfolding member
+member-next s n = ap (λ (k : ℕ). eqb (s / 2 ^ k % 2) 1) (sym (one-add n)) ∙ ap (λ (x : ℕ). eqb (x % 2) 1) (sym (shr-shr s 1 n))
+
+member-set : (s n : ℕ) → member s n ≡ true → s / 2 ^ n % 2 ≡ 1
+unfolding member
+member-set s n h = eqb-true (s / 2 ^ n % 2) 1 h
+
+member-clear : (s n : ℕ) → member s n ≡ false → s / 2 ^ n % 2 ≡ 0
+unfolding member
+member-clear s n h = omega (arith, eqb-false (s / 2 ^ n % 2) 1 h)
+
+set-member : (s n : ℕ) → s / 2 ^ n % 2 ≡ 1 → member s n ≡ true
+unfolding member
+set-member s n h = eq-eqb (s / 2 ^ n % 2) 1 h
+
+clear-member : (s n : ℕ) → s / 2 ^ n % 2 ≡ 0 → member s n ≡ false
+unfolding member
+clear-member s n h = ne-eqb (s / 2 ^ n % 2) 1 (λ e. omega arith)
+
+-- ---- either way of a test
+
+by-test : {A : Type 0} (b : Bool) → (b ≡ true → A) → (b ≡ false → A) → A
+by-test true f g = f refl
+by-test false f g = g refl
+
+-- ---- the bit's worth, 2 ^ n, added where the bit is clear and taken where it is set
+
+added-same : (s n : ℕ) → member s n ≡ false → member (s + 2 ^ n) n ≡ true
+added-same s n clear = set-member (s + 2 ^ n) n (omega (arith, member-clear s n clear, add-div-right s (pow-pos n)))
+
+even-half : (s : ℕ) → member s 0 ≡ false → (s + 1) / 2 ≡ s / 2
+even-half s clear = omega (arith, member-clear s 0 clear)
+
+worth-odd : (s n : ℕ) → (s + 2 ^ suc n) % 2 ≡ s % 2
+worth-odd s n = omega (arith, pow-suc 2 n)
+
+worth-half : (s n : ℕ) → (s + 2 ^ suc n) / 2 ≡ s / 2 + 2 ^ n
+worth-half s n = omega (arith, pow-suc 2 n)
+
+added-other : (s n m : ℕ) → member s n ≡ false → (m ≡ n → ⊥) → member (s + 2 ^ n) m ≡ member s m
+added-other s zero zero clear other = absurd (other refl)
+added-other s zero (suc m) clear other =
+    member-next (s + 1) m
+    ∙ ap (λ (x : ℕ). member x m) (even-half s clear)
+    ∙ sym (member-next s m)
+added-other s (suc n) zero clear other =
+    member-lowest (s + 2 ^ suc n)
+    ∙ ap (λ (x : ℕ). eqb x 1) (worth-odd s n)
+    ∙ sym (member-lowest s)
+added-other s (suc n) (suc m) clear other =
+    member-next (s + 2 ^ suc n) m
+    ∙ ap (λ (x : ℕ). member x m) (worth-half s n)
+    ∙ added-other (s / 2) n m (sym (member-next s n) ∙ clear) (λ e. other (ap suc e))
+    ∙ sym (member-next s m)
+
+member-worth : (s n : ℕ) → member s n ≡ true → 2 ^ n ≤ s
+member-worth s n set =
+    by-test (ltb s (2 ^ n))
+    (λ less. omega (arith, member-set s n set, div-eq-of-lt (ltb-true s (2 ^ n) less)))
+    (ltb-false s (2 ^ n))
+
+taken-same : (s n : ℕ) → member s n ≡ true → member (s - 2 ^ n) n ≡ false
+taken-same s n set =
+    clear-member (s - 2 ^ n) n
+    (omega (arith, member-set s n set, add-div-right (s - 2 ^ n) (pow-pos n), ap (λ (x : ℕ). x / 2 ^ n) (sub-add-cancel (member-worth s n set))))
+
+taken-other : (s n m : ℕ) → member s n ≡ true → (m ≡ n → ⊥) → member (s - 2 ^ n) m ≡ member s m
+taken-other s n m set other =
+    sym (added-other (s - 2 ^ n) n m (taken-same s n set) other)
+    ∙ ap (λ (x : ℕ). member x m) (sub-add-cancel (member-worth s n set))
+
+-- ---- `including` and `excluding` by their cases
+
+including-member : (s n : ℕ) → member s n ≡ true → including s n ≡ s
+unfolding including
+including-member s n set = by-test (ltb n 64) (λ e. rw (e, set)) (λ e. rw e)
+
+including-new : (s n : ℕ) → n < 64 → member s n ≡ false → including s n ≡ s + 2 ^ n
+unfolding including
+including-new s n fits clear = rw (lt-ltb n 64 fits, clear)
+
+pub including-beyond : (s n : ℕ) → 64 ≤ n → including s n ≡ s
+unfolding including
+including-beyond s n beyond = rw (le-ltb n 64 beyond)
+
+excluding-member : (s n : ℕ) → member s n ≡ true → excluding s n ≡ s - 2 ^ n
+unfolding excluding
+excluding-member s n set = rw set
+
+pub excluding-absent : (s n : ℕ) → member s n ≡ false → excluding s n ≡ s
+unfolding excluding
+excluding-absent s n clear = rw clear
+
+-- ---- the members after a change
+
+pub member-including-same : (s n : ℕ) → n < 64 → member (including s n) n ≡ true
+member-including-same s n fits =
+    by-test (member s n)
+    (λ set. ap (λ (x : ℕ). member x n) (including-member s n set) ∙ set)
+    (λ clear. ap (λ (x : ℕ). member x n) (including-new s n fits clear) ∙ added-same s n clear)
+
+member-fitting-other : (s n m : ℕ) → n < 64 → (m ≡ n → ⊥) → member (including s n) m ≡ member s m
+member-fitting-other s n m fits other =
+    by-test (member s n)
+    (λ set. ap (λ (x : ℕ). member x m) (including-member s n set))
+    (λ clear. ap (λ (x : ℕ). member x m) (including-new s n fits clear) ∙ added-other s n m clear other)
+
+pub member-including-other : (s n m : ℕ) → (m ≡ n → ⊥) → member (including s n) m ≡ member s m
+member-including-other s n m other =
+    by-test (ltb n 64)
+    (λ fits. member-fitting-other s n m (ltb-true n 64 fits) other)
+    (λ beyond. ap (λ (x : ℕ). member x m) (including-beyond s n (ltb-false n 64 beyond)))
+
+pub member-excluding-same : (s n : ℕ) → member (excluding s n) n ≡ false
+member-excluding-same s n =
+    by-test (member s n)
+    (λ set. ap (λ (x : ℕ). member x n) (excluding-member s n set) ∙ taken-same s n set)
+    (λ clear. ap (λ (x : ℕ). member x n) (excluding-absent s n clear) ∙ clear)
+
+pub member-excluding-other : (s n m : ℕ) → (m ≡ n → ⊥) → member (excluding s n) m ≡ member s m
+member-excluding-other s n m other =
+    by-test (member s n)
+    (λ set. ap (λ (x : ℕ). member x m) (excluding-member s n set) ∙ taken-other s n m set other)
+    (λ clear. ap (λ (x : ℕ). member x m) (excluding-absent s n clear))
+
+-- ---- a set is known by its members
+
+pub member-none : (n : ℕ) → member 0 n ≡ false
+member-none n = clear-member 0 n (omega (arith, zero-div (2 ^ n)))
+
+no-members : (s : ℕ) → ((n : ℕ) → member s n ≡ false) → s ≡ 0
+no-members =
+    bin-ind (λ (s : ℕ). ((n : ℕ) → member s n ≡ false) → s ≡ 0)
+    (λ none. refl)
+    (λ s half none. omega (arith, half (λ n. sym (member-next s n) ∙ none (suc n)), member-clear s 0 (none 0)))
+
+lowest-same : (s t : ℕ) → member s 0 ≡ member t 0 → s % 2 ≡ t % 2
+lowest-same s t e =
+    by-test (member t 0)
+    (λ set. omega (arith, member-set s 0 (e ∙ set), member-set t 0 set))
+    (λ clear. omega (arith, member-clear s 0 (e ∙ clear), member-clear t 0 clear))
+
+pub members-same : (s t : ℕ) → ((n : ℕ) → member s n ≡ member t n) → s ≡ t
+members-same =
+    bin-ind (λ (s : ℕ). (t : ℕ) → ((n : ℕ) → member s n ≡ member t n) → s ≡ t)
+    (λ t same. sym (no-members t (λ n. sym (same n) ∙ member-none n)))
+    (λ s half t same. omega (arith, half (t / 2) (λ n. sym (member-next s n) ∙ same (suc n) ∙ member-next t n), lowest-same s t (same 0)))
+
+-- ---- the width: every member is below k exactly if the number is below 2 ^ k
+
+pub member-beyond : (s k n : ℕ) → s < 2 ^ k → k ≤ n → member s n ≡ false
+member-beyond s k n small beyond = clear-member s n (omega (arith, div-eq-of-lt (lt-of-lt-of-le small (pow-mono beyond))))
+
+pub member-below : (s k n : ℕ) → s < 2 ^ k → member s n ≡ true → n < k
+member-below s k n small set =
+    by-test (ltb n k) (ltb-true n k)
+    (λ beyond. absurd (false≢true (sym (member-beyond s k n small (ltb-false n k beyond)) ∙ set)))
+
+pub below-member : (s k : ℕ) → ((n : ℕ) → member s n ≡ true → n < k) → s < 2 ^ k
+below-member s zero low =
+    omega (arith, no-members s (λ n. by-test (member s n) (λ set. absurd (omega (arith, low n set))) (λ clear. clear)))
+below-member s (suc k) low =
+    omega (arith, pow-suc 2 k, below-member (s / 2) k (λ n set. omega (arith, low (suc n) (member-next s n ∙ set))))
+
+pub within-member : (s k n : ℕ) → within s k ≡ true → member s n ≡ true → n < k
+unfolding within
+within-member s k n all set = member-below s k n (ltb-true s (2 ^ k) all) set
+
+pub member-within : (s k : ℕ) → ((n : ℕ) → member s n ≡ true → n < k) → within s k ≡ true
+unfolding within
+member-within s k low = lt-ltb s (2 ^ k) (below-member s k low)
+
+member-including-below : (s k n m : ℕ) → s < 2 ^ k → n < k → member (including s n) m ≡ true → m < k
+member-including-below s k n m small fits set =
+    by-test (eqb m n)
+    (λ e. omega (arith, eqb-true m n e))
+    (λ e. member-below s k m small (sym (member-including-other s n m (eqb-false m n e)) ∙ set))
+
+pub including-below : (s k n : ℕ) → s < 2 ^ k → n < k → including s n < 2 ^ k
+including-below s k n small fits = below-member (including s n) k (λ m set. member-including-below s k n m small fits set)
+
+pub including-below-room : (s n : ℕ) → s < 2 ^ 64 → including s n < 2 ^ 64
+including-below-room s n small =
+    by-test (ltb n 64)
+    (λ fits. including-below s 64 n small (ltb-true n 64 fits))
+    (λ beyond. omega (arith, including-beyond s n (ltb-false n 64 beyond)))
+
+pub excluding-below : (s k n : ℕ) → s < 2 ^ k → excluding s n < 2 ^ k
+excluding-below s k n small =
+    by-test (member s n)
+    (λ set. omega (arith, excluding-member s n set))
+    (λ clear. omega (arith, excluding-absent s n clear))
+
+-- ---- what the code's shifts and masks are, for the proofs of `has`, `with`, `without` and `all_below`
+
+-- `1 << n` is the worth of bit n
+shifted-one : (n : ℕ) → n < 64 → 1 * 2 ^ n % 2 ^ 64 ≡ 2 ^ n
+shifted-one n fits = shl-exact 1 n 64 (omega arith) (omega arith) ∙ one-mul (2 ^ n)
+
+and-worth : (s n : ℕ) → bitAnd s (2 ^ n) ≡ s / 2 ^ n % 2 * 2 ^ n
+and-worth s n =
+    ap₂ bitAnd (sym (split s n)) (sym (add-zero (1 * 2 ^ n) ∙ one-mul (2 ^ n)))
+    ∙ and-block n (s / 2 ^ n) 1 (s % 2 ^ n) 0 (mod-lt s (pow-pos n)) (pow-pos n)
+    ∙ ap₂ (λ (x y : ℕ). x * 2 ^ n + y) (and-mask (s / 2 ^ n) 1) (and-zero-r (s % 2 ^ n))
+    ∙ add-zero (s / 2 ^ n % 2 * 2 ^ n)
+
+and-member : (s n : ℕ) → member s n ≡ true → bitAnd s (2 ^ n) ≡ 2 ^ n
+and-member s n set = and-worth s n ∙ ap (λ (x : ℕ). x * 2 ^ n) (member-set s n set) ∙ one-mul (2 ^ n)
+
+and-absent : (s n : ℕ) → member s n ≡ false → bitAnd s (2 ^ n) ≡ 0
+and-absent s n clear = and-worth s n ∙ ap (λ (x : ℕ). x * 2 ^ n) (member-clear s n clear) ∙ zero-mul (2 ^ n)
+
+or-including : (s n : ℕ) → n < 64 → bitOr s (2 ^ n) ≡ including s n
+or-including s n fits =
+    by-test (member s n)
+    (λ set. omega (arith, or-add-and s (2 ^ n), and-member s n set, including-member s n set))
+    (λ clear. omega (arith, or-add-and s (2 ^ n), and-absent s n clear, including-new s n fits clear))
+
+xor-excluding : (s n : ℕ) → member s n ≡ true → bitXor s (2 ^ n) ≡ excluding s n
+xor-excluding s n set = omega (arith, xor-add-and s (2 ^ n), and-member s n set, excluding-member s n set, member-worth s n set)
+
+pub with-shifted : (s n : ℕ) → n < 64 → bitOr s (1 * 2 ^ n % 2 ^ 64) ≡ including s n
+with-shifted s n fits = ap (bitOr s) (shifted-one n fits) ∙ or-including s n fits
+
+pub without-shifted : (s n : ℕ) → s < 2 ^ 64 → member s n ≡ true → bitXor s (1 * 2 ^ n % 2 ^ 64) ≡ excluding s n
+without-shifted s n small set = ap (bitXor s) (shifted-one n (member-below s 64 n small set)) ∙ xor-excluding s n set
+
+pub within-shifted : (s k : ℕ) → eqb (s / 2 ^ k) 0 ≡ within s k
+unfolding within
+within-shifted s k =
+    by-test (ltb s (2 ^ k))
+    (λ small. eq-eqb (s / 2 ^ k) 0 (div-eq-of-lt (ltb-true s (2 ^ k) small)) ∙ sym small)
+    (λ large. ne-eqb (s / 2 ^ k) 0 (λ e. omega (arith, split s k, mod-lt s (pow-pos k), ltb-false s (2 ^ k) large, ap (λ (x : ℕ). x * 2 ^ k) e)) ∙ sym large)
+
+pub within-room : (s k : ℕ) → s < 2 ^ 64 → 64 ≤ k → within s k ≡ true
+unfolding within
+within-room s k small room = lt-ltb s (2 ^ k) (lt-of-lt-of-le small (pow-mono room))

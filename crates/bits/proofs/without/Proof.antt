@@ -1,0 +1,30 @@
+-- `bits::without` meets its contract: a member of a word is below 64, and there the code's `^` clears the bit that `has` found set.
+-- Assumes nothing.
+use mathlib.Core.Path.{sym, _∙_}
+use native.Mathlib.Omega.{arith}
+use borrow.Author.Needs.{needs}
+use Rattle.bits.proofs.SetLaws.{member-below, excluding-absent, without-shifted}
+use Rattle.bits.proofs.without.Statement.{statement}
+use Rattle.bits.proofs.without.Tie as tie
+
+has-requires : tie.Need-has-requires
+has-requires c κs = search needs
+
+shl-result : tie.Need-shl-result
+shl-result c =
+    member-below (c .before .before .args .set) 64 (c .before .before .args .n) (omega arith)
+    (sym (c .before .has .ensures) ∙ c .if1 .taken)
+
+returns : tie.Need-returns
+returns c =
+    without-shifted (c .before .before .args .set) (c .before .before .args .n) (omega arith)
+    (sym (c .before .has .ensures) ∙ c .if1 .taken)
+
+returns-2 : tie.Need-returns-2
+returns-2 c =
+    sym
+    (excluding-absent (c .before .before .args .set) (c .before .before .args .n)
+    (sym (c .before .has .ensures) ∙ c .if1 .left))
+
+pub without-spec : {M : Type 1} → statement M
+without-spec = tie.close (tie.spec has-requires shl-result returns returns-2)

@@ -1,0 +1,43 @@
+// Sets of the numbers 0 to 63, a bit of a word each: n is a member exactly if bit n is set.
+ghost use mathlib.Core.Path.{_≡_};
+ghost use Rattle.bits.specs.Sets.{member, including, excluding, within};
+
+// How many numbers a word has room for.
+const ROOM: u32 = 64;
+
+// Whether n is a member.
+pub fn has(set: u64, n: u32) -> bool
+    ensures { λ r. ⌜ r ≡ member set n ⌝ }
+{
+    if ROOM <= n {
+        return false;
+    }
+    (set >> n) % 2 == 1
+}
+
+// The set with n as a member besides; as it is where a word has no room for n.
+pub fn with(set: u64, n: u32) -> u64
+    ensures { λ r. ⌜ r ≡ including set n ⌝ }
+{
+    if ROOM <= n {
+        return set;
+    }
+    set | (1 << n)
+}
+
+// The set without n.
+pub fn without(set: u64, n: u32) -> u64
+    ensures { λ r. ⌜ r ≡ excluding set n ⌝ }
+{
+    if has(set, n) { set ^ (1 << n) } else { set }
+}
+
+// Whether every member is below n.
+pub fn all_below(set: u64, n: u32) -> bool
+    ensures { λ r. ⌜ r ≡ within set n ⌝ }
+{
+    if ROOM <= n {
+        return true;
+    }
+    set >> n == 0
+}
