@@ -1,0 +1,11 @@
+-- Laws of tests in a row: both hold exactly if their conjunction does.
+use mathlib.Core.Path.{_≡_, refl}
+use mathlib.Core.Bool.{Bool, true, false, _&&_}
+
+pub both-true : (a b : Bool) → (a && b) ≡ true → (a ≡ true) × (b ≡ true)
+both-true true b h = (refl, h)
+both-true false true h = (h, refl)
+both-true false false h = (h, h)
+
+pub true-both : {a b : Bool} → a ≡ true → b ≡ true → (a && b) ≡ true
+true-both p q = rw (p, q)

@@ -1,0 +1,25 @@
+-- Laws of `every`, a test of each number below a limit: what the loop of `Windings::complete` needs.
+use Prim.Native.Nat.{ℕ, zero, suc, _+_, _<_, _≤_}
+use native.Mathlib.Nat.{eq-or-lt-of-le}
+use native.Mathlib.Numerals.{add-one}
+use native.Mathlib.Omega.{arith}
+use mathlib.Core.Path.{_≡_, refl}
+use mathlib.Core.Bool.{Bool, true, false, and-false}
+use mathlib.Core.Logic.{⊎-elim}
+use Rattle.board.specs.Windings.{every}
+
+pub every-none : (f : ℕ → Bool) → every 0 f ≡ true
+unfolding every
+every-none f = refl
+
+pub every-more : (f : ℕ → Bool) (n : ℕ) → every n f ≡ true → f n ≡ true → every (n + 1) f ≡ true
+unfolding every
+every-more f n before here = rw (add-one, before, here)
+
+pub every-fails : (f : ℕ → Bool) (n i : ℕ) → i < n → f i ≡ false → every n f ≡ false
+unfolding every
+every-fails f zero i below off = absurd (omega arith)
+every-fails f (suc n) i below off =
+    ⊎-elim (λ (same : i ≡ n). let here : f n ≡ false = cc in rw here (and-false (every n f)))
+    (λ (less : i < n). rw (every-fails f n i less off))
+    (eq-or-lt-of-le {n = i} {m = n} (omega arith))

@@ -1,0 +1,62 @@
+-- `board::windings::Windings::complete` meets its contract. The invariant: every relay passed is wound.
+use Rattle.board.proofs.windings.Windings.complete.Statement.{statement}
+use Rattle.board.proofs.windings.Windings.complete.Tie as tie
+use borrow.Author.Needs.{needs}
+use native.Mathlib.Omega.{arith}
+use Prim.Native.Nat.{_<_, _≤_, _-_}
+use mathlib.Core.Path.{_≡_, sym, _∙_}
+use mathlib.Core.Bool.{true, false}
+use borrow.Author.Tests.{not-true, not-false}
+use Rattle.board.specs.Windings.{wound, every, complete}
+use Rattle.board.proofs.EveryLaws.{every-none, every-more, every-fails}
+
+abbrev Inv-loop : tie.InvT-loop
+Inv-loop self relays end relay₀ relay = (end ≡ relays) × (end < 256) × (relay ≤ end) × (every relay (wound self) ≡ true)
+
+abbrev μ-loop : tie.MeasureT-loop
+μ-loop self relays end relay₀ relay = end - relay
+
+wide-requires : tie.Need-wide-requires Inv-loop μ-loop
+wide-requires c κs = search needs
+
+loop-holds : tie.Need-loop-holds Inv-loop μ-loop
+loop-holds c = (c .wide .ensures .0, c .wide .ensures .1, omega arith, every-none _)
+
+wound-requires : tie.Need-wound-requires Inv-loop μ-loop
+wound-requires c κs = search needs
+
+returns : tie.Need-returns Inv-loop μ-loop
+unfolding complete
+returns c =
+    let off : wound (c .before .before .before .before .before .args .self) (c .before .before .before .loop .relay) ≡ false = sym (c .before .wound .ensures) ∙ not-true _ (c .if1 .taken) in
+    sym (every-fails (wound (c .before .before .before .before .before .args .self)) (c .before .before .before .before .before .args .relays) (c .before .before .before .loop .relay) (omega arith) off)
+
+add-relay : tie.Need-add-relay Inv-loop μ-loop
+add-relay c = omega arith
+
+loop-less : tie.Need-loop-less Inv-loop μ-loop
+loop-less c = omega arith
+
+loop-again : tie.Need-loop-again Inv-loop μ-loop
+loop-again c = (c .before .before .before .loop .inv .0, c .before .before .before .loop .inv .1, omega arith, every-more _ _ (c .before .before .before .loop .inv .3) (sym (c .before .wound .ensures) ∙ not-false _ (c .if1 .left)))
+
+returns-2 : tie.Need-returns-2 Inv-loop μ-loop
+unfolding complete
+returns-2 c =
+    let reached : c .before .loop .relay ≡ c .before .before .before .args .relays = omega arith in
+    cc
+
+pub complete-spec : {M : Type 1} → statement M
+complete-spec =
+    tie.close
+    (tie.spec
+    Inv-loop
+    μ-loop
+    wide-requires
+    loop-holds
+    wound-requires
+    returns
+    add-relay
+    loop-less
+    loop-again
+    returns-2)

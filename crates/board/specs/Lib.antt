@@ -1,0 +1,4 @@
+pub mod Parts
+pub mod Windings
+pub mod Rules
+pub mod Same

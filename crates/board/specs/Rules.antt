@@ -1,0 +1,70 @@
+-- The rules behind refusals 3 to 9, one test each, and all of them together on a board. The reader of board files goes by the same tests, each where its field comes.
+--     countsFine c        3: T is 2 to 64, R 0 to 32, B 0 to 32 and C 0 to 256
+--     terminalFine c x    5: terminal x is below T
+--     endsFine a b        6: the two ends differ
+--     limitOf c k         what a name carried by a kind of number k must be below: B for a button (kind 3), else R
+--     nameFine c k        7: the relay or button that kind k carries is below R or B
+--     partFine c w p      5 to 8 of the part p after parts that gave the windings w
+--     partsFine c w ps    5 to 9: the rest of the parts is fine after these windings
+--     boardFine b         a board breaks no rule of refusals 3 to 9: 15 does not hold
+use Prim.Native.Nat.{ℕ}
+use mathlib.Core.Bool.{Bool, cond, not, _&&_, _||_}
+use mathlib.Core.List.{List, [], _∷_}
+use lib.Dec.{ltb, leb, eqb}
+use Rattle.board.specs.declared.Kind.{Kind}
+use Rattle.board.specs.declared.Part.{Part}
+use Rattle.board.specs.declared.Counts.{Counts}
+use Rattle.board.specs.declared.Board.{Board}
+use Rattle.board.specs.declared.windings.Windings.{Windings}
+use Rattle.board.specs.Parts.{kindNumber, nameOf, partsOf, mostParts}
+use Rattle.board.specs.Windings.{noWindings, windingFree, gained, complete}
+
+abbrev pub leastTerminals : ℕ
+leastTerminals = 2
+
+abbrev pub mostTerminals : ℕ
+mostTerminals = 64
+
+abbrev pub mostRelays : ℕ
+mostRelays = 32
+
+abbrev pub mostButtons : ℕ
+mostButtons = 32
+
+-- from low to high, both among them
+unfoldable pub inRange : ℕ → ℕ → ℕ → Bool
+inRange low high x = leb low x && leb x high
+
+unfoldable pub countsFine : Counts → Bool
+countsFine c =
+    inRange leastTerminals mostTerminals (c .terminals)
+    && inRange 0 mostRelays (c .relays)
+    && inRange 0 mostButtons (c .buttons)
+    && inRange 0 mostParts (c .parts)
+
+abbrev pub terminalFine : Counts → ℕ → Bool
+terminalFine c x = ltb x (c .terminals)
+
+abbrev pub endsFine : ℕ → ℕ → Bool
+endsFine a b = not (eqb a b)
+
+abbrev pub limitOf : Counts → ℕ → ℕ
+limitOf c k = cond (eqb k 3) (c .buttons) (c .relays)
+
+unfoldable pub nameFine : Counts → Kind → Bool
+nameFine c k = eqb (kindNumber k) 0 || ltb (nameOf k) (limitOf c (kindNumber k))
+
+unfoldable pub partFine : Counts → Windings → Part → Bool
+partFine c w p =
+    terminalFine c (p .a)
+    && terminalFine c (p .b)
+    && endsFine (p .a) (p .b)
+    && nameFine c (p .kind)
+    && windingFree w (p .kind)
+
+unfoldable pub partsFine : Counts → Windings → List Part → Bool
+partsFine c w [] = complete (c .relays) w
+partsFine c w (p ∷ ps) = partFine c w p && partsFine c (gained w (p .kind)) ps
+
+unfoldable pub boardFine : Board → Bool
+boardFine b = countsFine (b .counts) && partsFine (b .counts) noWindings (partsOf b)

@@ -1,0 +1,44 @@
+-- Which windings the parts so far gave each relay. Rule book: "Every relay is regular, with exactly one part of kind 4, or steel-core, with exactly one of kind 5 and one of kind 6."
+--     noWindings          none yet
+--     windingFree w k     8 does not hold of a part of kind k: its relay has this winding not yet, and is not of the other sort
+--     gained w k          the windings once a part of kind k has come too
+--     wound w r           relay r lacks no winding
+--     every n f           f holds of each number below n
+--     complete n w        9 does not hold of n relays: none of them lacks a winding
+use Prim.Native.Nat.{ℕ, zero, suc}
+use mathlib.Core.Bool.{Bool, true, not, _&&_, _||_}
+use Rattle.bits.specs.Sets.{member, including}
+use Rattle.board.specs.declared.Kind.{Kind}
+use Rattle.board.specs.declared.Kind.the-variants.{Wire, Upper, Lower, Button, Regular, Drawing, Dropping}
+use Rattle.board.specs.declared.windings.Windings.{Windings}
+
+abbrev pub noWindings : Windings
+noWindings = record { regular = 0; drawing = 0; dropping = 0 }
+
+abbrev pub windingFree : Windings → Kind → Bool
+windingFree w Wire = true
+windingFree w (Upper r) = true
+windingFree w (Lower r) = true
+windingFree w (Button b) = true
+windingFree w (Regular r) = not (member (w .regular) r) && (not (member (w .drawing) r) && not (member (w .dropping) r))
+windingFree w (Drawing r) = not (member (w .regular) r) && not (member (w .drawing) r)
+windingFree w (Dropping r) = not (member (w .regular) r) && not (member (w .dropping) r)
+
+abbrev pub gained : Windings → Kind → Windings
+gained w Wire = w
+gained w (Upper r) = w
+gained w (Lower r) = w
+gained w (Button b) = w
+gained w (Regular r) = record { regular = including (w .regular) r; drawing = w .drawing; dropping = w .dropping }
+gained w (Drawing r) = record { regular = w .regular; drawing = including (w .drawing) r; dropping = w .dropping }
+gained w (Dropping r) = record { regular = w .regular; drawing = w .drawing; dropping = including (w .dropping) r }
+
+abbrev pub wound : Windings → ℕ → Bool
+wound w r = member (w .regular) r || member (w .drawing) r && member (w .dropping) r
+
+unfoldable pub every : ℕ → (ℕ → Bool) → Bool
+every zero f = true
+every (suc n) f = every n f && f n
+
+unfoldable pub complete : ℕ → Windings → Bool
+complete n w = every n (wound w)

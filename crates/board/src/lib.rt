@@ -1,0 +1,268 @@
+// Parts and boards, and the rules behind refusals 3 to 9: the reader of board files uses them one by one, and `check`
+// all together on a board handed in (15).
+ghost use mathlib.Core.Path.{_≡_};
+ghost use mathlib.Core.List.{List};
+ghost use Prim.Native.Nat.{_≤_, _<_};
+ghost use lib.ListN.{take};
+ghost use Rattle.board.specs.Parts.{kindNumber, nameOf, blank, emptyBoard};
+ghost use Rattle.board.specs.Rules.{limitOf, nameFine, countsFine, partFine, partsFine, boardFine};
+ghost use Rattle.board.specs.Windings.{noWindings};
+ghost use Rattle.board.specs.Same.{sameCounts, samePart, sameParts, sameBoard};
+
+pub mod windings;
+
+use windings::Windings;
+
+// The rule book's limits on a board's counts.
+pub const LEAST_TERMINALS: u8 = 2;
+pub const MOST_TERMINALS: u8 = 64;
+pub const MOST_RELAYS: u8 = 32;
+pub const MOST_BUTTONS: u8 = 32;
+pub const MOST_PARTS: usize = 256;
+
+// The kinds of part in the order of the rule book's table, each with its relay or button.
+pub enum Kind {
+    Wire,
+    Upper(u8),
+    Lower(u8),
+    Button(u8),
+    Regular(u8),
+    Drawing(u8),
+    Dropping(u8),
+}
+
+// A part joins the terminals a and b.
+pub struct Part {
+    pub a: u8,
+    pub b: u8,
+    pub kind: Kind,
+}
+
+// T, R, B and C.
+pub struct Counts {
+    pub terminals: u8,
+    pub relays: u8,
+    pub buttons: u8,
+    pub parts: usize,
+}
+
+// A board: its counts, and its parts in the first C places.
+pub struct Board {
+    pub counts: Counts,
+    pub parts: [Part; 256],
+}
+
+impl Kind {
+    // The kind's number in the rule book's table.
+    pub fn number(self) -> u32
+        ensures { λ r. ⌜ r ≡ kindNumber self ⌝ }
+    {
+        match self {
+            Kind::Wire => 0,
+            Kind::Upper(_) => 1,
+            Kind::Lower(_) => 2,
+            Kind::Button(_) => 3,
+            Kind::Regular(_) => 4,
+            Kind::Drawing(_) => 5,
+            Kind::Dropping(_) => 6,
+        }
+    }
+
+    // The relay or button that the kind carries; 0 for a wire, which carries none.
+    pub fn name(self) -> u8
+        ensures { λ r. ⌜ r ≡ nameOf self ⌝ }
+    {
+        match self {
+            Kind::Wire => 0,
+            Kind::Upper(relay) => relay,
+            Kind::Lower(relay) => relay,
+            Kind::Button(button) => button,
+            Kind::Regular(relay) => relay,
+            Kind::Drawing(relay) => relay,
+            Kind::Dropping(relay) => relay,
+        }
+    }
+}
+
+// What a name carried by a kind of this number must be below: B for a button, R for a relay.
+pub fn limit(counts: Counts, kind: u32) -> u8
+    ensures { λ r. ⌜ r ≡ limitOf counts kind ⌝ }
+{
+    if kind == 3 {
+        counts.buttons
+    } else {
+        counts.relays
+    }
+}
+
+// The empty board: T 2, else 0.
+pub fn empty() -> Board
+    ensures { λ r. ⌜ r ≡ emptyBoard ⌝ }
+{
+    let blank = Part {
+        a: 0,
+        b: 0,
+        kind: Kind::Wire,
+    };
+    let counts = Counts {
+        terminals: LEAST_TERMINALS,
+        relays: 0,
+        buttons: 0,
+        parts: 0,
+    };
+    let parts = [blank; 256];
+    Board { counts, parts }
+}
+
+// Whether a kind's relay or button is there (7).
+fn names_one(counts: Counts, kind: Kind) -> bool
+    ensures { λ r. ⌜ r ≡ nameFine counts kind ⌝ }
+{
+    let number = kind.number();
+    if number == 0 {
+        return true;
+    }
+    kind.name() < limit(counts, number)
+}
+
+// Whether every count is in its range (3).
+fn counts_fine(counts: Counts) -> bool
+    ensures { λ r. ⌜ r ≡ countsFine counts ⌝ }
+{
+    if counts.terminals < LEAST_TERMINALS {
+        return false;
+    }
+    if MOST_TERMINALS < counts.terminals {
+        return false;
+    }
+    if MOST_RELAYS < counts.relays {
+        return false;
+    }
+    if MOST_BUTTONS < counts.buttons {
+        return false;
+    }
+    counts.parts <= MOST_PARTS
+}
+
+// Whether a part breaks none of 5 to 8 after parts that gave these windings.
+fn part_fine(counts: Counts, windings: Windings, part: Part) -> bool
+    ensures { λ r. ⌜ r ≡ partFine counts windings part ⌝ }
+{
+    if counts.terminals <= part.a {
+        return false;
+    }
+    if counts.terminals <= part.b {
+        return false;
+    }
+    if part.a == part.b {
+        return false;
+    }
+    let kind = part.kind;
+    if names_one(counts, kind) {
+        windings.free(kind)
+    } else {
+        false
+    }
+}
+
+// Whether the first C parts break none of 5 to 9.
+fn parts_fine(parts: [Part; 256], counts: Counts) -> bool
+    requires { ⌜ counts .parts ≤ 256 ⌝ }
+    ensures { λ r. ⌜ r ≡ partsFine counts noWindings (take (counts .parts) parts) ⌝ }
+{
+    let count = counts.parts;
+    let mut windings = Windings::none();
+    let mut i = 0;
+    while i < count {
+        let part = parts[i];
+        if !part_fine(counts, windings, part) {
+            return false;
+        }
+        let kind = part.kind;
+        windings = windings.with(kind);
+        i += 1;
+    }
+    windings.complete(counts.relays)
+}
+
+// Whether a board breaks none of the rules behind refusals 3 to 9; one that does is refused by 15.
+pub fn check(board: Board) -> bool
+    ensures { λ r. ⌜ r ≡ boardFine board ⌝ }
+{
+    let counts = board.counts;
+    if !counts_fine(counts) {
+        return false;
+    }
+    let parts = board.parts;
+    parts_fine(parts, counts)
+}
+
+// Whether two boards' counts are the same.
+fn same_counts(x: Counts, y: Counts) -> bool
+    ensures { λ r. ⌜ r ≡ sameCounts x y ⌝ }
+{
+    if x.terminals != y.terminals {
+        return false;
+    }
+    if x.relays != y.relays {
+        return false;
+    }
+    if x.buttons != y.buttons {
+        return false;
+    }
+    x.parts == y.parts
+}
+
+// Whether two parts are the same: both ends, the kind, and the relay or button it carries.
+fn same_part(x: Part, y: Part) -> bool
+    ensures { λ r. ⌜ r ≡ samePart x y ⌝ }
+{
+    if x.a != y.a {
+        return false;
+    }
+    if x.b != y.b {
+        return false;
+    }
+    let left = x.kind;
+    let right = y.kind;
+    if left.number() != right.number() {
+        return false;
+    }
+    left.name() == right.name()
+}
+
+// Whether the first `count` of two arrays of parts are the same.
+fn same_parts(x: [Part; 256], y: [Part; 256], count: usize) -> bool
+    requires { ⌜ count ≤ 256 ⌝ }
+    ensures { λ r. ⌜ r ≡ sameParts (take count x) (take count y) ⌝ }
+{
+    let mut i = 0;
+    while i < count {
+        let left = x[i];
+        let right = y[i];
+        if !same_part(left, right) {
+            return false;
+        }
+        i += 1;
+    }
+    true
+}
+
+// Whether two boards are the same: by their counts and first C parts.
+pub fn same(x: Board, y: Board) -> bool
+    ensures { λ r. ⌜ r ≡ sameBoard x y ⌝ }
+{
+    let counts = x.counts;
+    let others = y.counts;
+    if !same_counts(counts, others) {
+        return false;
+    }
+    let left = x.parts;
+    let right = y.parts;
+    let count = counts.parts;
+    if MOST_PARTS < count {
+        same_parts(left, right, MOST_PARTS)
+    } else {
+        same_parts(left, right, count)
+    }
+}

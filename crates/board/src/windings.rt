@@ -1,0 +1,122 @@
+// Which windings the parts so far gave each relay: what refusals 8 and 9 go by.
+use crate::Kind;
+ghost use mathlib.Core.Path.{_≡_};
+ghost use mathlib.Core.Bool.{not, _&&_};
+ghost use Prim.Native.Nat.{_<_};
+ghost use Rattle.bits.specs.Sets.{member};
+ghost use Rattle.board.specs.Windings.{noWindings, windingFree, gained, wound, complete};
+
+// The relays that have a part of kind 4, of kind 5 and of kind 6.
+pub struct Windings {
+    pub regular: u64,
+    pub drawing: u64,
+    pub dropping: u64,
+}
+
+fn wide(x: u8) -> u32
+    ensures { λ r. ⌜ (r ≡ x) × (r < 256) ⌝ }
+{
+    x as u32
+}
+
+// Whether a relay is in neither set.
+fn in_neither(x: u64, y: u64, relay: u8) -> bool
+    ensures { λ r. ⌜ r ≡ not (member x relay) && not (member y relay) ⌝ }
+{
+    let n = wide(relay);
+    if bits::has(x, n) {
+        return false;
+    }
+    !bits::has(y, n)
+}
+
+impl Windings {
+    // What no part gave: nothing.
+    pub fn none() -> Self
+        ensures { λ r. ⌜ r ≡ noWindings ⌝ }
+    {
+        Windings {
+            regular: 0,
+            drawing: 0,
+            dropping: 0,
+        }
+    }
+
+    // Whether a part of this kind may come now: its relay has this winding not yet, and is not of the other sort (8).
+    pub fn free(self, kind: Kind) -> bool
+        ensures { λ r. ⌜ r ≡ windingFree self kind ⌝ }
+    {
+        match kind {
+            Kind::Regular(relay) => {
+                if bits::has(self.regular, wide(relay)) {
+                    false
+                } else {
+                    in_neither(self.drawing, self.dropping, relay)
+                }
+            }
+            Kind::Drawing(relay) => in_neither(self.regular, self.drawing, relay),
+            Kind::Dropping(relay) => in_neither(self.regular, self.dropping, relay),
+            Kind::Wire => true,
+            Kind::Upper(_) => true,
+            Kind::Lower(_) => true,
+            Kind::Button(_) => true,
+        }
+    }
+
+    // The windings once a part of this kind has come too.
+    pub fn with(self, kind: Kind) -> Self
+        ensures { λ r. ⌜ r ≡ gained self kind ⌝ }
+    {
+        let mut next = self;
+        match kind {
+            Kind::Regular(relay) => {
+                let set = bits::with(self.regular, wide(relay));
+                next.regular = set;
+                next
+            }
+            Kind::Drawing(relay) => {
+                let set = bits::with(self.drawing, wide(relay));
+                next.drawing = set;
+                next
+            }
+            Kind::Dropping(relay) => {
+                let set = bits::with(self.dropping, wide(relay));
+                next.dropping = set;
+                next
+            }
+            Kind::Wire => next,
+            Kind::Upper(_) => next,
+            Kind::Lower(_) => next,
+            Kind::Button(_) => next,
+        }
+    }
+
+    // Whether a relay lacks no winding: it has its regular one, or its drawing and its dropping one.
+    fn wound(self, relay: u32) -> bool
+        ensures { λ r. ⌜ r ≡ wound self relay ⌝ }
+    {
+        if bits::has(self.regular, relay) {
+            return true;
+        }
+        if bits::has(self.drawing, relay) {
+            bits::has(self.dropping, relay)
+        } else {
+            false
+        }
+    }
+
+    // Whether none of the relays 0 to R - 1 lacks a winding (9).
+    pub fn complete(self, relays: u8) -> bool
+        ensures { λ r. ⌜ r ≡ complete relays self ⌝ }
+    {
+        let end = wide(relays);
+        let mut relay = 0;
+        while relay < end {
+            if !self.wound(relay) {
+                return false;
+            }
+            relay += 1;
+        }
+        true
+    }
+}

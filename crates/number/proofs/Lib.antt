@@ -1,0 +1,5 @@
+pub mod Buffers
+pub mod FormLaws
+pub mod FormSteps
+pub mod NumberLaws
+pub mod Once

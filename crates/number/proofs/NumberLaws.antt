@@ -1,0 +1,209 @@
+-- The laws of the file's numbers: what is written is read back, what is read is what would be written, and reading looks no further than the number.
+-- Every crate that reads or writes numbers cites these, and nothing of the definitions' text. They are the laws of FormLaws at the rule book's longest form.
+-- Assumes nothing.
+use mathlib.Core.Path.{_≡_, refl, sym, ap, _∙_}
+use mathlib.Core.Bool.{Bool, true, false, cond}
+use mathlib.Core.List.{List, [], _∷_, _++_}
+use Prim.Native.Nat.{ℕ, _+_, _-_, _^_, _≤_, _<_}
+use native.Mathlib.Omega.{arith}
+use borrow.Author.Tests.{leb-true, le-leb, lt-leb}
+use lib.Dec.{leb}
+use lib.ListN.{length, take, drop, length-drop}
+use lib.Seq.{sets, drop-drop}
+use Rattle.number.specs.declared.Refusal.{Refusal}
+use Rattle.number.specs.declared.Number.{Number}
+use Rattle.number.specs.declared.Number.the-variants.{Read, Refused}
+use Rattle.number.specs.declared.NumberWritten.{NumberWritten}
+use Rattle.number.specs.declared.NumberWritten.the-variants.{Next}
+use Rattle.number.specs.declared.Form.{Form}
+use Rattle.number.specs.declared.Form.the-variants.{Got, Ends, Bad}
+use Rattle.number.specs.Outcomes.{Outcome, given, refused, Found, found}
+use Rattle.number.specs.Refusals.{inputEnds, badForm, bufferTooShort}
+use Rattle.number.specs.Numbers.{Bytes, form, placed, numberAt, encode, numberBytes, numberWriting, toldNumber, toldWritten, longest, largest}
+use Rattle.number.proofs.Buffers.{drop-past, take-drop}
+use Rattle.number.proofs.FormLaws.{FormRead, Bytes-drop, form-written, form-read, form-within, form-no-further, encode-last, encode-some, encode-few, encode-short, encode-long, encode-bytes}
+
+-- ---- outcomes
+
+given-once : {A : Type 0} (a b : A) → given a ≡ given b → a ≡ b
+given-once a b e = cc
+
+pub found-value : {A : Type 0} (a b : A) (m n : ℕ) → found a m ≡ found b n → a ≡ b
+found-value {A} a b m n e =
+    ap (λ (x : Found A). x .value) (given-once (record { value = a; next = m }) (record { value = b; next = n }) e)
+
+pub found-next : {A : Type 0} (a b : A) (m n : ℕ) → found a m ≡ found b n → m ≡ n
+found-next {A} a b m n e =
+    ap (λ (x : Found A). x .next) (given-once (record { value = a; next = m }) (record { value = b; next = n }) e)
+
+pub never-refused : {A : Type 0} (r p : ℕ) (a : A) (n : ℕ) → refused r p ≡ found a n → ⊥
+never-refused r p a n e = let z : _≡_ {A = ℕ} 0 1 = cc in omega arith
+
+-- what is known of a form that is placed as a number
+record Placed (at : ℕ) (f : Form) (v n : ℕ) : Type 0 where
+  bytes : ℕ
+  is : f ≡ Got v bytes
+  next : n ≡ at + bytes
+  small : v ≤ largest
+
+placed-found : (len at : ℕ) (f : Form) (v n : ℕ) → placed len at f ≡ found v n → Placed at f v n
+unfolding placed
+placed-found len at (Got w m) v n e = placed-got (leb w largest) at w m v n refl e
+  where
+    placed-got : (t : Bool) (at w m v n : ℕ) → leb w largest ≡ t → cond t (found w (at + m)) (refused badForm at) ≡ found v n → Placed at (Got w m) v n
+    placed-got true at w m v n h e = record {
+      bytes = m;
+      is = ap (λ (x : ℕ). Got x m) (found-value w v (at + m) n e);
+      next = sym (found-next w v (at + m) n e);
+      small = rw (found-value w v (at + m) n e) at (leb-true w largest h);
+    }
+    placed-got false at w m v n h e = absurd (never-refused badForm at v n e)
+placed-found len at Ends v n e = absurd (never-refused inputEnds len v n e)
+placed-found len at Bad v n e = absurd (never-refused badForm at v n e)
+
+placed-as : (len at v m : ℕ) → v ≤ largest → placed len at (Got v m) ≡ found v (at + m)
+unfolding placed
+placed-as len at v m h = rw (le-leb v largest h)
+
+number-placed : (s : List ℕ) (at v n : ℕ) → numberAt s at ≡ found v n → Placed at (form longest (drop at s)) v n
+unfolding numberAt
+number-placed s at v n e = placed-found (length s) at (form longest (drop at s)) v n e
+
+-- ---- reading what was written, and writing what was read
+
+pub read-written : (s : List ℕ) (at v : ℕ) (rest : List ℕ) → v ≤ largest → drop at s ≡ numberBytes v ++ rest
+    → numberAt s at ≡ found v (at + length (numberBytes v))
+unfolding numberAt numberBytes
+read-written s at v rest h e =
+    ap (λ (l : List ℕ). placed (length s) at (form longest l)) e
+    ∙ ap (placed (length s) at) (form-written 2 v rest (omega arith))
+    ∙ placed-as (length s) at v (length (encode longest v)) h
+
+pub written-drop : (s : List ℕ) (at v : ℕ) (rest : List ℕ) → drop at s ≡ numberBytes v ++ rest → drop (at + length (numberBytes v)) s ≡ rest
+written-drop s at v rest e = drop-past s at (numberBytes v) rest e
+
+-- what is known where the number v was read at a place of s, with the place n just after it
+pub record WasRead (s : List ℕ) (at v n : ℕ) : Type 0 where
+  pub bytes : drop at s ≡ numberBytes v ++ drop n s
+  pub next : n ≡ at + length (numberBytes v)
+  pub small : v ≤ largest
+
+pub written-read : (s : List ℕ) (at v n : ℕ) → Bytes s → numberAt s at ≡ found v n → WasRead s at v n
+unfolding numberBytes
+written-read s at v n h e =
+    let p : Placed at (form longest (drop at s)) v n = number-placed s at v n e in
+    let r : FormRead longest (drop at s) v (p .bytes) = form-read longest (drop at s) v (p .bytes) (Bytes-drop s at h) (p .is) in
+    record {
+      bytes = r .bytes ∙ ap (λ (l : List ℕ). encode longest v ++ l) (drop-drop (p .bytes) at s ∙ ap (λ (i : ℕ). drop i s) (sym (p .next)));
+      next = p .next ∙ ap (λ (m : ℕ). at + m) (r .next);
+      small = p .small;
+    }
+
+-- ---- how far reading looks
+
+-- no byte past the number, and at least one
+pub number-next-within : (s : List ℕ) (at v n : ℕ) → numberAt s at ≡ found v n → (n ≤ length s) × (at < n)
+number-next-within s at v n e =
+    let p : Placed at (form longest (drop at s)) v n = number-placed s at v n e in
+    omega (arith, form-within longest (drop at s) v (p .bytes) (p .is), length-drop at s)
+
+pub number-looks-no-further : (s t : List ℕ) (at v n : ℕ) → take n s ≡ take n t → numberAt s at ≡ found v n → numberAt t at ≡ found v n
+unfolding numberAt
+number-looks-no-further s t at v n q e =
+    let p : Placed at (form longest (drop at s)) v n = number-placed s at v n e in
+    let same : take (p .bytes) (drop at s) ≡ take (p .bytes) (drop at t) =
+    take-drop at (p .bytes) s ∙ ap (drop at) (rw (p .next) at q) ∙ sym (take-drop at (p .bytes) t) in
+    ap (placed (length t) at) (form-no-further longest (drop at s) (drop at t) v (p .bytes) same (p .is))
+    ∙ placed-as (length t) at v (p .bytes) (p .small)
+    ∙ ap (found v) (sym (p .next))
+
+-- ---- how long a written number is
+
+pub number-bytes-length : (v : ℕ) → (1 ≤ length (numberBytes v)) × (length (numberBytes v) ≤ 3)
+unfolding numberBytes
+number-bytes-length v = (encode-some 2 v, encode-few 3 v)
+
+pub number-bytes-one : (v : ℕ) → v < 128 → numberBytes v ≡ v ∷ []
+unfolding numberBytes
+number-bytes-one v h = encode-last 2 v h
+
+pub number-bytes-length-two : (v : ℕ) → v < 16384 → length (numberBytes v) ≤ 2
+unfolding numberBytes
+number-bytes-length-two v h = encode-short 1 3 v h
+
+pub number-bytes-are-bytes : (v : ℕ) → Bytes (numberBytes v)
+unfolding numberBytes
+number-bytes-are-bytes v = encode-bytes 3 v
+
+-- the length, by the limits that it steps at
+pub number-length-one : (v : ℕ) → v < 128 → 1 ≡ length (numberBytes v)
+number-length-one v h = sym (ap length (number-bytes-one v h))
+
+pub number-length-two : (v : ℕ) → 128 ≤ v → v < 16384 → 2 ≡ length (numberBytes v)
+unfolding numberBytes
+number-length-two v h l = omega (arith, encode-long 1 3 v (omega arith) h, encode-short 1 3 v l)
+
+pub number-length-three : (v : ℕ) → 16384 ≤ v → 3 ≡ length (numberBytes v)
+unfolding numberBytes
+number-length-three v h = omega (arith, encode-long 2 3 v (omega arith) h, encode-few 3 v)
+
+-- ---- reading a number from its form, as `read_number` does
+
+pub number-got : (s : List ℕ) (at : ℕ) (f : Form) (v m : ℕ) → f ≡ form longest (drop at s) → f ≡ Got v m → v < 128 ^ longest → found v (at + m) ≡ numberAt s at
+unfolding numberAt
+number-got s at f v m r is h = sym (ap (placed (length s) at) (sym r ∙ is) ∙ placed-as (length s) at v m (omega arith))
+
+pub number-ends : (s : List ℕ) (at : ℕ) (f : Form) → f ≡ form longest (drop at s) → f ≡ Ends → refused inputEnds (length s) ≡ numberAt s at
+unfolding numberAt placed
+number-ends s at f r is = sym (ap (placed (length s) at) (sym r ∙ is))
+
+pub number-bad : (s : List ℕ) (at : ℕ) (f : Form) → f ≡ form longest (drop at s) → f ≡ Bad → refused badForm at ≡ numberAt s at
+unfolding numberAt placed
+number-bad s at f r is = sym (ap (placed (length s) at) (sym r ∙ is))
+
+-- ---- what writing a number does to a buffer
+
+pub number-too-large : (v : ℕ) (out : List ℕ) (at : ℕ) → largest < v
+    → _≡_ {A = Outcome ℕ × List ℕ} (numberWriting v out at) (refused badForm 0, out)
+unfolding numberWriting
+number-too-large v out at h = rw (lt-leb v largest h)
+
+pub number-lacks-room : (v : ℕ) (out : List ℕ) (at : ℕ) → v ≤ largest → length out < at + length (numberBytes v)
+    → _≡_ {A = Outcome ℕ × List ℕ} (numberWriting v out at) (refused bufferTooShort 0, out)
+unfolding numberWriting
+number-lacks-room v out at h r =
+    rw (le-leb v largest h, lt-leb (at + length (numberBytes v)) (length out) r)
+
+pub number-written : (v : ℕ) (out : List ℕ) (at : ℕ) → v ≤ largest → at + length (numberBytes v) ≤ length out
+    → _≡_ {A = Outcome ℕ × List ℕ} (numberWriting v out at) (given (at + length (numberBytes v)), sets out at (numberBytes v))
+unfolding numberWriting
+number-written v out at h r =
+    rw (le-leb v largest h, le-leb (at + length (numberBytes v)) (length out) r)
+
+-- writing a number's groups, as `write_number` does
+pub number-groups : (v : ℕ) (out : List ℕ) (at bytes : ℕ) → v ≤ largest → at ≤ length out → bytes ≤ length out - at → bytes ≡ length (numberBytes v)
+    → (0 < longest) × (v < 128 ^ longest) × (at + length (encode longest v) ≤ length out)
+unfolding numberBytes
+number-groups v out at bytes h a r e = omega arith
+
+pub number-stored : (v : ℕ) (out out′ : List ℕ) (at bytes : ℕ) → v ≤ largest → at ≤ length out → bytes ≤ length out - at → bytes ≡ length (numberBytes v)
+    → out′ ≡ sets out at (encode longest v) → _≡_ {A = Outcome ℕ × List ℕ} (given (at + bytes), out′) (numberWriting v out at)
+unfolding numberBytes
+number-stored v out out′ at bytes h a r e w = rw (e, w) (sym (number-written v out at h (omega arith)))
+
+-- ---- an answer is known by what it tells
+
+refusal-once : (r q : Refusal) → r .number ≡ q .number → r .place ≡ q .place → r ≡ q
+refusal-once r q e f = λ i. record { number = e i; place = f i }
+
+pub told-number-once : (x y : Number) → toldNumber x ≡ toldNumber y → x ≡ y
+told-number-once (Read v n) (Read w m) e = cc (found-value v w n m e, found-next v w n m e)
+told-number-once (Read v n) (Refused q) e = cc
+told-number-once (Refused r) (Read w m) e = cc
+told-number-once (Refused r) (Refused q) e = ap Refused (refusal-once r q (cc) (cc))
+
+pub told-written-once : (x y : NumberWritten) → toldWritten x ≡ toldWritten y → x ≡ y
+told-written-once (Next n) (Next m) e = cc
+told-written-once (Next n) (NumberWritten.Refused q) e = cc
+told-written-once (NumberWritten.Refused r) (Next m) e = cc
+told-written-once (NumberWritten.Refused r) (NumberWritten.Refused q) e = ap NumberWritten.Refused (refusal-once r q (cc) (cc))

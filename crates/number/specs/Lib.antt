@@ -1,0 +1,3 @@
+pub mod Outcomes
+pub mod Refusals
+pub mod Numbers

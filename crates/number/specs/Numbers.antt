@@ -1,0 +1,78 @@
+-- The file's numbers. Rule book, "The board file": "A number is in groups of seven bits, lowest group first, one byte a group; the top bit is set on every byte but the last. At most three bytes (2,097,151). Only the shortest form is allowed: the last byte is 0 only if it is the only byte."
+--     longest, largest     the longest form, in bytes, and the largest value
+--     form k s             the number of at most k bytes that the bytes s begin with: got its value and length; ends, if s ends inside or before it; bad, if it is longer or not shortest
+--     Bytes s              every element of s is a byte
+--     numberAt s at        the number at place `at` of the input s, by its value and the next place, or refusal 1 or 2
+--     encode k v           the shortest form of v, in at most k bytes
+--     numberBytes v        the bytes that v is written as
+--     numberWriting v out at     what writing v into the buffer `out` at a place answers, and the buffer afterwards
+--     toldNumber, toldWritten    the answers' cases in the rule book's numbers
+use Prim.Native.Nat.{ℕ, zero, suc, _+_, _-_, _*_, _/_, _%_, _<_}
+use mathlib.Core.Bool.{cond}
+use mathlib.Core.List.{List, [], _∷_}
+use lib.Dec.{ltb, leb}
+use lib.ListN.{length, getD, drop}
+use lib.Seq.{sets}
+use Rattle.number.specs.declared.Form.{Form}
+use Rattle.number.specs.declared.Form.the-variants.{Got, Ends, Bad}
+use Rattle.number.specs.declared.Number.{Number}
+use Rattle.number.specs.declared.Number.the-variants.{Read, Refused}
+use Rattle.number.specs.declared.NumberWritten.{NumberWritten}
+use Rattle.number.specs.declared.NumberWritten.the-variants.{Next}
+use Rattle.number.specs.Outcomes.{Outcome, refused, given, Found, found}
+use Rattle.number.specs.Refusals.{inputEnds, badForm, bufferTooShort}
+
+abbrev pub longest : ℕ
+longest = 3
+
+abbrev pub largest : ℕ
+largest = 2_097_151
+
+abbrev pub Bytes : List ℕ → Type 0
+Bytes s = (i : ℕ) → getD s i 0 < 256
+
+-- a group g below the rest of the number: a rest of 0 would be a last byte 0 that is not the only byte
+unfoldable pub below : ℕ → Form → Form
+below g (Got zero n) = Bad
+below g (Got (suc v) n) = Got (g + 128 * suc v) (suc n)
+below g Ends = Ends
+below g Bad = Bad
+
+-- a byte too many is bad at once, even where the input ends there
+unfoldable pub form : ℕ → List ℕ → Form
+form zero s = Bad
+form (suc k) [] = Ends
+form (suc k) (b ∷ s) = cond (ltb b 128) (Got b 1) (below (b - 128) (form k s))
+
+-- the form at place `at` of an input of len bytes as the rule book answers it
+unfoldable pub placed : ℕ → ℕ → Form → Outcome (Found ℕ)
+placed len at (Got v n) = cond (leb v largest) (found v (at + n)) (refused badForm at)
+placed len at Ends = refused inputEnds len
+placed len at Bad = refused badForm at
+
+unfoldable pub numberAt : List ℕ → ℕ → Outcome (Found ℕ)
+numberAt s at = placed (length s) at (form longest (drop at s))
+
+unfoldable pub encode : ℕ → ℕ → List ℕ
+encode zero v = []
+encode (suc k) v = cond (ltb v 128) (v ∷ []) ((128 + v % 128) ∷ encode k (v / 128))
+
+unfoldable pub numberBytes : ℕ → List ℕ
+numberBytes v = encode longest v
+
+-- refused by 2 where v is too large for a number, then by 16 where its bytes have no room there; else they stand at the place and the rest stays
+unfoldable pub numberWriting : ℕ → List ℕ → ℕ → Outcome ℕ × List ℕ
+numberWriting v out at =
+    cond (leb v largest)
+    (cond (leb (at + length (numberBytes v)) (length out))
+    (given (at + length (numberBytes v)), sets out at (numberBytes v))
+    (refused bufferTooShort 0, out))
+    (refused badForm 0, out)
+
+abbrev pub toldNumber : Number → Outcome (Found ℕ)
+toldNumber (Read v n) = found v n
+toldNumber (Refused r) = refused (r .number) (r .place)
+
+abbrev pub toldWritten : NumberWritten → Outcome ℕ
+toldWritten (Next n) = given n
+toldWritten (NumberWritten.Refused r) = refused (r .number) (r .place)

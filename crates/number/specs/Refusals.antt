@@ -1,0 +1,58 @@
+-- The rule book's "Numbers for no": a name for each line of its table that a call can give today.
+use Prim.Native.Nat.{ℕ}
+
+-- 1: input ends inside or before a wanted number; place: input length
+abbrev pub inputEnds : ℕ
+inputEnds = 1
+
+-- 2: number longer than three bytes, or not shortest; place: its first byte
+abbrev pub badForm : ℕ
+badForm = 2
+
+-- 3: T, R, B or C outside its range; place: that number
+abbrev pub outOfRange : ℕ
+outOfRange = 3
+
+-- 4: kind above 6; place: that number
+abbrev pub noSuchKind : ℕ
+noSuchKind = 4
+
+-- 5: terminal not below T; place: that number
+abbrev pub noSuchTerminal : ℕ
+noSuchTerminal = 5
+
+-- 6: both ends equal; place: second end
+abbrev pub endsEqual : ℕ
+endsEqual = 6
+
+-- 7: relay or button not below R or B; place: that number
+abbrev pub noSuchName : ℕ
+noSuchName = 7
+
+-- 8: relay already has this winding, or is of the other sort; place: relay number
+abbrev pub windingTaken : ℕ
+windingTaken = 8
+
+-- 9: after the last part some relay lacks a winding; place: after the board
+abbrev pub windingLacking : ℕ
+windingLacking = 9
+
+-- 10: input longer than 65,536 bytes; place: 0
+abbrev pub inputTooLong : ℕ
+inputTooLong = 10
+
+-- 12: push of a pushed button, release of a released one
+abbrev pub alreadySo : ℕ
+alreadySo = 12
+
+-- 14: state has a relay or button the board lacks
+abbrev pub stateBeyondBoard : ℕ
+stateBeyondBoard = 14
+
+-- 15: board handed in breaks a rule of refusals 3 to 9
+abbrev pub brokenBoard : ℕ
+brokenBoard = 15
+
+-- 16: output buffer shorter than the file
+abbrev pub bufferTooShort : ℕ
+bufferTooShort = 16

@@ -1,0 +1,169 @@
+// The file's numbers: groups of seven bits, lowest group first, one byte a group, in the shortest form only. Also the
+// numbers for no, which every crate above answers with.
+ghost use mathlib.Core.Path.{_≡_};
+ghost use mathlib.Core.List.{List};
+ghost use Prim.Native.Nat.{ℕ, _+_, _≤_, _<_, _^_};
+ghost use lib.ListN.{length, drop};
+ghost use lib.Seq.{sets};
+ghost use Rattle.number.specs.Outcomes.{Outcome};
+ghost use Rattle.number.specs.Numbers.{form, encode, numberAt, numberBytes, numberWriting, toldNumber, toldWritten};
+
+// The rule book's numbers for no, one for each line of its table that a call can give today.
+pub const INPUT_ENDS: u32 = 1;
+
+pub const BAD_FORM: u32 = 2;
+
+pub const OUT_OF_RANGE: u32 = 3;
+
+pub const NO_SUCH_KIND: u32 = 4;
+
+pub const NO_SUCH_TERMINAL: u32 = 5;
+
+pub const ENDS_EQUAL: u32 = 6;
+
+pub const NO_SUCH_NAME: u32 = 7;
+
+pub const WINDING_TAKEN: u32 = 8;
+
+pub const WINDING_LACKING: u32 = 9;
+
+pub const INPUT_TOO_LONG: u32 = 10;
+
+pub const ALREADY_SO: u32 = 12;
+
+pub const STATE_BEYOND_BOARD: u32 = 14;
+
+pub const BROKEN_BOARD: u32 = 15;
+
+pub const BUFFER_TOO_SHORT: u32 = 16;
+
+// A refusal: its number and the place it speaks of.
+pub struct Refusal {
+    pub number: u32,
+    pub place: usize,
+}
+
+// What reading a number gives: its value and the next place, or the refusal.
+pub enum Number {
+    Read(u32, usize),
+    Refused(Refusal),
+}
+
+// What writing a number gives: the next place, or the refusal.
+pub enum NumberWritten {
+    Next(usize),
+    Refused(Refusal),
+}
+
+// What some bytes are as a number: its value and how many bytes it takes; cut; or no number.
+enum Form {
+    Got(u32, usize),
+    Ends,
+    Bad,
+}
+
+// The longest form, in bytes, and the largest value.
+const LONGEST: usize = 3;
+
+const LARGEST: u32 = 2_097_151;
+
+fn wide(x: u8) -> u32
+    ensures { λ r. ⌜ (r ≡ x) × (r < 256) ⌝ }
+{
+    x as u32
+}
+
+// The number of at most `left` bytes at a place.
+fn read_form(s: &[u8], at: usize, left: usize) -> Form
+    requires { ⌜ left ≤ 3 ⌝ }
+    ensures { λ r. ⌜ r ≡ form left (drop at (now (s .entry))) ⌝ }
+{
+    if left == 0 {
+        return Form::Bad;
+    }
+    if s.len() <= at {
+        return Form::Ends;
+    }
+    let group = wide(s[at]);
+    if group < 128 {
+        return Form::Got(group, 1);
+    }
+    let rest = read_form(s, at + 1, left - 1);
+    let Form::Got(above, bytes) = rest else {
+        return rest;
+    };
+    if above == 0 {
+        return Form::Bad;
+    }
+    Form::Got(group - 128 + 128 * above, bytes + 1)
+}
+
+// The number at a place of a slice, or refusal 1 or 2.
+pub fn read_number(s: &[u8], at: usize) -> Number
+    ensures { λ r. ⌜ toldNumber r ≡ numberAt (now (s .entry)) at ⌝ }
+{
+    match read_form(s, at, LONGEST) {
+        Form::Got(value, bytes) => Number::Read(value, at + bytes),
+        Form::Ends => Number::Refused(Refusal {
+            number: INPUT_ENDS,
+            place: s.len(),
+        }),
+        Form::Bad => Number::Refused(Refusal {
+            number: BAD_FORM,
+            place: at,
+        }),
+    }
+}
+
+// How many bytes a number takes.
+pub fn number_length(value: u32) -> usize
+    ensures { λ r. ⌜ r ≡ length (numberBytes value) ⌝ }
+{
+    if value < 128 {
+        1
+    } else if value < 16_384 {
+        2
+    } else {
+        3
+    }
+}
+
+// Writes a value's groups, of which at most `left` are left, at a place where they have room.
+fn write_groups(value: u32, left: usize, out: &mut [u8], at: usize)
+    requires { ⌜ (0 < left) × (value < 128 ^ left) × (at + length (encode left value) ≤ length (now out)) ⌝ }
+    ensures { λ _. ⌜ now (out .exit) ≡ sets (now (out .entry)) at (encode left value) ⌝ }
+{
+    if value < 128 {
+        out[at] = value as u8;
+    } else {
+        out[at] = (128 + value % 128) as u8;
+        write_groups(value / 128, left - 1, out, at + 1);
+    }
+}
+
+// Writes a number in its shortest form at a place: 2 if it is too large for a number, then 16 if it has no room there.
+pub fn write_number(value: u32, out: &mut [u8], at: usize) -> NumberWritten
+    ensures { λ r. ⌜ _≡_ {A = Outcome ℕ × List ℕ} (toldWritten r, now (out .exit)) (numberWriting value (now (out .entry)) at) ⌝ }
+{
+    if LARGEST < value {
+        return NumberWritten::Refused(Refusal {
+            number: BAD_FORM,
+            place: 0,
+        });
+    }
+    let bytes = number_length(value);
+    if out.len() < at {
+        return NumberWritten::Refused(Refusal {
+            number: BUFFER_TOO_SHORT,
+            place: 0,
+        });
+    }
+    if out.len() - at < bytes {
+        return NumberWritten::Refused(Refusal {
+            number: BUFFER_TOO_SHORT,
+            place: 0,
+        });
+    }
+    write_groups(value, LONGEST, out, at);
+    NumberWritten::Next(at + bytes)
+}

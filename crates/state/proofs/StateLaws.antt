@@ -1,0 +1,139 @@
+-- The laws of a board's state and of the calls that push and release a button: what each method changes and leaves, which states a board takes, and what a refused call gives back.
+-- The crates above cite these, and nothing of the definitions' text. The last section is for the proofs of `fits`, `pressable`, `push` and `release`.
+-- Assumes nothing.
+use Prim.Native.Nat.{ℕ, _^_, _≤_, _<_}
+use mathlib.Core.Path.{_≡_, refl, sym, ap, ap₂, _∙_}
+use mathlib.Core.Bool.{Bool, true, false, not, cond, false≢true}
+use native.Mathlib.Omega.{arith}
+use lib.Dec.{ltb}
+use borrow.Author.Tests.{ltb-true, lt-ltb, le-ltb}
+use Rattle.bits.specs.Sets.{member, including, excluding, within}
+use Rattle.bits.proofs.SetLaws.{member-including-same, member-including-other, member-excluding-same, member-excluding-other, member-none, members-same, within-member, member-within, including-below, excluding-below}
+use Rattle.number.specs.declared.Refusal.{Refusal}
+use Rattle.number.specs.Outcomes.{Outcome, given, refused, unless}
+use Rattle.number.specs.Refusals.{noSuchName, alreadySo, stateBeyondBoard, brokenBoard}
+use Rattle.board.specs.declared.Counts.{Counts}
+use Rattle.board.specs.declared.Board.{Board}
+use Rattle.board.specs.Rules.{boardFine}
+use Rattle.board.proofs.BoolLaws.{both-true, true-both}
+use Rattle.state.specs.declared.State.{State}
+use Rattle.state.specs.declared.Press.{Press}
+use Rattle.state.specs.declared.Press.the-variants.{Done, Refused}
+use Rattle.state.specs.declared.Pressed.{Pressed}
+use Rattle.state.specs.States.{freshState, isDrawn, isPushed, withDrawn, withDropped, withPushed, withReleased, stateFine}
+use Rattle.state.specs.Presses.{pressable, left, pushing, releasing, toldPress, toldPressed}
+
+-- ---- a method changes its own relay or button and nothing else
+
+module _ (s : State) (r : ℕ) where
+  pub drawn-draw : r < 64 → isDrawn (withDrawn s r) r ≡ true
+  drawn-draw fits = member-including-same (s .drawn) r fits
+
+  pub drawn-draw-other : (q : ℕ) → (q ≡ r → ⊥) → isDrawn (withDrawn s r) q ≡ isDrawn s q
+  drawn-draw-other q other = member-including-other (s .drawn) r q other
+
+  pub pushed-draw : (b : ℕ) → isPushed (withDrawn s r) b ≡ isPushed s b
+  pushed-draw b = refl
+
+  pub drawn-drop : isDrawn (withDropped s r) r ≡ false
+  drawn-drop = member-excluding-same (s .drawn) r
+
+  pub drawn-drop-other : (q : ℕ) → (q ≡ r → ⊥) → isDrawn (withDropped s r) q ≡ isDrawn s q
+  drawn-drop-other q other = member-excluding-other (s .drawn) r q other
+
+  pub pushed-drop : (b : ℕ) → isPushed (withDropped s r) b ≡ isPushed s b
+  pushed-drop b = refl
+
+module _ (s : State) (b : ℕ) where
+  pub pushed-push : b < 64 → isPushed (withPushed s b) b ≡ true
+  pushed-push fits = member-including-same (s .pushed) b fits
+
+  pub pushed-push-other : (q : ℕ) → (q ≡ b → ⊥) → isPushed (withPushed s b) q ≡ isPushed s q
+  pushed-push-other q other = member-including-other (s .pushed) b q other
+
+  pub drawn-push : (r : ℕ) → isDrawn (withPushed s b) r ≡ isDrawn s r
+  drawn-push r = refl
+
+  pub pushed-release : isPushed (withReleased s b) b ≡ false
+  pushed-release = member-excluding-same (s .pushed) b
+
+  pub pushed-release-other : (q : ℕ) → (q ≡ b → ⊥) → isPushed (withReleased s b) q ≡ isPushed s q
+  pushed-release-other q other = member-excluding-other (s .pushed) b q other
+
+  pub drawn-release : (r : ℕ) → isDrawn (withReleased s b) r ≡ isDrawn s r
+  drawn-release r = refl
+
+-- ---- a state is known by its drawn relays and its pushed buttons
+
+pub state-equal : (s t : State) → ((r : ℕ) → isDrawn s r ≡ isDrawn t r) → ((b : ℕ) → isPushed s b ≡ isPushed t b) → s ≡ t
+state-equal s t drawn pushed =
+    ap₂ (λ (d p : ℕ). record { drawn = d; pushed = p }) (members-same (s .drawn) (t .drawn) drawn) (members-same (s .pushed) (t .pushed) pushed)
+
+-- ---- a fresh state
+
+pub fresh-drawn : (r : ℕ) → isDrawn freshState r ≡ false
+fresh-drawn r = member-none r
+
+pub fresh-pushed : (b : ℕ) → isPushed freshState b ≡ false
+fresh-pushed b = member-none b
+
+-- ---- a state fits a board exactly if every drawn relay is below R and every pushed button below B
+
+pub record MembersBelow (c : Counts) (s : State) : Type 0 where
+  pub drawn-below : (r : ℕ) → isDrawn s r ≡ true → r < c .relays
+  pub pushed-below : (b : ℕ) → isPushed s b ≡ true → b < c .buttons
+
+both-within : (c : Counts) (s : State) → stateFine c s ≡ true → (within (s .drawn) (c .relays) ≡ true) × (within (s .pushed) (c .buttons) ≡ true)
+unfolding stateFine
+both-within c s fine = both-true _ _ fine
+
+within-both : (c : Counts) (s : State) → within (s .drawn) (c .relays) ≡ true → within (s .pushed) (c .buttons) ≡ true → stateFine c s ≡ true
+unfolding stateFine
+within-both c s drawn pushed = true-both drawn pushed
+
+pub state-fits-members : (c : Counts) (s : State) → stateFine c s ≡ true → MembersBelow c s
+state-fits-members c s fine = record {
+    drawn-below = λ r. within-member (s .drawn) (c .relays) r (both-within c s fine .0);
+    pushed-below = λ b. within-member (s .pushed) (c .buttons) b (both-within c s fine .1) }
+
+pub members-state-fits : (c : Counts) (s : State) → MembersBelow c s → stateFine c s ≡ true
+members-state-fits c s below =
+    within-both c s
+    (member-within (s .drawn) (c .relays) (below .drawn-below))
+    (member-within (s .pushed) (c .buttons) (below .pushed-below))
+
+-- ---- a state that fits still fits after each method
+
+within-including : (s k n : ℕ) → within s k ≡ true → n < k → within (including s n) k ≡ true
+unfolding within
+within-including s k n all fits = lt-ltb (including s n) (2 ^ k) (including-below s k n (ltb-true s (2 ^ k) all) fits)
+
+within-excluding : (s k n : ℕ) → within s k ≡ true → within (excluding s n) k ≡ true
+unfolding within
+within-excluding s k n all = lt-ltb (excluding s n) (2 ^ k) (excluding-below s k n (ltb-true s (2 ^ k) all))
+
+within-none : (k : ℕ) → within 0 k ≡ true
+within-none k = member-within 0 k (λ n set. absurd (false≢true (sym (member-none n) ∙ set)))
+
+pub fresh-fits : (c : Counts) → stateFine c freshState ≡ true
+fresh-fits c = within-both c freshState (within-none (c .relays)) (within-none (c .buttons))
+
+module _ (c : Counts) (s : State) (n : ℕ) (fine : stateFine c s ≡ true) where
+  pub state-fits-draw : n < c .relays → stateFine c (withDrawn s n) ≡ true
+  state-fits-draw fits = within-both c (withDrawn s n) (within-including (s .drawn) (c .relays) n (both-within c s fine .0) fits) (both-within c s fine .1)
+
+  pub state-fits-drop : stateFine c (withDropped s n) ≡ true
+  state-fits-drop = within-both c (withDropped s n) (within-excluding (s .drawn) (c .relays) n (both-within c s fine .0)) (both-within c s fine .1)
+
+  pub state-fits-push : n < c .buttons → stateFine c (withPushed s n) ≡ true
+  state-fits-push fits = within-both c (withPushed s n) (both-within c s fine .0) (within-including (s .pushed) (c .buttons) n (both-within c s fine .1) fits)
+
+  pub state-fits-release : stateFine c (withReleased s n) ≡ true
+  state-fits-release = within-both c (withReleased s n) (both-within c s fine .0) (within-excluding (s .pushed) (c .buttons) n (both-within c s fine .1))
+
+-- ---- a refused call gives back the state it was given, at place 0
+
+unless-place : (fine : Bool) (k m p : ℕ) → unless fine k 0 ≡ refused m p → p ≡ 0
+unless-place true k m p e = absurd (let z : _≡_ {A = ℕ} 0 1 = cc in omega arith)
+unless-place false k m p e = cc
+

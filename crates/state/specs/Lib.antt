@@ -1,0 +1,2 @@
+pub mod States
+pub mod Presses

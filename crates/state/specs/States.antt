@@ -1,0 +1,35 @@
+-- The state of a board. Rule book: "The state is which relays are drawn and which buttons are pushed; a fresh state has none of either."
+--     freshState                         none of either
+--     isDrawn s r, isPushed s b          relay r is drawn, button b is pushed
+--     withDrawn, withDropped s r         s with relay r drawn, dropped: "a move changes that relay and nothing else"
+--     withPushed, withReleased s b       s with button b pushed, released
+--     stateFine c s                      14 does not hold: every drawn relay is below R, every pushed button below B
+use Prim.Native.Nat.{ℕ}
+use mathlib.Core.Bool.{Bool, _&&_}
+use Rattle.bits.specs.Sets.{member, including, excluding, within}
+use Rattle.board.specs.declared.Counts.{Counts}
+use Rattle.state.specs.declared.State.{State}
+
+abbrev pub freshState : State
+freshState = record { drawn = 0; pushed = 0 }
+
+abbrev pub isDrawn : State → ℕ → Bool
+isDrawn s r = member (s .drawn) r
+
+abbrev pub isPushed : State → ℕ → Bool
+isPushed s b = member (s .pushed) b
+
+abbrev pub withDrawn : State → ℕ → State
+withDrawn s r = record { drawn = including (s .drawn) r; pushed = s .pushed }
+
+abbrev pub withDropped : State → ℕ → State
+withDropped s r = record { drawn = excluding (s .drawn) r; pushed = s .pushed }
+
+abbrev pub withPushed : State → ℕ → State
+withPushed s b = record { drawn = s .drawn; pushed = including (s .pushed) b }
+
+abbrev pub withReleased : State → ℕ → State
+withReleased s b = record { drawn = s .drawn; pushed = excluding (s .pushed) b }
+
+unfoldable pub stateFine : Counts → State → Bool
+stateFine c s = within (s .drawn) (c .relays) && within (s .pushed) (c .buttons)
