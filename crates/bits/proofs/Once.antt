@@ -1,6 +1,6 @@
 -- Each function has one answer: two answers that its promise allows are the same.
 -- Assumes nothing.
-use Prim.Native.Nat.{ℕ}
+use Prim.Native.Nat.{ℕ, _<_}
 use mathlib.Core.Path.{_≡_, sym, _∙_}
 use mathlib.Core.Bool.{Bool}
 use Rattle.bits.specs.Sets.{member, including, excluding, within}
@@ -16,3 +16,6 @@ without-once s n p q e f = e ∙ sym f
 
 pub all-below-once : (s n : ℕ) (p q : Bool) → p ≡ within s n → q ≡ within s n → p ≡ q
 all-below-once s n p q e f = e ∙ sym f
+
+pub wide-once : (x p q : ℕ) → (p ≡ x) × (p < 256) → (q ≡ x) × (q < 256) → p ≡ q
+wide-once x p q a b = a .0 ∙ sym (b .0)

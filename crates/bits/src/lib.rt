@@ -1,5 +1,6 @@
 // Sets of the numbers 0 to 63, a bit of a word each: n is a member exactly if bit n is set.
 ghost use mathlib.Core.Path.{_≡_};
+ghost use Prim.Native.Nat.{_<_};
 ghost use Rattle.bits.specs.Sets.{member, including, excluding, within};
 
 // How many numbers a word has room for.
@@ -40,4 +41,11 @@ pub fn all_below(set: u64, n: u32) -> bool
         return true;
     }
     set >> n == 0
+}
+
+// A byte as the number that the functions above take.
+pub fn wide(x: u8) -> u32
+    ensures { λ r. ⌜ (r ≡ x) × (r < 256) ⌝ }
+{
+    x as u32
 }

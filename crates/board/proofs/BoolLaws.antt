@@ -1,4 +1,4 @@
--- Laws of tests in a row: both hold exactly if their conjunction does.
+-- Laws of tests: both of two in a row hold exactly if their conjunction does, and a test goes one way or the other.
 use mathlib.Core.Path.{_≡_, refl}
 use mathlib.Core.Bool.{Bool, true, false, _&&_}
 
@@ -9,3 +9,7 @@ both-true false false h = (h, h)
 
 pub true-both : {a b : Bool} → a ≡ true → b ≡ true → (a && b) ≡ true
 true-both p q = rw (p, q)
+
+pub by-test : {A : Type 0} (t : Bool) → (t ≡ true → A) → (t ≡ false → A) → A
+by-test true on off = on refl
+by-test false on off = off refl

@@ -1,12 +1,13 @@
--- Laws of `every`, a test of each number below a limit: what the loop of `Windings::complete` needs.
-use Prim.Native.Nat.{ℕ, zero, suc, _+_, _<_, _≤_}
+-- Laws of `every`, a test of each number below a limit: what the loop of `Windings::complete` and the laws of windings need.
+use Prim.Native.Nat.{ℕ, zero, suc, _+_, _<_}
 use native.Mathlib.Nat.{eq-or-lt-of-le}
 use native.Mathlib.Numerals.{add-one}
 use native.Mathlib.Omega.{arith}
-use mathlib.Core.Path.{_≡_, refl}
+use mathlib.Core.Path.{_≡_, refl, ap, _∙_}
 use mathlib.Core.Bool.{Bool, true, false, and-false}
 use mathlib.Core.Logic.{⊎-elim}
 use Rattle.board.specs.Windings.{every}
+use Rattle.board.proofs.BoolLaws.{both-true, true-both}
 
 pub every-none : (f : ℕ → Bool) → every 0 f ≡ true
 unfolding every
@@ -23,3 +24,17 @@ every-fails f (suc n) i below off =
     ⊎-elim (λ (same : i ≡ n). let here : f n ≡ false = cc in rw here (and-false (every n f)))
     (λ (less : i < n). rw (every-fails f n i less off))
     (eq-or-lt-of-le {n = i} {m = n} (omega arith))
+
+pub every-below : (f : ℕ → Bool) (n i : ℕ) → every n f ≡ true → i < n → f i ≡ true
+unfolding every
+every-below f zero i all below = absurd (omega arith)
+every-below f (suc n) i all below =
+    let both = both-true (every n f) (f n) all in
+    ⊎-elim (λ (same : i ≡ n). ap f same ∙ both .1)
+    (λ (less : i < n). every-below f n i (both .0) less)
+    (eq-or-lt-of-le {n = i} {m = n} (omega arith))
+
+pub below-every : (f : ℕ → Bool) (n : ℕ) → ((i : ℕ) → i < n → f i ≡ true) → every n f ≡ true
+unfolding every
+below-every f zero all = refl
+below-every f (suc n) all = true-both (below-every f n (λ i below. all i (omega arith))) (all n (omega arith))

@@ -5,3 +5,6 @@ pub mod RuleLaws
 pub mod SameLaws
 pub mod KindLaws
 pub mod PaddedLaws
+pub mod FineLaws
+pub mod WindingLaws
+pub mod Once

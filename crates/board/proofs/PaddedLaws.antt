@@ -1,13 +1,12 @@
 -- Laws of parts as an array of 256 places: how long it is, that its first places hold the parts, and what the next part does to it. What the reader and the writer of board files need.
 use Prim.Native.Nat.{ℕ, zero, suc, _+_, _-_, _<_, _≤_}
 use native.Mathlib.Omega.{arith}
-use mathlib.Core.Path.{_≡_, refl, sym, ap, _∙_}
+use mathlib.Core.Path.{_≡_, sym, ap, _∙_}
 use mathlib.Core.List.{List, [], _∷_, _++_, append-assoc}
 use lib.ListN.{length, take, set, replicate, length-append, length-replicate}
 use lib.Seq.{take-append-seam, set-append-seam}
 use Rattle.board.specs.declared.Part.{Part}
 use Rattle.board.specs.declared.Counts.{Counts}
-use Rattle.board.specs.declared.Board.{Board}
 use Rattle.board.specs.Parts.{blank, padded, partsOf}
 
 pub padded-length : (ps : List Part) → length ps ≤ 256 → length (padded ps) ≡ 256

@@ -36,7 +36,8 @@ counts-in-range c fine =
       most-terminals = leb-true (c .terminals) 64 (terminals .1);
       most-relays = leb-true (c .relays) 32 (both-true (leb 0 (c .relays)) _ (relays .1) .1);
       most-buttons = leb-true (c .buttons) 32 (both-true (leb 0 (c .buttons)) _ (buttons .1) .1);
-      most-parts = leb-true (c .parts) 256 (both-true (leb 0 (c .parts)) _ (parts .1) .1) }
+      most-parts = leb-true (c .parts) 256 (both-true (leb 0 (c .parts)) _ (parts .1) .1);
+    }
 
 pub counts-fine-last : (c : Counts) → 2 ≤ c .terminals → c .terminals ≤ 64 → c .relays ≤ 32 → c .buttons ≤ 32 → leb (c .parts) 256 ≡ countsFine c
 unfolding countsFine inRange

@@ -1,20 +1,22 @@
 -- Laws of the comparison of boards: what the tests of `same_counts` and `same_part` say, and that boards compare as the same exactly if their counts and first C parts are equal.
 use Prim.Native.Nat.{ℕ, _+_, _<_, _≤_}
 use mathlib.Core.Path.{_≡_, refl, sym, ap, ap₂, _∙_}
-use mathlib.Core.Bool.{Bool, true, false}
+use mathlib.Core.Bool.{Bool, true, false, false≢true}
 use mathlib.Core.List.{List, [], _∷_}
 use lib.Dec.{eqb}
 use lib.ListN.{length, getD, take, drop}
 use lib.Seq.{take-all}
 use native.Mathlib.Omega.{arith}
 use borrow.Author.Tests.{eq-eqb, ne-eqb, eqb-true}
+use Rattle.board.specs.declared.Kind.{Kind}
 use Rattle.board.specs.declared.Counts.{Counts}
 use Rattle.board.specs.declared.Part.{Part}
 use Rattle.board.specs.declared.Board.{Board}
-use Rattle.board.specs.Parts.{kindNumber, nameOf, blank}
+use Rattle.board.specs.Parts.{kindNumber, nameOf, kindOf, partsOf, blank}
 use Rattle.board.specs.Same.{sameCounts, sameKind, samePart, sameParts, sameBoard}
 use Rattle.board.proofs.FirstLaws.{first-from, first-past}
-use Rattle.board.proofs.BoolLaws.{both-true}
+use Rattle.board.proofs.BoolLaws.{both-true, true-both}
+use Rattle.board.proofs.KindLaws.{kind-of-parts}
 
 module _ (x y : Counts) where
   pub counts-terminals-differ : (x .terminals ≡ y .terminals → ⊥) → false ≡ sameCounts x y
@@ -107,3 +109,55 @@ module _ (x y : Board) where
       (take-all 256 (x .parts) (omega arith) ∙ sym (take-all (x .counts .parts) (x .parts) (omega arith)))
       (take-all 256 (y .parts) (omega arith) ∙ sym (take-all (x .counts .parts) (y .parts) (omega arith)))
       ∙ board-same-last same
+
+-- what compares as the same is equal, and a thing compares as the same as itself
+kinds-equal : (k l : Kind) → sameKind k l ≡ true → k ≡ l
+unfolding sameKind
+kinds-equal k l same =
+    let both = both-true _ _ same in
+    sym (kind-of-parts k) ∙ ap₂ kindOf (eqb-true (kindNumber k) (kindNumber l) (both .0)) (eqb-true (nameOf k) (nameOf l) (both .1)) ∙ kind-of-parts l
+
+parts-equal : (p q : Part) → samePart p q ≡ true → p ≡ q
+unfolding samePart
+parts-equal p q same =
+    let kinds = both-true _ _ same in
+    let ends = both-true _ _ (kinds .0) in
+    let a : p .a ≡ q .a = eqb-true _ _ (ends .0) in
+    let b : p .b ≡ q .b = eqb-true _ _ (ends .1) in
+    let k : p .kind ≡ q .kind = kinds-equal (p .kind) (q .kind) (kinds .1) in
+    λ i. record { a = a i; b = b i; kind = k i }
+
+lists-equal : (ps qs : List Part) → sameParts ps qs ≡ true → ps ≡ qs
+unfolding sameParts
+lists-equal [] [] same = refl
+lists-equal [] (q ∷ qs) same = absurd (false≢true same)
+lists-equal (p ∷ ps) [] same = absurd (false≢true same)
+lists-equal (p ∷ ps) (q ∷ qs) same =
+    let both = both-true (samePart p q) (sameParts ps qs) same in
+    ap₂ _∷_ (parts-equal p q (both .0)) (lists-equal ps qs (both .1))
+
+counts-self : (c : Counts) → sameCounts c c ≡ true
+unfolding sameCounts
+counts-self c = simp (eq-eqb (c .terminals) (c .terminals) refl, eq-eqb (c .relays) (c .relays) refl, eq-eqb (c .buttons) (c .buttons) refl, eq-eqb (c .parts) (c .parts) refl)
+
+part-self : (p : Part) → samePart p p ≡ true
+unfolding samePart sameKind
+part-self p = simp (eq-eqb (p .a) (p .a) refl, eq-eqb (p .b) (p .b) refl, eq-eqb (kindNumber (p .kind)) (kindNumber (p .kind)) refl, eq-eqb (nameOf (p .kind)) (nameOf (p .kind)) refl)
+
+list-self : (ps : List Part) → sameParts ps ps ≡ true
+unfolding sameParts
+list-self [] = refl
+list-self (p ∷ ps) = true-both (part-self p) (list-self ps)
+
+pub same-board-equal : (x y : Board) → sameBoard x y ≡ true → (x .counts ≡ y .counts) × (partsOf x ≡ partsOf y)
+unfolding sameBoard
+same-board-equal x y same =
+    let both = both-true _ _ same in
+    (counts-equal (x .counts) (y .counts) (both .0), lists-equal (partsOf x) (partsOf y) (both .1))
+
+pub equal-same-board : (x y : Board) → x .counts ≡ y .counts → partsOf x ≡ partsOf y → sameBoard x y ≡ true
+unfolding sameBoard
+equal-same-board x y counts parts =
+    true-both
+    (ap (sameCounts (x .counts)) (sym counts) ∙ counts-self (x .counts))
+    (ap (sameParts (partsOf x)) (sym parts) ∙ list-self (partsOf x))

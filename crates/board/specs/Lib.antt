@@ -2,3 +2,4 @@ pub mod Parts
 pub mod Windings
 pub mod Rules
 pub mod Same
+pub mod Sorts

@@ -2,7 +2,7 @@
 // all together on a board handed in (15).
 ghost use mathlib.Core.Path.{_≡_};
 ghost use mathlib.Core.List.{List};
-ghost use Prim.Native.Nat.{_≤_, _<_};
+ghost use Prim.Native.Nat.{_≤_};
 ghost use lib.ListN.{take};
 ghost use Rattle.board.specs.Parts.{kindNumber, nameOf, blank, emptyBoard};
 ghost use Rattle.board.specs.Rules.{limitOf, nameFine, countsFine, partFine, partsFine, boardFine};
@@ -15,9 +15,13 @@ use windings::Windings;
 
 // The rule book's limits on a board's counts.
 pub const LEAST_TERMINALS: u8 = 2;
+
 pub const MOST_TERMINALS: u8 = 64;
+
 pub const MOST_RELAYS: u8 = 32;
+
 pub const MOST_BUTTONS: u8 = 32;
+
 pub const MOST_PARTS: usize = 256;
 
 // The kinds of part in the order of the rule book's table, each with its relay or button.

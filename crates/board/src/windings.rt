@@ -2,7 +2,6 @@
 use crate::Kind;
 ghost use mathlib.Core.Path.{_≡_};
 ghost use mathlib.Core.Bool.{not, _&&_};
-ghost use Prim.Native.Nat.{_<_};
 ghost use Rattle.bits.specs.Sets.{member};
 ghost use Rattle.board.specs.Windings.{noWindings, windingFree, gained, wound, complete};
 
@@ -13,17 +12,11 @@ pub struct Windings {
     pub dropping: u64,
 }
 
-fn wide(x: u8) -> u32
-    ensures { λ r. ⌜ (r ≡ x) × (r < 256) ⌝ }
-{
-    x as u32
-}
-
 // Whether a relay is in neither set.
 fn in_neither(x: u64, y: u64, relay: u8) -> bool
     ensures { λ r. ⌜ r ≡ not (member x relay) && not (member y relay) ⌝ }
 {
-    let n = wide(relay);
+    let n = bits::wide(relay);
     if bits::has(x, n) {
         return false;
     }
@@ -48,7 +41,7 @@ impl Windings {
     {
         match kind {
             Kind::Regular(relay) => {
-                if bits::has(self.regular, wide(relay)) {
+                if bits::has(self.regular, bits::wide(relay)) {
                     false
                 } else {
                     in_neither(self.drawing, self.dropping, relay)
@@ -70,17 +63,17 @@ impl Windings {
         let mut next = self;
         match kind {
             Kind::Regular(relay) => {
-                let set = bits::with(self.regular, wide(relay));
+                let set = bits::with(self.regular, bits::wide(relay));
                 next.regular = set;
                 next
             }
             Kind::Drawing(relay) => {
-                let set = bits::with(self.drawing, wide(relay));
+                let set = bits::with(self.drawing, bits::wide(relay));
                 next.drawing = set;
                 next
             }
             Kind::Dropping(relay) => {
-                let set = bits::with(self.dropping, wide(relay));
+                let set = bits::with(self.dropping, bits::wide(relay));
                 next.dropping = set;
                 next
             }
@@ -109,7 +102,7 @@ impl Windings {
     pub fn complete(self, relays: u8) -> bool
         ensures { λ r. ⌜ r ≡ complete relays self ⌝ }
     {
-        let end = wide(relays);
+        let end = bits::wide(relays);
         let mut relay = 0;
         while relay < end {
             if !self.wound(relay) {

@@ -10,7 +10,7 @@ use borrow.Author.Tests.{ltb-true, lt-ltb, le-ltb}
 use Rattle.bits.specs.Sets.{member, including, excluding, within}
 use Rattle.bits.proofs.SetLaws.{member-including-same, member-including-other, member-excluding-same, member-excluding-other, member-none, members-same, within-member, member-within, including-below, excluding-below}
 use Rattle.number.specs.declared.Refusal.{Refusal}
-use Rattle.number.specs.Outcomes.{Outcome, given, refused, unless}
+use Rattle.number.specs.Outcomes.{Outcome, given, refused, unless, _>>_}
 use Rattle.number.specs.Refusals.{noSuchName, alreadySo, stateBeyondBoard, brokenBoard}
 use Rattle.board.specs.declared.Counts.{Counts}
 use Rattle.board.specs.declared.Board.{Board}
@@ -67,7 +67,7 @@ module _ (s : State) (b : ℕ) where
 
 pub state-equal : (s t : State) → ((r : ℕ) → isDrawn s r ≡ isDrawn t r) → ((b : ℕ) → isPushed s b ≡ isPushed t b) → s ≡ t
 state-equal s t drawn pushed =
-    ap₂ (λ (d p : ℕ). record { drawn = d; pushed = p }) (members-same (s .drawn) (t .drawn) drawn) (members-same (s .pushed) (t .pushed) pushed)
+    λ i. record { drawn = members-same (s .drawn) (t .drawn) drawn i; pushed = members-same (s .pushed) (t .pushed) pushed i }
 
 -- ---- a fresh state
 
@@ -134,6 +134,90 @@ module _ (c : Counts) (s : State) (n : ℕ) (fine : stateFine c s ≡ true) wher
 -- ---- a refused call gives back the state it was given, at place 0
 
 unless-place : (fine : Bool) (k m p : ℕ) → unless fine k 0 ≡ refused m p → p ≡ 0
-unless-place true k m p e = absurd (let z : _≡_ {A = ℕ} 0 1 = cc in omega arith)
+unless-place true k m p e = cc
 unless-place false k m p e = cc
 
+-- what follows a test is asked only where the test holds
+then-place : (fine : Bool) (k m p : ℕ) (o : Outcome (Unit {0})) → (o ≡ refused m p → p ≡ 0) → (unless fine k 0 >> o) ≡ refused m p → p ≡ 0
+then-place true k m p o rest e = rest e
+then-place false k m p o rest e = cc
+
+pressable-place : (b : Board) (s : State) (n : ℕ) (already : Bool) (m p : ℕ) → pressable b s n already ≡ refused m p → p ≡ 0
+unfolding pressable
+pressable-place b s n already m p =
+    then-place (boardFine b) brokenBoard m p _
+    (then-place (stateFine (b .counts) s) stateBeyondBoard m p _
+    (then-place (ltb n (b .counts .buttons)) noSuchName m p _
+    (unless-place (not already) alreadySo m p)))
+
+left-refused : (s t u : State) (o : Outcome (Unit {0})) (m p : ℕ) → (o ≡ refused m p → p ≡ 0) → left s t o ≡ (u, refused m p) → (u ≡ s) × (p ≡ 0)
+unfolding left
+left-refused s t u (given a) m p place e =
+    let never : given tt ≡ refused m p = λ i. e i .1 in (cc, cc)
+left-refused s t u (refused k q) m p place e =
+    (sym (λ i. e i .0), place (λ i. e i .1))
+
+pub push-refused : (b : Board) (s t : State) (n m p : ℕ) → pushing b s n ≡ (t, refused m p) → (t ≡ s) × (p ≡ 0)
+unfolding pushing
+push-refused b s t n m p = left-refused s (withPushed s n) t (pressable b s n (isPushed s n)) m p (pressable-place b s n (isPushed s n) m p)
+
+pub release-refused : (b : Board) (s t : State) (n m p : ℕ) → releasing b s n ≡ (t, refused m p) → (t ≡ s) × (p ≡ 0)
+unfolding releasing
+release-refused b s t n m p = left-refused s (withReleased s n) t (pressable b s n (not (isPushed s n))) m p (pressable-place b s n (not (isPushed s n)) m p)
+
+-- ---- the answer's cases are told apart
+
+refusal-equal : (r q : Refusal) → r .number ≡ q .number → r .place ≡ q .place → r ≡ q
+refusal-equal r q e f = λ i. record { number = e i; place = f i }
+
+told-press-once : (x y : Press) → toldPress x ≡ toldPress y → x ≡ y
+told-press-once Done Done e = refl
+told-press-once Done (Refused q) e = cc
+told-press-once (Refused r) Done e = cc
+told-press-once (Refused r) (Refused q) e = ap Refused (refusal-equal r q (cc) (cc))
+
+pub told-pressed-once : (x y : Pressed) → toldPressed x ≡ toldPressed y → x ≡ y
+told-pressed-once x y e =
+    λ i. record { state = e i .0; answer = told-press-once (x .answer) (y .answer) (λ j. e j .1) i }
+
+-- ---- what the code's tests say, for the proofs of `fits`, `pressable`, `push` and `release`
+
+module _ (c : Counts) (s : State) (r : ℕ) (relays : r ≡ c .relays) where
+  pub state-relay-beyond : within (s .drawn) r ≡ false → false ≡ stateFine c s
+  unfolding stateFine
+  state-relay-beyond off = simp (← relays, off)
+
+  pub state-fits-last : (b : ℕ) → b ≡ c .buttons → within (s .drawn) r ≡ true → within (s .pushed) b ≡ stateFine c s
+  unfolding stateFine
+  state-fits-last b buttons on = simp (← relays, ← buttons, on)
+
+module _ (b : Board) (s : State) (n : ℕ) (already : Bool) where
+  pub press-broken-board : boardFine b ≡ false → refused brokenBoard 0 ≡ pressable b s n already
+  unfolding pressable
+  press-broken-board board = simp board
+
+  pub press-state-beyond : boardFine b ≡ true → stateFine (b .counts) s ≡ false → refused stateBeyondBoard 0 ≡ pressable b s n already
+  unfolding pressable
+  press-state-beyond board state = simp (board, state)
+
+  pub press-no-such-name : boardFine b ≡ true → stateFine (b .counts) s ≡ true → b .counts .buttons ≤ n → refused noSuchName 0 ≡ pressable b s n already
+  unfolding pressable
+  press-no-such-name board state beyond = simp (board, state, le-ltb n (b .counts .buttons) beyond)
+
+  pub press-already-so : boardFine b ≡ true → stateFine (b .counts) s ≡ true → n < b .counts .buttons → already ≡ true → refused alreadySo 0 ≡ pressable b s n already
+  unfolding pressable
+  press-already-so board state below so = simp (board, state, lt-ltb n (b .counts .buttons) below, so)
+
+  pub press-done : boardFine b ≡ true → stateFine (b .counts) s ≡ true → n < b .counts .buttons → already ≡ false → given tt ≡ pressable b s n already
+  unfolding pressable
+  press-done board state below so = simp (board, state, lt-ltb n (b .counts .buttons) below, so)
+
+-- an answer a that was asked for with the test p, where the definition asks for q: the state u of the code is the call's t if it is done, else the state as given
+module _ (b : Board) (s t : State) (n : ℕ) (a : Press) (p q : Bool) (same : p ≡ q) (told : toldPress a ≡ pressable b s n p) where
+  pub pressed-done : (u : State) → u ≡ t → a ≡ Done → toldPressed (record { state = u; answer = a }) ≡ left s t (pressable b s n q)
+  unfolding left
+  pressed-done u made done = rw (← same, ← told, done, made)
+
+  pub pressed-refused : (r : Refusal) → a ≡ Refused r → toldPressed (record { state = s; answer = a }) ≡ left s t (pressable b s n q)
+  unfolding left
+  pressed-refused r is = rw (← same, ← told, is)

@@ -1,60 +1,47 @@
+-- `state::pressable` meets its contract: its tests are those of the definition, in that order.
 use borrow.Author.Needs.{needs}
 use Rattle.state.proofs.pressable.Statement.{statement}
 use Rattle.state.proofs.pressable.Tie as tie
-use Rattle.state.proofs.pressable.Reads as reads
-use Rattle.state.proofs.pressable.Lts as lts
-use Rattle.board.proofs.check.Reads as check-reads
-use Rattle.state.proofs.State.fits.Reads as fits-reads
-use Rattle.state.proofs.refuse.Reads as refuse-reads
-use Rattle.state.proofs.wide.Reads as wide-reads
+use mathlib.Core.Path.{sym, _∙_}
+use native.Mathlib.Omega.{arith}
+use borrow.Author.Tests.{not-true, not-false}
+use Rattle.state.proofs.StateLaws.{press-broken-board, press-state-beyond, press-no-such-name, press-already-so, press-done}
 
--- src/lib.rt:112:9
 check-requires : tie.Need-check-requires
 check-requires c κs = search needs
 
--- src/lib.rt:113:9
 refuse-requires : tie.Need-refuse-requires
 refuse-requires c κs = search needs
 
--- src/lib.rt:113:9
 returns : tie.Need-returns
-returns c = ?
+returns c = c .refuse .ensures ∙ press-broken-board _ _ _ _ (sym (c .before .before .check .ensures) ∙ not-true _ (c .before .if1 .taken))
 
--- src/lib.rt:116:9
 fits-requires : tie.Need-fits-requires
 fits-requires c κs = search needs
 
--- src/lib.rt:117:9
 refuse-requires-2 : tie.Need-refuse-requires-2
 refuse-requires-2 c κs = search needs
 
--- src/lib.rt:117:9
 returns-2 : tie.Need-returns-2
-returns-2 c = ?
+returns-2 c = c .refuse2 .ensures ∙ press-state-beyond _ _ _ _ (sym (c .before .before .before .before .before .check .ensures) ∙ not-false _ (c .before .before .before .before .if1 .left)) (sym (c .before .before .fits2 .ensures) ∙ not-true _ (c .before .if2 .taken))
 
--- src/lib.rt:119:8
 wide-requires : tie.Need-wide-requires
 wide-requires c κs = search needs
 
--- src/lib.rt:120:9
 refuse-requires-3 : tie.Need-refuse-requires-3
 refuse-requires-3 c κs = search needs
 
--- src/lib.rt:120:9
 returns-3 : tie.Need-returns-3
-returns-3 c = ?
+returns-3 c = c .refuse3 .ensures ∙ press-no-such-name _ _ _ _ (sym (c .before .before .before .before .before .before .before .check .ensures) ∙ not-false _ (c .before .before .before .before .before .before .if1 .left)) (sym (c .before .before .before .before .fits2 .ensures) ∙ not-false _ (c .before .before .before .if2 .left)) (omega arith)
 
--- src/lib.rt:123:9
 refuse-requires-4 : tie.Need-refuse-requires-4
 refuse-requires-4 c κs = search needs
 
--- src/lib.rt:123:9
 returns-4 : tie.Need-returns-4
-returns-4 c = ?
+returns-4 c = c .refuse4 .ensures ∙ press-already-so _ _ _ _ (sym (c .before .before .before .before .before .before .before .before .check .ensures) ∙ not-false _ (c .before .before .before .before .before .before .before .if1 .left)) (sym (c .before .before .before .before .before .fits2 .ensures) ∙ not-false _ (c .before .before .before .before .if2 .left)) (omega arith) (c .before .if4 .taken)
 
--- src/lib.rt:109:1
 returns-5 : tie.Need-returns-5
-returns-5 c = ?
+returns-5 c = press-done _ _ _ _ (sym (c .before .before .before .before .before .before .before .check .ensures) ∙ not-false _ (c .before .before .before .before .before .before .if1 .left)) (sym (c .before .before .before .before .fits2 .ensures) ∙ not-false _ (c .before .before .before .if2 .left)) (omega arith) (c .if4 .left)
 
 pub pressable-spec : {M : Type 1} → statement M
 pressable-spec =

@@ -1,39 +1,32 @@
+-- `state::push` meets its contract: done, the state is that of `withPushed`; refused, it is the state as given.
 use borrow.Author.Needs.{needs}
 use Rattle.state.proofs.push.Statement.{statement}
 use Rattle.state.proofs.push.Tie as tie
-use Rattle.state.proofs.push.Reads as reads
-use Rattle.state.proofs.push.Lts as lts
-use Rattle.bits.proofs.has.Reads as has-reads
-use Rattle.state.proofs.State.push.Reads as push-reads
-use Rattle.state.proofs.pressable.Reads as pressable-reads
+use Rattle.state.specs.Presses.{pushing}
+use Rattle.state.proofs.StateLaws.{pressed-done, pressed-refused}
 
--- src/lib.rt:139:50
 has-requires : tie.Need-has-requires
 has-requires c κs = search needs
 
--- src/lib.rt:139:9
 pressable-requires : tie.Need-pressable-requires
 pressable-requires c κs = search needs
 
--- src/lib.rt:141:13
 enum-told : tie.Need-enum-told
 enum-told c = search needs
 
--- src/lib.rt:141:13
 push-requires : tie.Need-push-requires
 push-requires c κs = search needs
 
--- src/lib.rt:147:9
 enum-told-2 : tie.Need-enum-told-2
 enum-told-2 c = search needs
 
--- src/lib.rt:136:1
 returns : tie.Need-returns
-returns c = ?
+unfolding pushing
+returns c = pressed-done _ _ _ _ _ _ _ (c .before .before .before .before .has .ensures) (c .before .before .before .pressable .ensures) _ (c .push .ensures) (c .before .enum-told .given .1)
 
--- src/lib.rt:136:1
 returns-2 : tie.Need-returns-2
-returns-2 c = ?
+unfolding pushing
+returns-2 c = pressed-refused _ _ _ _ _ _ _ (c .before .before .before .has .ensures) (c .before .before .pressable .ensures) _ (c .enum-told2 .given .1)
 
 pub push-spec : {M : Type 1} → statement M
 push-spec =

@@ -1,39 +1,34 @@
+-- `state::release` meets its contract: done, the state is that of `withReleased`; refused, it is the state as given.
 use borrow.Author.Needs.{needs}
 use Rattle.state.proofs.release.Statement.{statement}
 use Rattle.state.proofs.release.Tie as tie
-use Rattle.state.proofs.release.Reads as reads
-use Rattle.state.proofs.release.Lts as lts
-use Rattle.bits.proofs.has.Reads as has-reads
-use Rattle.state.proofs.State.release.Reads as release-reads
-use Rattle.state.proofs.pressable.Reads as pressable-reads
+use mathlib.Core.Path.{ap}
+use mathlib.Core.Bool.{not}
+use Rattle.state.specs.Presses.{releasing}
+use Rattle.state.proofs.StateLaws.{pressed-done, pressed-refused}
 
--- src/lib.rt:158:51
 has-requires : tie.Need-has-requires
 has-requires c κs = search needs
 
--- src/lib.rt:158:9
 pressable-requires : tie.Need-pressable-requires
 pressable-requires c κs = search needs
 
--- src/lib.rt:160:13
 enum-told : tie.Need-enum-told
 enum-told c = search needs
 
--- src/lib.rt:160:13
 release-requires : tie.Need-release-requires
 release-requires c κs = search needs
 
--- src/lib.rt:166:9
 enum-told-2 : tie.Need-enum-told-2
 enum-told-2 c = search needs
 
--- src/lib.rt:155:1
 returns : tie.Need-returns
-returns c = ?
+unfolding releasing
+returns c = pressed-done _ _ _ _ _ _ _ (ap not (c .before .before .before .before .has .ensures)) (c .before .before .before .pressable .ensures) _ (c .release .ensures) (c .before .enum-told .given .1)
 
--- src/lib.rt:155:1
 returns-2 : tie.Need-returns-2
-returns-2 c = ?
+unfolding releasing
+returns-2 c = pressed-refused _ _ _ _ _ _ _ (ap not (c .before .before .before .has .ensures)) (c .before .before .pressable .ensures) _ (c .enum-told2 .given .1)
 
 pub release-spec : {M : Type 1} → statement M
 release-spec =

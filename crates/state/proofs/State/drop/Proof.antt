@@ -1,17 +1,13 @@
+-- `state::State::drop` meets its contract: what `bits::without` gives is `excluding`, the one field that `withDropped` changes.
 use borrow.Author.Needs.{needs}
 use Rattle.state.proofs.State.drop.Statement.{statement}
 use Rattle.state.proofs.State.drop.Tie as tie
-use Rattle.state.proofs.State.drop.Reads as reads
-use Rattle.state.proofs.State.drop.Lts as lts
-use Rattle.bits.proofs.without.Reads as without-reads
 
--- src/lib.rt:61:13
 without-requires : tie.Need-without-requires
 without-requires c κs = search needs
 
--- src/lib.rt:58:5
 returns : tie.Need-returns
-returns c = ?
+returns c = rw (c .without .ensures)
 
 pub drop-spec : {M : Type 1} → statement M
 drop-spec = tie.close (tie.spec without-requires returns)

@@ -1,17 +1,13 @@
+-- `state::State::release` meets its contract: what `bits::without` gives is `excluding`, the one field that `withReleased` changes.
 use borrow.Author.Needs.{needs}
 use Rattle.state.proofs.State.release.Statement.{statement}
 use Rattle.state.proofs.State.release.Tie as tie
-use Rattle.state.proofs.State.release.Reads as reads
-use Rattle.state.proofs.State.release.Lts as lts
-use Rattle.bits.proofs.without.Reads as without-reads
 
--- src/lib.rt:83:13
 without-requires : tie.Need-without-requires
 without-requires c κs = search needs
 
--- src/lib.rt:80:5
 returns : tie.Need-returns
-returns c = ?
+returns c = rw (c .without .ensures)
 
 pub release-spec : {M : Type 1} → statement M
 release-spec = tie.close (tie.spec without-requires returns)

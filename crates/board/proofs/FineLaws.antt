@@ -1,0 +1,26 @@
+-- Laws of boards that break no rule: being fine goes by the counts and the first C parts alone, and the empty board is fine.
+use mathlib.Core.Path.{_≡_, refl, ap₂}
+use mathlib.Core.Bool.{true, _&&_}
+use mathlib.Core.List.{List, []}
+use Rattle.board.specs.declared.Counts.{Counts}
+use Rattle.board.specs.declared.Part.{Part}
+use Rattle.board.specs.declared.Board.{Board}
+use Rattle.board.specs.Parts.{partsOf, emptyBoard}
+use Rattle.board.specs.Rules.{countsFine, inRange, partsFine, boardFine}
+use Rattle.board.specs.Windings.{noWindings, complete, every}
+use Rattle.board.specs.Same.{sameBoard}
+use Rattle.board.proofs.SameLaws.{same-board-equal}
+
+pub same-boards-fine : (x y : Board) → sameBoard x y ≡ true → boardFine x ≡ boardFine y
+unfolding boardFine
+same-boards-fine x y same =
+    let equal = same-board-equal x y same in
+    ap₂ (λ (c : Counts) (ps : List Part). countsFine c && partsFine c noWindings ps) (equal .0) (equal .1)
+
+pub empty-fine : boardFine emptyBoard ≡ true
+unfolding boardFine emptyBoard countsFine inRange partsFine complete every
+empty-fine = refl
+
+pub empty-parts : partsOf emptyBoard ≡ []
+unfolding emptyBoard
+empty-parts = refl

@@ -1,0 +1,43 @@
+-- The two sorts of relay, counted over the parts. Rule book: "Every relay is regular, with exactly one part of kind 4, or steel-core, with exactly one of kind 5 and one of kind 6."
+-- No code goes by these: they say the sentence itself, and `proofs/WindingLaws.antt` shows that rules 8 and 9 stand for it.
+--     carries j r k        kind k has number j and carries relay r
+--     windingsOf j r ps    how many of the parts ps are of kind number j and carry relay r
+--     isRegular r ps       relay r is regular: one part of kind 4, none of 5 and 6
+--     isSteel r ps         relay r is steel-core: one part of kind 5 and one of kind 6, none of 4
+--     Wound n ps           every relay below n is regular or steel-core
+--     partFits c p         5 to 7 of the part p, which no other part bears on
+--     partsFit c ps        5 to 7 of every part
+use Prim.Native.Nat.{ℕ, _+_, _<_}
+use mathlib.Core.Path.{_≡_}
+use mathlib.Core.Logic.{_⊎_}
+use mathlib.Core.Bool.{Bool, true, cond, _&&_}
+use mathlib.Core.List.{List, [], _∷_}
+use lib.Dec.{eqb}
+use Rattle.board.specs.declared.Kind.{Kind}
+use Rattle.board.specs.declared.Part.{Part}
+use Rattle.board.specs.declared.Counts.{Counts}
+use Rattle.board.specs.Parts.{kindNumber, nameOf}
+use Rattle.board.specs.Rules.{terminalFine, endsFine, nameFine}
+
+unfoldable pub carries : ℕ → ℕ → Kind → Bool
+carries j r k = eqb (kindNumber k) j && eqb (nameOf k) r
+
+unfoldable pub windingsOf : ℕ → ℕ → List Part → ℕ
+windingsOf j r [] = 0
+windingsOf j r (p ∷ ps) = cond (carries j r (p .kind)) 1 0 + windingsOf j r ps
+
+abbrev pub isRegular : ℕ → List Part → Type 0
+isRegular r ps = (windingsOf 4 r ps ≡ 1) × (windingsOf 5 r ps ≡ 0) × (windingsOf 6 r ps ≡ 0)
+
+abbrev pub isSteel : ℕ → List Part → Type 0
+isSteel r ps = (windingsOf 4 r ps ≡ 0) × (windingsOf 5 r ps ≡ 1) × (windingsOf 6 r ps ≡ 1)
+
+abbrev pub Wound : ℕ → List Part → Type 0
+Wound n ps = (r : ℕ) → r < n → isRegular r ps ⊎ isSteel r ps
+
+unfoldable pub partFits : Counts → Part → Bool
+partFits c p = terminalFine c (p .a) && terminalFine c (p .b) && endsFine (p .a) (p .b) && nameFine c (p .kind)
+
+unfoldable pub partsFit : Counts → List Part → Bool
+partsFit c [] = true
+partsFit c (p ∷ ps) = partFits c p && partsFit c ps

@@ -1,0 +1,100 @@
+-- Reading a board. Rule book: "Order: 10 first; then left to right, each number's form (1, 2) before its meaning, and for a part 4, 5, 5, 6, 7, 8 as its fields come; then 9." Each line of a `do` block leaves with its refusal if it has one.
+--     wanted ok n s at      the number at a place, which must pass the test ok, else n at that place
+--     countsAt s            T, R, B and C at the start of the input
+--     nameAt c k s at       the relay or button of a part of kind number k; a wire has none
+--     partAt c w s at       a part, after parts that gave the windings w
+--     partsAt c n w s at    n parts one after the other, the last of them followed by the test of 9
+--     boardFrom c o       the board of counts c with the parts that were read
+--     boardAt s             the board at the start of the input, and the place just after it
+--     reading s             what reading answers: "a refused read returns number, place and the empty board"
+--     toldRead              the answer's cases in the rule book's numbers
+use Prim.Native.Nat.{ℕ, zero, suc}
+use mathlib.Core.Bool.{Bool, cond}
+use mathlib.Core.List.{List, [], _∷_}
+use lib.Dec.{ltb, leb, eqb}
+use lib.ListN.{length}
+use Rattle.number.specs.Outcomes.{Outcome, given, refused, Found, found, _>>=_, _>>_, unless}
+use Rattle.number.specs.Refusals.{outOfRange, noSuchKind, noSuchTerminal, endsEqual, noSuchName, windingTaken, windingLacking, inputTooLong}
+use Rattle.number.specs.Numbers.{numberAt}
+use Rattle.board.specs.declared.Kind.{Kind}
+use Rattle.board.specs.declared.Part.{Part}
+use Rattle.board.specs.declared.Counts.{Counts}
+use Rattle.board.specs.declared.Board.{Board}
+use Rattle.board.specs.declared.windings.Windings.{Windings}
+use Rattle.board.specs.Parts.{kindOf, padded, emptyBoard, mostParts}
+use Rattle.board.specs.Windings.{noWindings, windingFree, gained, complete}
+use Rattle.board.specs.Rules.{leastTerminals, mostTerminals, mostRelays, mostButtons, inRange, terminalFine, endsFine, limitOf}
+use Rattle.board_reader.specs.declared.BoardRead.{BoardRead}
+use Rattle.board_reader.specs.declared.ReadAnswer.{ReadAnswer}
+use Rattle.board_reader.specs.declared.ReadAnswer.the-variants.{Read, Refused}
+
+unfoldable pub wanted : (ℕ → Bool) → ℕ → List ℕ → ℕ → Outcome (Found ℕ)
+wanted ok n s at = do
+    v ← numberAt s at
+    unless (ok (v .value)) n at
+    given v
+
+unfoldable pub countsAt : List ℕ → Outcome (Found Counts)
+countsAt s = do
+    t ← wanted (inRange leastTerminals mostTerminals) outOfRange s 0
+    r ← wanted (inRange 0 mostRelays) outOfRange s (t .next)
+    b ← wanted (inRange 0 mostButtons) outOfRange s (r .next)
+    c ← wanted (inRange 0 mostParts) outOfRange s (b .next)
+    found (record { terminals = t .value; relays = r .value; buttons = b .value; parts = c .value }) (c .next)
+
+abbrev pub lastKind : ℕ
+lastKind = 6
+
+unfoldable pub nameAt : Counts → ℕ → List ℕ → ℕ → Outcome (Found ℕ)
+nameAt c k s at = cond (eqb k 0) (found 0 at) (wanted (λ n. ltb n (limitOf c k)) noSuchName s at)
+
+unfoldable pub partAt : Counts → Windings → List ℕ → ℕ → Outcome (Found Part)
+partAt c w s at = do
+    k ← wanted (inRange 0 lastKind) noSuchKind s at
+    a ← wanted (terminalFine c) noSuchTerminal s (k .next)
+    b ← wanted (terminalFine c) noSuchTerminal s (a .next)
+    unless (endsFine (a .value) (b .value)) endsEqual (a .next)
+    n ← nameAt c (k .value) s (b .next)
+    unless (windingFree w (kindOf (k .value) (n .value))) windingTaken (b .next)
+    found (record { a = a .value; b = b .value; kind = kindOf (k .value) (n .value) }) (n .next)
+
+unfoldable pub partsAt : Counts → ℕ → Windings → List ℕ → ℕ → Outcome (Found (List Part))
+partsAt c zero w s at = do
+    unless (complete (c .relays) w) windingLacking at
+    found [] at
+partsAt c (suc n) w s at = do
+    p ← partAt c w s at
+    ps ← partsAt c n (gained w (p .value .kind)) s (p .next)
+    found (p .value ∷ ps .value) (ps .next)
+
+abbrev pub boardOf : Counts → List Part → Board
+boardOf c ps = record { counts = c; parts = padded ps }
+
+unfoldable pub boardFrom : Counts → Outcome (Found (List Part)) → Outcome (Found Board)
+boardFrom c o = do
+    ps ← o
+    found (boardOf c (ps .value)) (ps .next)
+
+unfoldable pub boardAt : List ℕ → Outcome (Found Board)
+boardAt s = do
+    c ← countsAt s
+    boardFrom (c .value) (partsAt (c .value) (c .value .parts) noWindings s (c .next))
+
+abbrev pub longestInput : ℕ
+longestInput = 65_536
+
+unfoldable pub answered : Outcome (Found Board) → Board × Outcome ℕ
+answered (given f) = (f .value, given (f .next))
+answered (refused n p) = (emptyBoard, refused n p)
+
+unfoldable pub reading : List ℕ → Board × Outcome ℕ
+reading s = answered (do
+    unless (leb (length s) longestInput) inputTooLong 0
+    boardAt s)
+
+abbrev pub toldAnswer : ReadAnswer → Outcome ℕ
+toldAnswer (Read next) = given next
+toldAnswer (Refused r) = refused (r .number) (r .place)
+
+abbrev pub toldRead : BoardRead → Board × Outcome ℕ
+toldRead r = (r .board, toldAnswer (r .answer))

@@ -1,0 +1,159 @@
+// Reading the parts of a board file: one part field by field, and all of them one after the other.
+use crate::BoardRead;
+use crate::ReadAnswer;
+use crate::fields;
+use board::Board;
+use board::Counts;
+use board::Kind;
+use board::Part;
+use board::windings::Windings;
+use number::Number;
+ghost use mathlib.Core.Path.{_≡_};
+ghost use Prim.Native.Nat.{_≤_};
+ghost use Rattle.number.specs.Numbers.{toldNumber};
+ghost use Rattle.board.specs.Parts.{kindOf, blank, emptyBoard};
+ghost use Rattle.board.specs.Windings.{noWindings};
+ghost use Rattle.board.specs.Rules.{terminalFine};
+ghost use Rattle.board_reader.specs.Reading.{wanted, nameAt, partAt, partsAt, boardFrom, answered, toldAnswer, toldRead};
+ghost use Rattle.board_reader.specs.Steps.{placeOf, toldPart};
+
+// The part that was read, where the answer is no refusal.
+pub struct PartRead {
+    pub part: Part,
+    pub answer: ReadAnswer,
+}
+
+// The highest kind number.
+const LAST_KIND: u32 = 6;
+
+// The part in every place that no part was read into.
+fn filler() -> Part
+    ensures { λ r. ⌜ r ≡ blank ⌝ }
+{
+    Part {
+        a: 0,
+        b: 0,
+        kind: Kind::Wire,
+    }
+}
+
+// A refused part.
+fn no_part(answer: ReadAnswer) -> PartRead
+    ensures { λ r. ⌜ r .answer ≡ answer ⌝ }
+{
+    let part = filler();
+    PartRead { part, answer }
+}
+
+// A refused board: the refusal with the empty board.
+pub fn no_board(answer: ReadAnswer) -> BoardRead
+    ensures { λ r. ⌜ (r .board ≡ emptyBoard) × (r .answer ≡ answer) ⌝ }
+{
+    let board = board::empty();
+    BoardRead { board, answer }
+}
+
+// The kind of this number, up to 6, that carries a relay or button.
+fn kind_of(number: u32, name: u8) -> Kind
+    ensures { λ r. ⌜ r ≡ kindOf number name ⌝ }
+{
+    match number {
+        0 => Kind::Wire,
+        1 => Kind::Upper(name),
+        2 => Kind::Lower(name),
+        3 => Kind::Button(name),
+        4 => Kind::Regular(name),
+        5 => Kind::Drawing(name),
+        _ => Kind::Dropping(name),
+    }
+}
+
+// The terminal at a place, refused by 5 there unless it is below T.
+fn read_terminal(s: &[u8], at: usize, counts: Counts) -> Number
+    ensures { λ r. ⌜ toldNumber r ≡ wanted (terminalFine counts) 5 (now (s .entry)) at ⌝ }
+{
+    let limit = bits::wide(counts.terminals);
+    fields::read_below(s, at, limit, number::NO_SUCH_TERMINAL)
+}
+
+// The relay or button of a part of this kind number, refused by 7 unless it is there; a wire has none.
+fn read_name(s: &[u8], at: usize, counts: Counts, kind: u32) -> Number
+    ensures { λ r. ⌜ toldNumber r ≡ nameAt counts kind (now (s .entry)) at ⌝ }
+{
+    if kind == 0 {
+        return Number::Read(0, at);
+    }
+    let limit = bits::wide(board::limit(counts, kind));
+    fields::read_below(s, at, limit, number::NO_SUCH_NAME)
+}
+
+// The part at a place, after parts that gave these windings.
+fn read_part(s: &[u8], at: usize, counts: Counts, windings: Windings) -> PartRead
+    ensures { λ r. ⌜ toldPart r ≡ partAt counts windings (now (s .entry)) at ⌝ }
+{
+    let kind_read = fields::read_within(s, at, 0, LAST_KIND, number::NO_SUCH_KIND);
+    let Number::Read(kind_number, a_at) = kind_read else {
+        return no_part(fields::place_of(kind_read));
+    };
+    let a_read = read_terminal(s, a_at, counts);
+    let Number::Read(a, b_at) = a_read else {
+        return no_part(fields::place_of(a_read));
+    };
+    let b_read = read_terminal(s, b_at, counts);
+    let Number::Read(b, name_at) = b_read else {
+        return no_part(fields::place_of(b_read));
+    };
+    if a == b {
+        return no_part(fields::refuse(number::ENDS_EQUAL, b_at));
+    }
+    let name_read = read_name(s, name_at, counts, kind_number);
+    let Number::Read(name, next) = name_read else {
+        return no_part(fields::place_of(name_read));
+    };
+    let kind = kind_of(kind_number, name as u8);
+    if !windings.free(kind) {
+        return no_part(fields::refuse(number::WINDING_TAKEN, name_at));
+    }
+    let part = Part {
+        a: a as u8,
+        b: b as u8,
+        kind,
+    };
+    PartRead {
+        part,
+        answer: ReadAnswer::Read(next),
+    }
+}
+
+// The parts from a place on, and with them the board.
+pub fn read_parts(s: &[u8], start: usize, counts: Counts) -> BoardRead
+    requires { ⌜ counts .parts ≤ 256 ⌝ }
+    ensures { λ r. ⌜ toldRead r ≡ answered (boardFrom counts (partsAt counts (counts .parts) noWindings (now (s .entry)) start)) ⌝ }
+{
+    let blank = filler();
+    let mut parts = [blank; 256];
+    let mut windings = Windings::none();
+    let mut at = start;
+    let count = counts.parts;
+    let mut i = 0;
+    while i < count {
+        let part_read = read_part(s, at, counts, windings);
+        let answer = part_read.answer;
+        let ReadAnswer::Read(next) = answer else {
+            return no_board(answer);
+        };
+        let part = part_read.part;
+        let kind = part.kind;
+        windings = windings.with(kind);
+        parts[i] = part;
+        at = next;
+        i += 1;
+    }
+    if !windings.complete(counts.relays) {
+        return no_board(fields::refuse(number::WINDING_LACKING, at));
+    }
+    BoardRead {
+        board: Board { counts, parts },
+        answer: ReadAnswer::Read(at),
+    }
+}

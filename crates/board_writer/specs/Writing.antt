@@ -1,0 +1,27 @@
+-- Writing a board. Rule book: "Calls: 15, .., 16, those that apply"; "a refused write 0 bytes written. .. output buffer stay as lent"; "Written bytes begin the buffer; the rest stays."
+--     writing b out     what writing answers, the count of bytes or the refusal, and the buffer afterwards
+--     toldWritten       the answer's cases in the rule book's numbers
+use Prim.Native.Nat.{ℕ}
+use mathlib.Core.Bool.{cond}
+use mathlib.Core.List.{List, _++_}
+use lib.Dec.{leb}
+use lib.ListN.{length, drop}
+use Rattle.number.specs.Outcomes.{Outcome, given, refused}
+use Rattle.number.specs.Refusals.{brokenBoard, bufferTooShort}
+use Rattle.board.specs.declared.Board.{Board}
+use Rattle.board.specs.Rules.{boardFine}
+use Rattle.board_writer.specs.File.{boardBytes}
+use Rattle.board_writer.specs.declared.Written.{Written}
+use Rattle.board_writer.specs.declared.Written.the-variants.{Bytes, Refused}
+
+unfoldable pub writing : Board → List ℕ → Outcome ℕ × List ℕ
+writing b out =
+    cond (boardFine b)
+    (cond (leb (length (boardBytes b)) (length out))
+    (given (length (boardBytes b)), boardBytes b ++ drop (length (boardBytes b)) out)
+    (refused bufferTooShort 0, out))
+    (refused brokenBoard 0, out)
+
+abbrev pub toldWritten : Written → Outcome ℕ
+toldWritten (Bytes n) = given n
+toldWritten (Refused r) = refused (r .number) (r .place)
