@@ -2,12 +2,11 @@
 -- The crates above cite these, and nothing of the definitions' text. The last section is for the proofs of `fits`, `pressable`, `push` and `release`.
 -- Assumes nothing.
 use Prim.Native.Nat.{ℕ, _^_, _≤_, _<_}
-use mathlib.Core.Path.{_≡_, refl, sym, ap, ap₂, _∙_}
-use mathlib.Core.Bool.{Bool, true, false, not, cond, false≢true}
-use native.Mathlib.Omega.{arith}
+use mathlib.Core.Path.{_≡_, refl, sym, ap, _∙_}
+use mathlib.Core.Bool.{Bool, true, false, not, false≢true}
 use lib.Dec.{ltb}
 use borrow.Author.Tests.{ltb-true, lt-ltb, le-ltb}
-use Rattle.bits.specs.Sets.{member, including, excluding, within}
+use Rattle.bits.specs.Sets.{including, excluding, within}
 use Rattle.bits.proofs.SetLaws.{member-including-same, member-including-other, member-excluding-same, member-excluding-other, member-none, members-same, within-member, member-within, including-below, excluding-below}
 use Rattle.number.specs.declared.Refusal.{Refusal}
 use Rattle.number.specs.Outcomes.{Outcome, given, refused, unless, _>>_}
@@ -93,8 +92,9 @@ within-both c s drawn pushed = true-both drawn pushed
 
 pub state-fits-members : (c : Counts) (s : State) → stateFine c s ≡ true → MembersBelow c s
 state-fits-members c s fine = record {
-    drawn-below = λ r. within-member (s .drawn) (c .relays) r (both-within c s fine .0);
-    pushed-below = λ b. within-member (s .pushed) (c .buttons) b (both-within c s fine .1) }
+  drawn-below = λ r. within-member (s .drawn) (c .relays) r (both-within c s fine .0);
+  pushed-below = λ b. within-member (s .pushed) (c .buttons) b (both-within c s fine .1);
+}
 
 pub members-state-fits : (c : Counts) (s : State) → MembersBelow c s → stateFine c s ≡ true
 members-state-fits c s below =
@@ -159,11 +159,11 @@ left-refused s t u (refused k q) m p place e =
 
 pub push-refused : (b : Board) (s t : State) (n m p : ℕ) → pushing b s n ≡ (t, refused m p) → (t ≡ s) × (p ≡ 0)
 unfolding pushing
-push-refused b s t n m p = left-refused s (withPushed s n) t (pressable b s n (isPushed s n)) m p (pressable-place b s n (isPushed s n) m p)
+push-refused b s t n m p = left-refused s _ t _ m p (pressable-place b s n _ m p)
 
 pub release-refused : (b : Board) (s t : State) (n m p : ℕ) → releasing b s n ≡ (t, refused m p) → (t ≡ s) × (p ≡ 0)
 unfolding releasing
-release-refused b s t n m p = left-refused s (withReleased s n) t (pressable b s n (not (isPushed s n))) m p (pressable-place b s n (not (isPushed s n)) m p)
+release-refused b s t n m p = left-refused s _ t _ m p (pressable-place b s n _ m p)
 
 -- ---- the answer's cases are told apart
 

@@ -18,10 +18,10 @@ use Rattle.state.specs.States.{isPushed, withPushed, withReleased, state
 
 unfoldable pub pressable : Board → State → ℕ → Bool → Outcome (Unit {0})
 pressable b s n already = do
-    unless (boardFine b) brokenBoard 0
-    unless (stateFine (b .counts) s) stateBeyondBoard 0
-    unless (ltb n (b .counts .buttons)) noSuchName 0
-    unless (not already) alreadySo 0
+  unless (boardFine b) brokenBoard 0
+  unless (stateFine (b .counts) s) stateBeyondBoard 0
+  unless (ltb n (b .counts .buttons)) noSuchName 0
+  unless (not already) alreadySo 0
 
 unfoldable pub left : State → State → Outcome (Unit {0}) → State × Outcome (Unit {0})
 left s t (given u) = (t, given tt)

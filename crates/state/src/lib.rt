@@ -5,7 +5,6 @@ ghost use Prim.Native.Nat.{_<_};
 ghost use Rattle.number.specs.Outcomes.{refused};
 ghost use Rattle.state.specs.States.{freshState, withDrawn, withDropped, withPushed, withReleased, stateFine};
 ghost use Rattle.state.specs.Presses.{pushing, releasing, pressable, toldPress, toldPressed};
-
 use board::Board;
 use board::Counts;
 use number::ALREADY_SO;
@@ -144,10 +143,7 @@ pub fn push(board: Board, state: State, button: u32) -> Pressed
             answer,
         }
     } else {
-        Pressed {
-            state,
-            answer,
-        }
+        Pressed { state, answer }
     }
 }
 
@@ -163,9 +159,6 @@ pub fn release(board: Board, state: State, button: u32) -> Pressed
             answer,
         }
     } else {
-        Pressed {
-            state,
-            answer,
-        }
+        Pressed { state, answer }
     }
 }

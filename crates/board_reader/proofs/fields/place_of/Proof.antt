@@ -1,24 +1,23 @@
+-- `board_reader::fields::place_of` meets its contract: in each arm the number's answer is known.
 use borrow.Author.Needs.{needs}
 use Rattle.board_reader.proofs.fields.place_of.Statement.{statement}
 use Rattle.board_reader.proofs.fields.place_of.Tie as tie
-use Rattle.board_reader.proofs.fields.place_of.Reads as reads
-use Rattle.board_reader.proofs.fields.place_of.Lts as lts
+use mathlib.Core.Path.{sym, ap}
+use Rattle.number.specs.declared.Number.{Number}
+use Rattle.number.specs.Numbers.{toldNumber}
+use Rattle.board_reader.specs.Steps.{placeOf}
 
--- src/fields.rt:58:25
 enum-known-number : tie.Need-enum-known-number
 enum-known-number c = search needs
 
--- src/fields.rt:59:25
 enum-known-number-2 : tie.Need-enum-known-number-2
 enum-known-number-2 c = search needs
 
--- src/fields.rt:54:1
 returns : tie.Need-returns
-returns c = ?
+returns c = sym (ap (λ (x : Number). placeOf (toldNumber x)) (c .before .number .given .1))
 
--- src/fields.rt:54:1
 returns-2 : tie.Need-returns-2
-returns-2 c = ?
+returns-2 c = sym (ap (λ (x : Number). placeOf (toldNumber x)) (c .before .number2 .given .1))
 
 pub place-of-spec : {M : Type 1} → statement M
 place-of-spec = tie.close (tie.spec enum-known-number enum-known-number-2 returns returns-2)

@@ -1,33 +1,28 @@
+-- `board_reader::fields::read_below` meets its contract: the number's refusal leaves as it is, and a value is tested against the limit.
 use borrow.Author.Needs.{needs}
 use Rattle.board_reader.proofs.fields.read_below.Statement.{statement}
 use Rattle.board_reader.proofs.fields.read_below.Tie as tie
-use Rattle.board_reader.proofs.fields.read_below.Reads as reads
-use Rattle.board_reader.proofs.fields.read_below.Lts as lts
-use Rattle.number.proofs.read_number.Reads as read-number-reads
+use mathlib.Core.Path.{sym}
+use borrow.Author.Tests.{lt-ltb, le-ltb}
+use Rattle.board_reader.proofs.FieldLaws.{wanted-fails, wanted-passes, told-found, number-refused}
 
--- src/fields.rt:40:9
 read-number-requires : tie.Need-read-number-requires
 read-number-requires c κs = search needs
 
--- src/fields.rt:41:22
 enum-known-number : tie.Need-enum-known-number
 enum-known-number c = search needs
 
--- src/fields.rt:42:9
 enum-told : tie.Need-enum-told
 enum-told c = search needs
 
--- src/fields.rt:42:9
 returns : tie.Need-returns
-returns c = ?
+returns c = number-refused _ _ _ _ _ _ (c .enum-told .given .1) (c .before .before .read-number .ensures)
 
--- src/fields.rt:45:9
 returns-2 : tie.Need-returns-2
-returns-2 c = ?
+returns-2 c = sym (wanted-fails _ _ _ _ _ _ (told-found _ _ _ _ (c .before .before .number .given .1) (c .before .before .before .before .read-number .ensures)) (le-ltb _ _ (c .if1 .taken)))
 
--- src/fields.rt:37:1
 returns-3 : tie.Need-returns-3
-returns-3 c = ?
+returns-3 c = sym (wanted-passes _ _ _ _ _ _ (told-found _ _ _ _ (c .before .before .number .given .1) (c .before .before .before .before .read-number .ensures)) (lt-ltb _ _ (c .if1 .left)))
 
 pub read-below-spec : {M : Type 1} → statement M
 read-below-spec =

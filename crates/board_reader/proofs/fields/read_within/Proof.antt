@@ -1,37 +1,30 @@
+-- `board_reader::fields::read_within` meets its contract: the number's refusal leaves as it is, and a value is tested against both ends of its range.
 use borrow.Author.Needs.{needs}
 use Rattle.board_reader.proofs.fields.read_within.Statement.{statement}
 use Rattle.board_reader.proofs.fields.read_within.Tie as tie
-use Rattle.board_reader.proofs.fields.read_within.Reads as reads
-use Rattle.board_reader.proofs.fields.read_within.Lts as lts
-use Rattle.number.proofs.read_number.Reads as read-number-reads
+use mathlib.Core.Path.{sym}
+use Rattle.board_reader.proofs.FieldLaws.{wanted-fails, wanted-passes, told-found, number-refused, range-below, range-above, range-within}
 
--- src/fields.rt:17:9
 read-number-requires : tie.Need-read-number-requires
 read-number-requires c κs = search needs
 
--- src/fields.rt:18:22
 enum-known-number : tie.Need-enum-known-number
 enum-known-number c = search needs
 
--- src/fields.rt:19:9
 enum-told : tie.Need-enum-told
 enum-told c = search needs
 
--- src/fields.rt:19:9
 returns : tie.Need-returns
-returns c = ?
+returns c = number-refused _ _ _ _ _ _ (c .enum-told .given .1) (c .before .before .read-number .ensures)
 
--- src/fields.rt:22:9
 returns-2 : tie.Need-returns-2
-returns-2 c = ?
+returns-2 c = sym (wanted-fails _ _ _ _ _ _ (told-found _ _ _ _ (c .before .before .number .given .1) (c .before .before .before .before .read-number .ensures)) (range-below _ _ _ (c .if1 .taken)))
 
--- src/fields.rt:28:9
 returns-3 : tie.Need-returns-3
-returns-3 c = ?
+returns-3 c = sym (wanted-fails _ _ _ _ _ _ (told-found _ _ _ _ (c .before .before .before .number .given .1) (c .before .before .before .before .before .read-number .ensures)) (range-above _ _ _ (c .before .if1 .left) (c .if2 .taken)))
 
--- src/fields.rt:14:1
 returns-4 : tie.Need-returns-4
-returns-4 c = ?
+returns-4 c = sym (wanted-passes _ _ _ _ _ _ (told-found _ _ _ _ (c .before .before .before .number .given .1) (c .before .before .before .before .before .read-number .ensures)) (range-within _ _ _ (c .before .if1 .left) (c .if2 .left)))
 
 pub read-within-spec : {M : Type 1} → statement M
 read-within-spec =

@@ -1,35 +1,38 @@
+-- `board_reader::parts::kind_of` meets its contract: each arm's number picks the same case of `kindOf`.
 use Rattle.board_reader.proofs.parts.kind_of.Statement.{statement}
 use Rattle.board_reader.proofs.parts.kind_of.Tie as tie
-use Rattle.board_reader.proofs.parts.kind_of.Reads as reads
-use Rattle.board_reader.proofs.parts.kind_of.Lts as lts
+use Rattle.board.specs.Parts.{kindOf}
+use borrow.Author.Tests.{ne-eqb}
 
--- src/parts.rt:57:1
 returns : tie.Need-returns
-returns c = ?
+unfolding kindOf
+returns c = rw (c .match .keys1)
 
--- src/parts.rt:57:1
 returns-2 : tie.Need-returns-2
-returns-2 c = ?
+unfolding kindOf
+returns-2 c = rw (c .match .keys2)
 
--- src/parts.rt:57:1
 returns-3 : tie.Need-returns-3
-returns-3 c = ?
+unfolding kindOf
+returns-3 c = rw (c .match .keys3)
 
--- src/parts.rt:57:1
 returns-4 : tie.Need-returns-4
-returns-4 c = ?
+unfolding kindOf
+returns-4 c = rw (c .match .keys4)
 
--- src/parts.rt:57:1
 returns-5 : tie.Need-returns-5
-returns-5 c = ?
+unfolding kindOf
+returns-5 c = rw (c .match .keys5)
 
--- src/parts.rt:57:1
 returns-6 : tie.Need-returns-6
-returns-6 c = ?
+unfolding kindOf
+returns-6 c = rw (c .match .keys6)
 
--- src/parts.rt:57:1
 returns-7 : tie.Need-returns-7
-returns-7 c = ?
+unfolding kindOf
+returns-7 c =
+    let none = c .match .rest in
+    rw (ne-eqb _ 0 (none .0 .0 .0 .0 .0 .1), ne-eqb _ 1 (none .0 .0 .0 .0 .1), ne-eqb _ 2 (none .0 .0 .0 .1), ne-eqb _ 3 (none .0 .0 .1), ne-eqb _ 4 (none .0 .1), ne-eqb _ 5 (none .1))
 
 pub kind-of-spec : {M : Type 1} → statement M
 kind-of-spec =

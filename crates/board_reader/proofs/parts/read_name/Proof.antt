@@ -1,31 +1,24 @@
+-- `board_reader::parts::read_name` meets its contract: a wire has no name, and any other kind's is read below its limit.
 use borrow.Author.Needs.{needs}
 use Rattle.board_reader.proofs.parts.read_name.Statement.{statement}
 use Rattle.board_reader.proofs.parts.read_name.Tie as tie
-use Rattle.board_reader.proofs.parts.read_name.Reads as reads
-use Rattle.board_reader.proofs.parts.read_name.Lts as lts
-use Rattle.bits.proofs.wide.Reads as wide-reads
-use Rattle.board.proofs.limit.Reads as limit-reads
-use Rattle.board_reader.proofs.fields.read_below.Reads as read-below-reads
+use mathlib.Core.Path.{_∙_}
+use Rattle.board_reader.proofs.FieldLaws.{wanted-below, name-wire, name-carried}
 
--- src/parts.rt:84:9
 returns : tie.Need-returns
-returns c = ?
+returns c = name-wire _ _ _ _ (c .if1 .taken)
 
--- src/parts.rt:86:28
 limit-requires : tie.Need-limit-requires
 limit-requires c κs = search needs
 
--- src/parts.rt:86:9
 wide-requires : tie.Need-wide-requires
 wide-requires c κs = search needs
 
--- src/parts.rt:87:5
 read-below-requires : tie.Need-read-below-requires
 read-below-requires c κs = search needs
 
--- src/parts.rt:80:1
 returns-2 : tie.Need-returns-2
-returns-2 c = ?
+returns-2 c = c .read-below .ensures ∙ wanted-below 7 _ _ _ _ (c .before .wide .ensures .0 ∙ c .before .before .limit .ensures) ∙ name-carried _ _ _ _ (c .before .before .before .if1 .left)
 
 pub read-name-spec : {M : Type 1} → statement M
 read-name-spec =

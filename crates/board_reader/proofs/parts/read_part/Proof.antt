@@ -1,160 +1,124 @@
+-- `board_reader::parts::read_part` meets its contract: each field that is refused leaves at once, and what is left is the part of `partAt`.
 use borrow.Author.Needs.{needs}
 use Rattle.board_reader.proofs.parts.read_part.Statement.{statement}
 use Rattle.board_reader.proofs.parts.read_part.Tie as tie
-use Rattle.board_reader.proofs.parts.read_part.Reads as reads
-use Rattle.board_reader.proofs.parts.read_part.Lts as lts
-use Rattle.board.proofs.windings.Windings.free.Reads as free-reads
-use Rattle.board_reader.proofs.fields.place_of.Reads as place-of-reads
-use Rattle.board_reader.proofs.fields.read_within.Reads as read-within-reads
-use Rattle.board_reader.proofs.fields.refuse.Reads as refuse-reads
-use Rattle.board_reader.proofs.parts.kind_of.Reads as kind-of-reads
-use Rattle.board_reader.proofs.parts.no_part.Reads as no-part-reads
-use Rattle.board_reader.proofs.parts.read_name.Reads as read-name-reads
-use Rattle.board_reader.proofs.parts.read_terminal.Reads as read-terminal-reads
+use native.Mathlib.Omega.{arith}
+use mathlib.Core.Path.{sym, ap, _∙_}
+use borrow.Author.Tests.{not-true, not-false}
+use Rattle.board.specs.Windings.{windingFree}
+use Rattle.board_reader.proofs.FieldLaws.{told-found, told-refused}
+use Rattle.board_reader.proofs.PartLaws.{part-as, no-part-told, place-refused, kind-refused, a-refused, b-refused, ends-equal, name-refused, winding-refused, part-found, terminal-below, name-below}
+use mathlib.Core.Path.{refl}
 
--- src/parts.rt:94:9
 read-within-requires : tie.Need-read-within-requires
 read-within-requires c κs = search needs
 
--- src/parts.rt:95:22
 enum-known-kind-read : tie.Need-enum-known-kind-read
 enum-known-kind-read c = search needs
 
--- src/parts.rt:96:24
 enum-told : tie.Need-enum-told
 enum-told c = search needs
 
--- src/parts.rt:96:24
 place-of-requires : tie.Need-place-of-requires
 place-of-requires c κs = search needs
 
--- src/parts.rt:96:9
 no-part-requires : tie.Need-no-part-requires
 no-part-requires c κs = search needs
 
--- src/parts.rt:96:9
 returns : tie.Need-returns
-returns c = ?
+returns c = no-part-told (c .no-part .result) _ _ _ (c .no-part .ensures) (place-refused (c .before .place-of .result) _ _ (c .before .place-of .ensures) (c .before .before .enum-told .given .1)) ∙ kind-refused _ _ _ _ _ _ (told-refused _ _ _ (c .before .before .enum-told .given .1) (c .before .before .before .before .read-within .ensures))
 
--- src/parts.rt:98:9
 read-terminal-requires : tie.Need-read-terminal-requires
 read-terminal-requires c κs = search needs
 
--- src/parts.rt:99:22
 enum-known-a-read : tie.Need-enum-known-a-read
 enum-known-a-read c = search needs
 
--- src/parts.rt:100:24
 enum-told-2 : tie.Need-enum-told-2
 enum-told-2 c = search needs
 
--- src/parts.rt:100:24
 place-of-requires-2 : tie.Need-place-of-requires-2
 place-of-requires-2 c κs = search needs
 
--- src/parts.rt:100:9
 no-part-requires-2 : tie.Need-no-part-requires-2
 no-part-requires-2 c κs = search needs
 
--- src/parts.rt:100:9
 returns-2 : tie.Need-returns-2
-returns-2 c = ?
+returns-2 c = no-part-told (c .no-part2 .result) _ _ _ (c .no-part2 .ensures) (place-refused (c .before .place-of2 .result) _ _ (c .before .place-of2 .ensures) (c .before .before .enum-told2 .given .1)) ∙ a-refused _ _ _ _ _ _ (told-found _ _ _ _ (c .before .before .before .before .before .before .kind-read .given .1) (c .before .before .before .before .before .before .before .before .read-within .ensures)) _ _ (told-refused _ _ _ (c .before .before .enum-told2 .given .1) (c .before .before .before .before .read-terminal .ensures))
 
--- src/parts.rt:102:9
 read-terminal-requires-2 : tie.Need-read-terminal-requires-2
 read-terminal-requires-2 c κs = search needs
 
--- src/parts.rt:103:22
 enum-known-b-read : tie.Need-enum-known-b-read
 enum-known-b-read c = search needs
 
--- src/parts.rt:104:24
 enum-told-3 : tie.Need-enum-told-3
 enum-told-3 c = search needs
 
--- src/parts.rt:104:24
 place-of-requires-3 : tie.Need-place-of-requires-3
 place-of-requires-3 c κs = search needs
 
--- src/parts.rt:104:9
 no-part-requires-3 : tie.Need-no-part-requires-3
 no-part-requires-3 c κs = search needs
 
--- src/parts.rt:104:9
 returns-3 : tie.Need-returns-3
-returns-3 c = ?
+returns-3 c = no-part-told (c .no-part3 .result) _ _ _ (c .no-part3 .ensures) (place-refused (c .before .place-of3 .result) _ _ (c .before .place-of3 .ensures) (c .before .before .enum-told3 .given .1)) ∙ b-refused _ _ _ _ _ _ (told-found _ _ _ _ (c .before .before .before .before .before .before .before .before .before .before .kind-read .given .1) (c .before .before .before .before .before .before .before .before .before .before .before .before .read-within .ensures)) _ _ (told-found _ _ _ _ (c .before .before .before .before .before .before .a-read .given .1) (c .before .before .before .before .before .before .before .before .read-terminal .ensures)) _ _ (told-refused _ _ _ (c .before .before .enum-told3 .given .1) (c .before .before .before .before .read-terminal2 .ensures))
 
--- src/parts.rt:107:24
 refuse-requires : tie.Need-refuse-requires
 refuse-requires c κs = search needs
 
--- src/parts.rt:107:9
 no-part-requires-4 : tie.Need-no-part-requires-4
 no-part-requires-4 c κs = search needs
 
--- src/parts.rt:107:9
 returns-4 : tie.Need-returns-4
-returns-4 c = ?
+returns-4 c = no-part-told (c .no-part4 .result) _ _ _ (c .no-part4 .ensures) (c .before .refuse .ensures) ∙ ends-equal _ _ _ _ _ _ (told-found _ _ _ _ (c .before .before .before .before .before .before .before .before .before .before .before .before .kind-read .given .1) (c .before .before .before .before .before .before .before .before .before .before .before .before .before .before .read-within .ensures)) _ _ (told-found _ _ _ _ (c .before .before .before .before .before .before .before .before .a-read .given .1) (c .before .before .before .before .before .before .before .before .before .before .read-terminal .ensures)) _ _ (told-found _ _ _ _ (c .before .before .before .before .b-read .given .1) (c .before .before .before .before .before .before .read-terminal2 .ensures)) (c .before .before .if1 .taken)
 
--- src/parts.rt:109:9
 read-name-requires : tie.Need-read-name-requires
 read-name-requires c κs = search needs
 
--- src/parts.rt:110:22
 enum-known-name-read : tie.Need-enum-known-name-read
 enum-known-name-read c = search needs
 
--- src/parts.rt:111:24
 enum-told-4 : tie.Need-enum-told-4
 enum-told-4 c = search needs
 
--- src/parts.rt:111:24
 place-of-requires-4 : tie.Need-place-of-requires-4
 place-of-requires-4 c κs = search needs
 
--- src/parts.rt:111:9
 no-part-requires-5 : tie.Need-no-part-requires-5
 no-part-requires-5 c κs = search needs
 
--- src/parts.rt:111:9
 returns-5 : tie.Need-returns-5
-returns-5 c = ?
+returns-5 c = no-part-told (c .no-part5 .result) _ _ _ (c .no-part5 .ensures) (place-refused (c .before .place-of4 .result) _ _ (c .before .place-of4 .ensures) (c .before .before .enum-told4 .given .1)) ∙ name-refused _ _ _ _ _ _ (told-found _ _ _ _ (c .before .before .before .before .before .before .before .before .before .before .before .before .before .before .before .kind-read .given .1) (c .before .before .before .before .before .before .before .before .before .before .before .before .before .before .before .before .before .read-within .ensures)) _ _ (told-found _ _ _ _ (c .before .before .before .before .before .before .before .before .before .before .before .a-read .given .1) (c .before .before .before .before .before .before .before .before .before .before .before .before .before .read-terminal .ensures)) _ _ (told-found _ _ _ _ (c .before .before .before .before .before .before .before .b-read .given .1) (c .before .before .before .before .before .before .before .before .before .read-terminal2 .ensures)) (c .before .before .before .before .before .if1 .left) _ _ (told-refused _ _ _ (c .before .before .enum-told4 .given .1) (c .before .before .before .before .read-name .ensures))
 
--- src/parts.rt:113:37
 cast-kind-of : tie.Need-cast-kind-of
-cast-kind-of c = ?
+cast-kind-of c =
+    let below = c .before .before .before .before .before .before .before .before .before .before .before .before .before .before .before .before .before .before .good .1 .1 .0 .1 .1 in
+    record { fits = name-below _ _ _ _ _ _ 256 (told-found _ _ _ _ (c .before .name-read .given .1) (c .before .before .before .read-name .ensures)) (omega (arith, below .1 .0 .1)) (omega (arith, below .1 .1 .0 .1)) (omega arith) }
 
--- src/parts.rt:113:9
 kind-of-requires : tie.Need-kind-of-requires
 kind-of-requires c κs = search needs
 
--- src/parts.rt:114:9
 free-requires : tie.Need-free-requires
 free-requires c κs = search needs
 
--- src/parts.rt:115:24
 refuse-requires-2 : tie.Need-refuse-requires-2
 refuse-requires-2 c κs = search needs
 
--- src/parts.rt:115:9
 no-part-requires-6 : tie.Need-no-part-requires-6
 no-part-requires-6 c κs = search needs
 
--- src/parts.rt:115:9
 returns-6 : tie.Need-returns-6
-returns-6 c = ?
+returns-6 c = no-part-told (c .no-part6 .result) _ _ _ (c .no-part6 .ensures) (c .before .refuse2 .ensures) ∙ winding-refused _ _ _ _ _ _ (told-found _ _ _ _ (c .before .before .before .before .before .before .before .before .before .before .before .before .before .before .before .before .before .before .before .kind-read .given .1) (c .before .before .before .before .before .before .before .before .before .before .before .before .before .before .before .before .before .before .before .before .before .read-within .ensures)) _ _ (told-found _ _ _ _ (c .before .before .before .before .before .before .before .before .before .before .before .before .before .before .before .a-read .given .1) (c .before .before .before .before .before .before .before .before .before .before .before .before .before .before .before .before .before .read-terminal .ensures)) _ _ (told-found _ _ _ _ (c .before .before .before .before .before .before .before .before .before .before .before .b-read .given .1) (c .before .before .before .before .before .before .before .before .before .before .before .before .before .read-terminal2 .ensures)) (c .before .before .before .before .before .before .before .before .before .if1 .left) _ _ (told-found _ _ _ _ (c .before .before .before .before .before .before .name-read .given .1) (c .before .before .before .before .before .before .before .before .read-name .ensures)) (ap (windingFree _) (sym (c .before .before .before .before .kind-of .ensures)) ∙ sym (c .before .before .before .free .ensures) ∙ not-true _ (c .before .before .if2 .taken))
 
--- src/parts.rt:118:12
 cast-t25 : tie.Need-cast-t25
-cast-t25 c = ?
+cast-t25 c = omega (arith, terminal-below (c .before .before .before .before .before .before .before .before .before .before .before .before .before .before .before .before .before .before .before .before .before .args .counts) _ _ _ _ (told-found _ _ _ _ (c .before .before .before .before .before .before .before .before .before .before .before .before .before .a-read .given .1) (c .before .before .before .before .before .before .before .before .before .before .before .before .before .before .before .read-terminal .ensures)), c .before .before .before .before .before .before .before .before .before .before .before .before .before .before .before .before .before .before .before .before .before .good .1 .1 .0 .1 .1 .0 .1)
 
--- src/parts.rt:119:12
 cast-t28 : tie.Need-cast-t28
-cast-t28 c = ?
+cast-t28 c = omega (arith, terminal-below (c .before .before .before .before .before .before .before .before .before .before .before .before .before .before .before .before .before .before .before .before .before .args .counts) _ _ _ _ (told-found _ _ _ _ (c .before .before .before .before .before .before .before .before .before .b-read .given .1) (c .before .before .before .before .before .before .before .before .before .before .before .read-terminal2 .ensures)), c .before .before .before .before .before .before .before .before .before .before .before .before .before .before .before .before .before .before .before .before .before .good .1 .1 .0 .1 .1 .0 .1)
 
--- src/parts.rt:91:1
 returns-7 : tie.Need-returns-7
-returns-7 c = ?
+returns-7 c = part-as _ _ _ refl refl (c .before .before .kind-of .ensures) ∙ part-found _ _ _ _ _ _ (told-found _ _ _ _ (c .before .before .before .before .before .before .before .before .before .before .before .before .before .before .before .before .before .kind-read .given .1) (c .before .before .before .before .before .before .before .before .before .before .before .before .before .before .before .before .before .before .before .read-within .ensures)) _ _ (told-found _ _ _ _ (c .before .before .before .before .before .before .before .before .before .before .before .before .before .a-read .given .1) (c .before .before .before .before .before .before .before .before .before .before .before .before .before .before .before .read-terminal .ensures)) _ _ (told-found _ _ _ _ (c .before .before .before .before .before .before .before .before .before .b-read .given .1) (c .before .before .before .before .before .before .before .before .before .before .before .read-terminal2 .ensures)) (c .before .before .before .before .before .before .before .if1 .left) _ _ (told-found _ _ _ _ (c .before .before .before .before .name-read .given .1) (c .before .before .before .before .before .before .read-name .ensures)) (ap (windingFree _) (sym (c .before .before .kind-of .ensures)) ∙ sym (c .before .free .ensures) ∙ not-false _ (c .if2 .left))
 
 pub read-part-spec : {M : Type 1} → statement M
 read-part-spec =

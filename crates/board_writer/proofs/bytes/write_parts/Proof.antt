@@ -1,50 +1,46 @@
+-- `board_writer::bytes::write_parts` meets its contract. The invariant: the bytes of the parts from i on are to come.
 use Rattle.board_writer.proofs.bytes.write_parts.Statement.{statement}
 use Rattle.board_writer.proofs.bytes.write_parts.Tie as tie
-use Rattle.board_writer.proofs.bytes.write_parts.Reads as reads
-use Rattle.board_writer.proofs.bytes.write_parts.Lts as lts
-use Rattle.board_writer.proofs.bytes.write_part.Reads as write-part-reads
+use mathlib.Core.Path.{_≡_}
+use Prim.Native.Nat.{_-_, _≤_}
+use native.Mathlib.Omega.{arith}
+use lib.ListN.{length, take, drop}
+use Rattle.board_writer.specs.File.{partsBytes}
+use Rattle.board_writer.proofs.PieceLaws.{ToCome, to-come-all, to-come-length}
+use Rattle.board_writer.proofs.WriteLaws.{part-room, part-put, parts-done}
 
 abbrev Inv-loop : tie.InvT-loop
-Inv-loop count out₀ start parts at₀ i₀ out at i = ?
+Inv-loop count out₀ start parts at₀ i₀ out at i = (count ≤ 256) × (length parts ≡ 256) × (i ≤ count) × ToCome out₀ start (partsBytes (take count parts)) out at (partsBytes (drop i (take count parts)))
 
 abbrev μ-loop : tie.MeasureT-loop
-μ-loop count out₀ start parts at₀ i₀ out at i = ?
+μ-loop count out₀ start parts at₀ i₀ out at i = count - i
 
--- src/bytes.rt:59:5
 loop-holds : tie.Need-loop-holds Inv-loop μ-loop
-loop-holds c = ?
+loop-holds c = (c .before .pre .0, c .before .good .0 .1 .0 .1, omega arith, to-come-all (c .before .pre .1))
 
--- src/bytes.rt:60:20
 mul-part : tie.Need-mul-part Inv-loop μ-loop
-mul-part c = ?
+mul-part c = omega arith
 
--- src/bytes.rt:60:20
 array-copy-out-part : tie.Need-array-copy-out-part Inv-loop μ-loop
-array-copy-out-part c = ?
+array-copy-out-part c = omega arith
 
--- src/bytes.rt:61:9
 write-part-requires : tie.Need-write-part-requires Inv-loop μ-loop
-write-part-requires c κs = ?
+write-part-requires c κs = part-room (c .before .before .before .before .before .args .t1) (c .before .before .before .before .before .args .count) (c .before .before .before .loop .i) (omega arith) (c .before .before .before .loop .inv .3) (c .before .before .loop-test .taken)
 
--- src/bytes.rt:62:9
 add-i : tie.Need-add-i Inv-loop μ-loop
-add-i c = ?
+add-i c = omega arith
 
--- src/bytes.rt:59:5
 loop-less : tie.Need-loop-less Inv-loop μ-loop
-loop-less c = ?
+loop-less c = omega arith
 
--- src/bytes.rt:59:5
 loop-again : tie.Need-loop-again Inv-loop μ-loop
-loop-again c = ?
+loop-again c = (c .before .before .before .before .before .before .loop .inv .0, c .before .before .before .before .before .before .loop .inv .1, omega arith, part-put (c .before .before .before .before .before .before .before .before .args .t1) (c .before .before .before .before .before .before .before .before .args .count) (c .before .before .before .before .before .before .loop .i) (omega arith) (c .before .before .before .before .before .before .loop .inv .3) (c .before .before .before .before .before .loop-test .taken) (c .before .before .write-part .ensures))
 
--- src/bytes.rt:53:1
 same-length : tie.Need-same-length Inv-loop μ-loop
-same-length c = ?
+same-length c = to-come-length (c .before .loop .inv .3)
 
--- src/bytes.rt:53:1
 returns : tie.Need-returns Inv-loop μ-loop
-returns c = ?
+returns c = parts-done (c .before .before .before .args .t1) (c .before .before .before .args .count) (c .before .loop .i) (omega arith) (c .before .loop .inv .3) (c .loop-test .left)
 
 pub write-parts-spec : {M : Type 1} → statement M
 write-parts-spec =

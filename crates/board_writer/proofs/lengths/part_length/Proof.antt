@@ -1,68 +1,53 @@
+-- `board_writer::lengths::part_length` meets its contract: the lengths of the kind, both ends and the name, if any, add up.
 use borrow.Author.Needs.{needs}
 use Rattle.board_writer.proofs.lengths.part_length.Statement.{statement}
 use Rattle.board_writer.proofs.lengths.part_length.Tie as tie
-use Rattle.board_writer.proofs.lengths.part_length.Reads as reads
-use Rattle.board_writer.proofs.lengths.part_length.Lts as lts
-use Rattle.bits.proofs.wide.Reads as wide-reads
-use Rattle.board.proofs.Kind.name.Reads as name-reads
-use Rattle.board.proofs.Kind.number.Reads as number-reads
-use Rattle.number.proofs.number_length.Reads as number-length-reads
+use mathlib.Core.Path.{_∙_}
+use native.Mathlib.Omega.{arith}
+use Rattle.number.proofs.NumberLaws.{number-bytes-length}
+use Rattle.board_writer.proofs.LengthLaws.{wire-length-is, part-length-is}
 
--- src/lengths.rt:26:9
 number-requires : tie.Need-number-requires
 number-requires c κs = search needs
 
--- src/lengths.rt:27:35
 wide-requires : tie.Need-wide-requires
 wide-requires c κs = search needs
 
--- src/lengths.rt:27:9
 number-length-requires : tie.Need-number-length-requires
 number-length-requires c κs = search needs
 
--- src/lengths.rt:28:35
 wide-requires-2 : tie.Need-wide-requires-2
 wide-requires-2 c κs = search needs
 
--- src/lengths.rt:28:9
 number-length-requires-2 : tie.Need-number-length-requires-2
 number-length-requires-2 c κs = search needs
 
--- src/lengths.rt:29:16
 number-length-requires-3 : tie.Need-number-length-requires-3
 number-length-requires-3 c κs = search needs
 
--- src/lengths.rt:29:16
 add-ends : tie.Need-add-ends
-add-ends c = ?
+add-ends c = omega (arith, number-bytes-length (c .before .before .before .before .before .number .result), number-bytes-length (c .before .before .before .before .wide .result))
 
--- src/lengths.rt:29:16
 add-ends-2 : tie.Need-add-ends-2
-add-ends-2 c = ?
+add-ends-2 c = omega (arith, number-bytes-length (c .before .before .before .before .before .number .result), number-bytes-length (c .before .before .before .before .wide .result), number-bytes-length (c .before .before .wide2 .result))
 
--- src/lengths.rt:33:49
 name-requires : tie.Need-name-requires
 name-requires c κs = search needs
 
--- src/lengths.rt:33:38
 wide-requires-3 : tie.Need-wide-requires-3
 wide-requires-3 c κs = search needs
 
--- src/lengths.rt:33:16
 number-length-requires-4 : tie.Need-number-length-requires-4
 number-length-requires-4 c κs = search needs
 
--- src/lengths.rt:33:9
 add-result : tie.Need-add-result
-add-result c = ?
+add-result c = omega (arith, number-bytes-length (c .before .before .before .before .before .before .before .before .before .number .result), number-bytes-length (c .before .before .before .before .before .before .before .before .wide .result), number-bytes-length (c .before .before .before .before .before .before .wide2 .result), number-bytes-length (c .before .wide3 .result))
 
--- src/lengths.rt:22:1
 returns : tie.Need-returns
-returns c = ?
+returns c = wire-length-is (c .before .before .before .before .before .before .before .args .part) (c .before .before .before .before .before .before .number .ensures) (c .before .before .before .before .before .wide .ensures .0) (c .before .before .before .wide2 .ensures .0) (c .if1 .taken) (c .before .number-length3 .ensures) (c .before .before .before .before .number-length .ensures) (c .before .before .number-length2 .ensures)
 
--- src/lengths.rt:22:1
 returns-2 : tie.Need-returns-2
-returns-2 c = ?
+returns-2 c = part-length-is (c .before .before .before .before .before .before .before .before .before .before .args .part) (c .before .before .before .before .before .before .before .before .before .number .ensures) (c .before .before .before .before .before .before .before .before .wide .ensures .0) (c .before .before .before .before .before .before .wide2 .ensures .0) (c .before .wide3 .ensures .0 ∙ c .before .before .name .ensures) (c .before .before .before .if1 .left) (c .before .before .before .before .number-length3 .ensures) (c .before .before .before .before .before .before .before .number-length .ensures) (c .before .before .before .before .before .number-length2 .ensures) (c .number-length4 .ensures)
 
 pub part-length-spec : {M : Type 1} → statement M
 part-length-spec =

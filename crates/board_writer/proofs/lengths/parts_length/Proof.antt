@@ -1,50 +1,46 @@
+-- `board_writer::lengths::parts_length` meets its contract. The invariant: the total and the bytes of the parts from i on are all the bytes, and the total is at most 12 for each part passed.
 use Rattle.board_writer.proofs.lengths.parts_length.Statement.{statement}
 use Rattle.board_writer.proofs.lengths.parts_length.Tie as tie
-use Rattle.board_writer.proofs.lengths.parts_length.Reads as reads
-use Rattle.board_writer.proofs.lengths.parts_length.Lts as lts
-use Rattle.board_writer.proofs.lengths.part_length.Reads as part-length-reads
+use mathlib.Core.Path.{_≡_, refl}
+use Prim.Native.Nat.{_+_, _*_, _-_, _≤_}
+use native.Mathlib.Omega.{arith}
+use borrow.Author.Needs.{needs}
+use lib.ListN.{length, take, drop}
+use Rattle.board_writer.specs.File.{partsBytes}
+use Rattle.board_writer.proofs.LengthLaws.{parts-length-on, parts-length-end}
 
 abbrev Inv-loop : tie.InvT-loop
-Inv-loop count parts total₀ i₀ total i = ?
+Inv-loop count parts total₀ i₀ total i = (count ≤ 256) × (length parts ≡ 256) × (i ≤ count) × (total ≤ 12 * i) × (total + length (partsBytes (drop i (take count parts))) ≡ length (partsBytes (take count parts)))
 
 abbrev μ-loop : tie.MeasureT-loop
-μ-loop count parts total₀ i₀ total i = ?
+μ-loop count parts total₀ i₀ total i = count - i
 
--- src/lengths.rt:44:5
 loop-holds : tie.Need-loop-holds Inv-loop μ-loop
-loop-holds c = ?
+loop-holds c = (c .pre, c .good .0 .1 .0 .1, omega arith, omega arith, omega arith)
 
--- src/lengths.rt:45:20
 mul-part : tie.Need-mul-part Inv-loop μ-loop
-mul-part c = ?
+mul-part c = omega arith
 
--- src/lengths.rt:45:20
 array-copy-out-part : tie.Need-array-copy-out-part Inv-loop μ-loop
-array-copy-out-part c = ?
+array-copy-out-part c = omega arith
 
--- src/lengths.rt:46:18
 part-length-requires : tie.Need-part-length-requires Inv-loop μ-loop
-part-length-requires c κs = ?
+part-length-requires c κs = search needs
 
--- src/lengths.rt:46:9
 add-total : tie.Need-add-total Inv-loop μ-loop
-add-total c = ?
+add-total c = omega arith
 
--- src/lengths.rt:47:9
 add-i : tie.Need-add-i Inv-loop μ-loop
-add-i c = ?
+add-i c = omega arith
 
--- src/lengths.rt:44:5
 loop-less : tie.Need-loop-less Inv-loop μ-loop
-loop-less c = ?
+loop-less c = omega arith
 
--- src/lengths.rt:44:5
 loop-again : tie.Need-loop-again Inv-loop μ-loop
-loop-again c = ?
+loop-again c = (c .before .before .before .loop .inv .0, c .before .before .before .loop .inv .1, omega arith, omega arith, parts-length-on (c .before .before .before .before .args .t1) (c .before .before .before .before .args .count) (c .before .before .before .loop .i) (omega arith) (c .before .before .before .loop .total) (c .before .before .before .loop .inv .4) (c .before .before .loop-test .taken) (c .part-length .ensures .0))
 
--- src/lengths.rt:38:1
 returns : tie.Need-returns Inv-loop μ-loop
-returns c = ?
+returns c = (parts-length-end (c .before .before .args .t1) (c .before .before .args .count) (c .before .loop .i) (omega arith) (c .before .loop .total) (c .before .loop .inv .4) (c .loop-test .left), omega arith)
 
 pub parts-length-spec : {M : Type 1} → statement M
 parts-length-spec =

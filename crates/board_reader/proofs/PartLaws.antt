@@ -1,0 +1,87 @@
+-- Laws of `partAt`: each way out of reading one part as an outcome of the definition, and the bounds on what was found.
+use Prim.Native.Nat.{ℕ, _<_, _≤_}
+use mathlib.Core.Path.{_≡_, ap, _∙_}
+use mathlib.Core.Bool.{Bool, true, false, cond}
+use mathlib.Core.List.{List}
+use native.Mathlib.Omega.{arith}
+use lib.Dec.{ltb, eqb}
+use borrow.Author.Tests.{eq-eqb, ne-eqb, ltb-true}
+use Rattle.number.specs.Outcomes.{Outcome, given, refused, Found, found}
+use Rattle.number.specs.Refusals.{noSuchKind, noSuchTerminal, endsEqual, noSuchName, windingTaken}
+use Rattle.number.specs.Numbers.{toldNumber}
+use Rattle.number.specs.declared.Number.{Number}
+use Rattle.number.specs.declared.Number.the-variants.{Refused}
+use Rattle.number.specs.declared.Refusal.{Refusal}
+use Rattle.board.specs.declared.Counts.{Counts}
+use Rattle.board.specs.declared.Part.{Part}
+use Rattle.board.specs.declared.windings.Windings.{Windings}
+use Rattle.board.specs.Parts.{kindOf}
+use Rattle.board.specs.Windings.{windingFree}
+use Rattle.board.specs.Rules.{inRange, terminalFine, limitOf}
+use Rattle.board_reader.specs.Reading.{wanted, nameAt, partAt, toldAnswer}
+use Rattle.board_reader.specs.Steps.{foundAt, placeOf, toldPart}
+use Rattle.board_reader.specs.declared.ReadAnswer.{ReadAnswer}
+use Rattle.board_reader.specs.declared.parts.PartRead.{PartRead}
+use Rattle.number.proofs.NumberLaws.{found-value}
+use Rattle.board_reader.proofs.FieldLaws.{wanted-found}
+
+-- a refused part as the answer of its field or its rule
+pub no-part-told : (a : PartRead) (b : ReadAnswer) (k p : ℕ) → a .answer ≡ b → toldAnswer b ≡ refused k p → toldPart a ≡ refused k p
+no-part-told a b k p e h = ap (foundAt (a .part)) (ap toldAnswer e ∙ h)
+
+pub place-refused : (b : ReadAnswer) (x : Number) (r : Refusal) → toldAnswer b ≡ placeOf (toldNumber x) → x ≡ Refused r → toldAnswer b ≡ refused (r .number) (r .place)
+place-refused b x r h e = h ∙ ap (λ (y : Number). placeOf (toldNumber y)) e
+
+module _ (c : Counts) (w : Windings) (s : List ℕ) (at k p : ℕ) where
+  pub kind-refused : wanted (inRange 0 6) noSuchKind s at ≡ refused k p → refused k p ≡ partAt c w s at
+  unfolding partAt
+  kind-refused h = rw h
+
+module _ (c : Counts) (w : Windings) (s : List ℕ) (at kind ka : ℕ) (kinds : wanted (inRange 0 6) noSuchKind s at ≡ found kind ka) where
+  pub a-refused : (k p : ℕ) → wanted (terminalFine c) noSuchTerminal s ka ≡ refused k p → refused k p ≡ partAt c w s at
+  unfolding partAt
+  a-refused k p h = rw (kinds, h)
+
+  module _ (a ab : ℕ) (as-a : wanted (terminalFine c) noSuchTerminal s ka ≡ found a ab) where
+    pub b-refused : (k p : ℕ) → wanted (terminalFine c) noSuchTerminal s ab ≡ refused k p → refused k p ≡ partAt c w s at
+    unfolding partAt
+    b-refused k p h = rw (kinds, as-a, h)
+
+    module _ (b bn : ℕ) (as-b : wanted (terminalFine c) noSuchTerminal s ab ≡ found b bn) where
+      pub ends-equal : a ≡ b → refused endsEqual ab ≡ partAt c w s at
+      unfolding partAt
+      ends-equal e = rw (kinds, as-a, as-b, eq-eqb a b e)
+
+      module _ (apart : a ≡ b → ⊥) where
+        pub name-refused : (k p : ℕ) → nameAt c kind s bn ≡ refused k p → refused k p ≡ partAt c w s at
+        unfolding partAt
+        name-refused k p h = rw (kinds, as-a, as-b, ne-eqb a b apart, h)
+
+        module _ (name next : ℕ) (names : nameAt c kind s bn ≡ found name next) where
+          pub winding-refused : windingFree w (kindOf kind name) ≡ false → refused windingTaken bn ≡ partAt c w s at
+          unfolding partAt
+          winding-refused h = rw (kinds, as-a, as-b, ne-eqb a b apart, names, h)
+
+          pub part-found : windingFree w (kindOf kind name) ≡ true → found (record { a = a; b = b; kind = kindOf kind name }) next ≡ partAt c w s at
+          unfolding partAt
+          part-found h = rw (kinds, as-a, as-b, ne-eqb a b apart, names, h)
+
+-- a terminal that was found is below T
+pub terminal-below : (c : Counts) (s : List ℕ) (at v next : ℕ) → wanted (terminalFine c) noSuchTerminal s at ≡ found v next → v < c .terminals
+terminal-below c s at v next h = ltb-true v (c .terminals) (wanted-found (terminalFine c) noSuchTerminal s at v next h .0)
+
+-- a name that was found is below whatever R and B are at most
+pub name-below : (c : Counts) (k : ℕ) (s : List ℕ) (at v next m : ℕ) → nameAt c k s at ≡ found v next → c .relays ≤ m → c .buttons ≤ m → 0 < m → v < m
+unfolding nameAt
+name-below c k s at v next m h relays buttons some = go (eqb k 0) h
+  where
+    limit : (t : Bool) → cond t (c .buttons) (c .relays) ≤ m
+    limit true = buttons
+    limit false = relays
+    go : (t : Bool) → cond t (found 0 at) (wanted (λ n. ltb n (limitOf c k)) noSuchName s at) ≡ found v next → v < m
+    go true e = omega (arith, found-value 0 v at next e)
+    go false e = omega (arith, ltb-true v (limitOf c k) (wanted-found (λ n. ltb n (limitOf c k)) noSuchName s at v next e .0), limit (eqb k 3))
+
+-- the kind as it was made
+pub part-as : (p q : Part) (next : ℕ) → p .a ≡ q .a → p .b ≡ q .b → p .kind ≡ q .kind → found p next ≡ found q next
+part-as p q next a b kind = λ i. found (record { a = a i; b = b i; kind = kind i }) next

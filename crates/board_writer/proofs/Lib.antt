@@ -1,0 +1,4 @@
+pub mod PieceLaws
+pub mod LengthLaws
+pub mod WriteLaws
+pub mod FileLaws
