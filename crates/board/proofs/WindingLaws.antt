@@ -61,7 +61,7 @@ record Gain (w : Windings) (k : Kind) (r : ℕ) : Type 0 where
   pub drawing : worth (member (gained w k .drawing) r) ≡ worth (member (w .drawing) r) + worth (carries 5 r k)
   pub dropping : worth (member (gained w k .dropping) r) ≡ worth (member (w .dropping) r) + worth (carries 6 r k)
 
--- a kind that is free is carried by no relay that has this winding or is of the other sort
+-- what 8 says of a free kind's relay: it has this winding not yet, and is not of the other sort
 in-neither : (s t n : ℕ) → (not (member s n) && not (member t n)) ≡ true → (member s n ≡ false) × (member t n ≡ false)
 in-neither s t n free =
     let both = both-true (not (member s n)) (not (member t n)) free in

@@ -4,9 +4,9 @@ use mathlib.Core.Bool.{Bool, true, false, cond, _||_}
 use mathlib.Core.List.{List, [], _∷_, _++_}
 use Prim.Native.Nat.{ℕ, zero, suc, _+_, _*_, _≤_, _<_}
 use native.Mathlib.Omega.{arith}
-use borrow.Author.Tests.{ltb-true}
+use borrow.Author.Tests.{ltb-true, leb-true, leb-false}
 use lib.Dec.{eqb, ltb, leb}
-use lib.ListN.{length, take, drop, length-append, length-take}
+use lib.ListN.{length, drop, length-append, length-take}
 use Rattle.number.specs.declared.Refusal.{Refusal}
 use Rattle.number.specs.Outcomes.{Outcome, given, refused}
 use Rattle.number.specs.Refusals.{brokenBoard, bufferTooShort}
@@ -17,11 +17,11 @@ use Rattle.board.specs.declared.Part.{Part}
 use Rattle.board.specs.declared.Counts.{Counts}
 use Rattle.board.specs.declared.Board.{Board}
 use Rattle.board.specs.Parts.{kindNumber, nameOf, partsOf}
-use Rattle.board.specs.Rules.{limitOf, nameFine, partsFine, boardFine}
+use Rattle.board.specs.Rules.{limitOf, nameFine, boardFine}
 use Rattle.board.specs.Windings.{noWindings}
 use Rattle.board.specs.Sorts.{partFits, partsFit}
 use Rattle.board.specs.Same.{sameBoard}
-use Rattle.board.proofs.BoolLaws.{both-true}
+use Rattle.board.proofs.BoolLaws.{both-true, by-test}
 use Rattle.board.proofs.KindLaws.{kind-number-most}
 use Rattle.board.proofs.RuleLaws.{InRange, counts-in-range}
 use Rattle.board.proofs.WindingLaws.{fine-fit}
@@ -31,8 +31,9 @@ use Rattle.board_writer.specs.declared.Written.{Written}
 use Rattle.board_writer.specs.declared.Written.the-variants.{Bytes as Count, Refused}
 use Rattle.board_writer.specs.File.{nameBytes, partBytes, partsBytes, countsBytes, boardBytes, longestFile}
 use Rattle.board_writer.specs.Writing.{writing, toldWritten}
-use Rattle.board_writer.proofs.LengthLaws.{counts-bytes-length, part-bytes-length}
-use Rattle.board_writer.proofs.WriteLaws.{board-in-range, board-bytes-length, writing-with-room}
+use Rattle.board_writer.proofs.LengthLaws.{counts-bytes-sum, part-bytes-sum}
+use Rattle.board_writer.proofs.PieceLaws.{numbersBytes}
+use Rattle.board_writer.proofs.WriteLaws.{counts-numbers, part-numbers, namesOf, board-bytes-sum, writing-broken, writing-short, writing-with-room}
 
 -- ---- how long a file is
 
@@ -42,7 +43,7 @@ one-byte v small = ap length (number-bytes-one v small)
 
 counts-bytes-few : (c : Counts) → InRange c → length (countsBytes c) ≤ 5
 counts-bytes-few c fit =
-    omega (arith, counts-bytes-length c, one-byte (c .terminals) (omega (arith, fit)), one-byte (c .relays) (omega (arith, fit)), one-byte (c .buttons) (omega (arith, fit)), number-bytes-length-two (c .parts) (omega (arith, fit)))
+    omega (arith, counts-bytes-sum c, one-byte (c .terminals) (omega (arith, fit)), one-byte (c .relays) (omega (arith, fit)), one-byte (c .buttons) (omega (arith, fit)), number-bytes-length-two (c .parts) (omega (arith, fit)))
 
 limit-most : (c : Counts) (k : ℕ) → InRange c → limitOf c k ≤ 32
 limit-most c k fit = either (eqb k 3) (fit .most-buttons) (fit .most-relays)
@@ -59,23 +60,38 @@ name-bytes-few c k fit fine = few (eqb (kindNumber k) 0) (nameOf k) (limitOf c (
     few true name limit most fine = omega arith
     few false name limit most fine = omega (arith, one-byte name (omega (arith, ltb-true name limit fine)))
 
--- a part takes 3 to 12 bytes, and a fine one at most 4
-pub part-bytes-bounds : (p : Part) → (3 ≤ length (partBytes p)) × (length (partBytes p) ≤ 12)
-part-bytes-bounds p = ?
+name-bytes-most : (k : Kind) → length (nameBytes k) ≤ 3
+unfolding nameBytes
+name-bytes-most k = most (eqb (kindNumber k) 0) (nameOf k)
+  where
+    most : (wire : Bool) (name : ℕ) → length (cond wire [] (numberBytes name)) ≤ 3
+    most true name = omega arith
+    most false name = number-bytes-length name .1
 
-part-bytes-few : (c : Counts) (p : Part) → InRange c → partFits c p ≡ true → length (partBytes p) ≤ 4
+-- any part takes 3 to 12 bytes
+pub part-bytes-length : (p : Part) → (3 ≤ length (partBytes p)) × (length (partBytes p) ≤ 12)
+part-bytes-length p =
+    omega (arith, part-bytes-sum p, number-bytes-length (kindNumber (p .kind)), number-bytes-length (p .a), number-bytes-length (p .b), name-bytes-most (p .kind))
+
+part-fields : (c : Counts) (p : Part) → partFits c p ≡ true → (p .a < c .terminals) × (p .b < c .terminals) × (nameFine c (p .kind) ≡ true)
 unfolding partFits
-part-bytes-few c p fit fine =
+part-fields c p fine =
     let names = both-true _ _ fine in
     let ends = both-true _ _ (names .0) in
     let terminals = both-true _ _ (ends .0) in
+    (ltb-true (p .a) (c .terminals) (terminals .0), ltb-true (p .b) (c .terminals) (terminals .1), names .1)
+
+-- a part of a fine board takes at most 4
+pub part-bytes-few : (c : Counts) (p : Part) → InRange c → partFits c p ≡ true → length (partBytes p) ≤ 4
+part-bytes-few c p fit fine =
+    let fields = part-fields c p fine in
     omega (
       arith,
-      part-bytes-length p,
+      part-bytes-sum p,
       one-byte (kindNumber (p .kind)) (omega (arith, kind-number-most (p .kind))),
-      one-byte (p .a) (omega (arith, fit, ltb-true (p .a) (c .terminals) (terminals .0))),
-      one-byte (p .b) (omega (arith, fit, ltb-true (p .b) (c .terminals) (terminals .1))),
-      name-bytes-few c (p .kind) fit (names .1),
+      one-byte (p .a) (omega (arith, fit, fields)),
+      one-byte (p .b) (omega (arith, fit, fields)),
+      name-bytes-few c (p .kind) fit (fields .2),
     )
 
 parts-bytes-few : (c : Counts) (ps : List Part) → InRange c → partsFit c ps ≡ true → length (partsBytes ps) ≤ 4 * length ps
@@ -92,7 +108,7 @@ board-file-bound b fine =
     let fit : InRange (b .counts) = counts-in-range (b .counts) (both .0) in
     omega (
       arith,
-      board-bytes-length b,
+      board-bytes-sum b,
       counts-bytes-few (b .counts) fit,
       parts-bytes-few (b .counts) (partsOf b) fit (fine-fit (b .counts) noWindings (partsOf b) (both .1)),
       length-take (b .counts .parts) (b .parts),
@@ -107,3 +123,115 @@ bytes-append (x ∷ xs) ys h k (suc i) = bytes-append xs ys (λ j. h (suc j)) k 
 
 bytes-none : Bytes []
 bytes-none i = omega arith
+
+numbers-are-bytes : (vs : List ℕ) → Bytes (numbersBytes vs)
+unfolding numbersBytes
+numbers-are-bytes [] = bytes-none
+numbers-are-bytes (v ∷ vs) = bytes-append (numberBytes v) (numbersBytes vs) (number-bytes-are-bytes v) (numbers-are-bytes vs)
+
+parts-bytes-are-bytes : (ps : List Part) → Bytes (partsBytes ps)
+unfolding partsBytes
+parts-bytes-are-bytes [] = bytes-none
+parts-bytes-are-bytes (p ∷ ps) = bytes-append (partBytes p) (partsBytes ps) (rw (part-numbers p) (numbers-are-bytes (kindNumber (p .kind) ∷ p .a ∷ p .b ∷ namesOf (p .kind)))) (parts-bytes-are-bytes ps)
+
+pub file-bytes-are-bytes : (b : Board) → Bytes (boardBytes b)
+unfolding boardBytes
+file-bytes-are-bytes b = bytes-append (countsBytes (b .counts)) (partsBytes (partsOf b)) (rw (counts-numbers (b .counts)) (numbers-are-bytes (b .counts .terminals ∷ b .counts .relays ∷ b .counts .buttons ∷ b .counts .parts ∷ []))) (parts-bytes-are-bytes (partsOf b))
+
+-- ---- what a write answers
+
+-- a buffer of LONGEST_FILE bytes is never refused
+pub write-fits : (b : Board) (out : List ℕ) → boardFine b ≡ true → longestFile ≤ length out
+    → _≡_ {A = Outcome ℕ × List ℕ} (writing b out) (given (length (boardBytes b)), boardBytes b ++ drop (length (boardBytes b)) out)
+write-fits b out fine room = writing-with-room b out fine (omega (arith, board-file-bound b fine))
+
+abbrev Answered : Type 0
+Answered = Outcome ℕ × List ℕ
+
+abbrev answer : Answered → Outcome ℕ
+answer x = x .0
+
+abbrev buffer : Answered → List ℕ
+buffer x = x .1
+
+given-never-refused : (m n p : ℕ) (l l′ : List ℕ) → _≡_ {A = Answered} (given m, l) (refused n p, l′) → ⊥
+given-never-refused m n p l l′ is =
+    let same : given m ≡ refused n p = ap answer is in
+    let z : _≡_ {A = ℕ} 0 1 = cc in omega arith
+
+given-alike : (m n : ℕ) (l l′ : List ℕ) → _≡_ {A = Answered} (given m, l) (given n, l′) → (n ≡ m) × (l′ ≡ l)
+given-alike m n l l′ is =
+    let same : given m ≡ given n = ap answer is in
+    (cc, sym (ap buffer is))
+
+refused-alike : (m n p : ℕ) (l l′ : List ℕ) → _≡_ {A = Answered} (refused m 0, l) (refused n p, l′) → (l′ ≡ l) × (p ≡ 0)
+refused-alike m n p l l′ is =
+    let same : answer (refused m 0, l) ≡ answer (refused n p, l′) = ap answer is in
+    (sym (ap buffer is), cc)
+
+-- a write ends in one of three ways
+module _ (b : Board) (out : List ℕ) {A : Type 0} where
+  by-end :
+      (_≡_ {A = Answered} (refused brokenBoard 0, out) (writing b out) → A)
+      → (_≡_ {A = Answered} (refused bufferTooShort 0, out) (writing b out) → A)
+      → (boardFine b ≡ true → length (boardBytes b) ≤ length out → A)
+      → A
+  by-end broken short whole =
+      by-test (boardFine b)
+      (λ fine. by-test (leb (length (boardBytes b)) (length out))
+      (λ fits. whole fine (leb-true (length (boardBytes b)) (length out) fits))
+      (λ off. short (writing-short b out fine refl refl (omega (arith, board-bytes-sum b, leb-false (length (boardBytes b)) (length out) off)) refl)))
+      (λ off. broken (writing-broken b out off refl))
+
+-- a refused write leaves the buffer as it was, and its place is 0
+pub writing-refused : (b : Board) (out : List ℕ) (n p : ℕ) (out′ : List ℕ) → _≡_ {A = Outcome ℕ × List ℕ} (writing b out) (refused n p, out′) → (out′ ≡ out) × (p ≡ 0)
+writing-refused b out n p out′ is =
+    by-end b out
+    (λ broken. refused-alike brokenBoard n p out out′ (broken ∙ is))
+    (λ short. refused-alike bufferTooShort n p out out′ (short ∙ is))
+    (λ fine room. absurd (given-never-refused (length (boardBytes b)) n p (boardBytes b ++ drop (length (boardBytes b)) out) out′ (sym (writing-with-room b out fine room) ∙ is)))
+
+-- what is known of a write that gave the count n
+pub record WasWritten (b : Board) (out : List ℕ) (n : ℕ) (out′ : List ℕ) : Type 0 where
+  pub fine : boardFine b ≡ true
+  pub count : n ≡ length (boardBytes b)
+  pub room : n ≤ length out
+  pub begins : out′ ≡ boardBytes b ++ drop n out
+
+pub writing-given : (b : Board) (out : List ℕ) (n : ℕ) (out′ : List ℕ) → _≡_ {A = Outcome ℕ × List ℕ} (writing b out) (given n, out′) → WasWritten b out n out′
+writing-given b out n out′ is =
+    by-end b out
+    (λ broken. absurd (given-never-refused n brokenBoard 0 out′ out (sym (broken ∙ is))))
+    (λ short. absurd (given-never-refused n bufferTooShort 0 out′ out (sym (short ∙ is))))
+    (λ fine room. written fine room (given-alike (length (boardBytes b)) n (boardBytes b ++ drop (length (boardBytes b)) out) out′ (sym (writing-with-room b out fine room) ∙ is)))
+  where
+    written : boardFine b ≡ true → length (boardBytes b) ≤ length out → (n ≡ length (boardBytes b)) × (out′ ≡ boardBytes b ++ drop (length (boardBytes b)) out) → WasWritten b out n out′
+    written fine room same = record {
+      fine = fine;
+      count = same .0;
+      room = omega arith;
+      begins = same .1 ∙ ap (λ (k : ℕ). boardBytes b ++ drop k out) (sym (same .0));
+    }
+
+-- ---- an answer is known by what it tells
+
+refusal-once : (r q : Refusal) → r .number ≡ q .number → r .place ≡ q .place → r ≡ q
+refusal-once r q e f = λ i. record { number = e i; place = f i }
+
+pub told-written-once : (x y : Written) → toldWritten x ≡ toldWritten y → x ≡ y
+told-written-once (Count n) (Count m) e = cc
+told-written-once (Count n) (Refused q) e = cc
+told-written-once (Refused r) (Count m) e = cc
+told-written-once (Refused r) (Refused q) e = ap Refused (refusal-once r q (cc) (cc))
+
+-- ---- boards that are the same are written the same
+
+pub same-boards-bytes : (x y : Board) → sameBoard x y ≡ true → boardBytes x ≡ boardBytes y
+unfolding boardBytes
+same-boards-bytes x y same =
+    let equal = same-board-equal x y same in
+    ap₂ (λ (c : Counts) (ps : List Part). countsBytes c ++ partsBytes ps) (equal .0) (equal .1)
+
+pub same-boards-written : (x y : Board) (out : List ℕ) → sameBoard x y ≡ true → writing x out ≡ writing y out
+unfolding writing
+same-boards-written x y out same = rw (same-boards-fine x y same, same-boards-bytes x y same)

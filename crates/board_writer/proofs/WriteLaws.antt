@@ -22,12 +22,12 @@ use Rattle.board.specs.declared.Part.{Part}
 use Rattle.board.specs.declared.Counts.{Counts}
 use Rattle.board.specs.declared.Board.{Board}
 use Rattle.board.specs.Parts.{kindNumber, nameOf, blank, partsOf}
-use Rattle.board.specs.Rules.{countsFine, boardFine}
+use Rattle.board.specs.Rules.{boardFine}
 use Rattle.board.proofs.BoolLaws.{both-true}
 use Rattle.board.proofs.RuleLaws.{InRange, counts-in-range}
 use Rattle.board_writer.specs.File.{nameBytes, partBytes, partsBytes, countsBytes, boardBytes}
 use Rattle.board_writer.specs.Writing.{writing}
-use Rattle.board_writer.proofs.LengthLaws.{wire-name, other-name, parts-from, parts-past}
+use Rattle.board_writer.proofs.LengthLaws.{parts-from, parts-past}
 use Rattle.board_writer.proofs.PieceLaws.{ToCome, to-come-room, to-come-next, to-come-none, NumbersToCome, numbersBytes, numbers-all}
 
 -- ---- a number that has room: `write_number` writes it, and does not refuse it
@@ -50,10 +50,9 @@ module _ (v : ℕ) (out : List ℕ) (at : ℕ) {out′ : List ℕ} (x : NumberWr
 
 -- ---- counts and parts as rows of numbers
 
-pub counts-to-come : (c : Counts) (out : List ℕ) → length (countsBytes c) ≤ length out
-    → NumbersToCome out 0 (countsBytes c) out 0 (c .terminals ∷ c .relays ∷ c .buttons ∷ c .parts ∷ [])
+pub counts-numbers : (c : Counts) → countsBytes c ≡ numbersBytes (c .terminals ∷ c .relays ∷ c .buttons ∷ c .parts ∷ [])
 unfolding countsBytes numbersBytes
-counts-to-come c out room = numbers-all (c .terminals ∷ c .relays ∷ c .buttons ∷ c .parts ∷ []) (simp append-nil) (omega arith)
+counts-numbers c = simp append-nil
 
 -- the name that a kind carries, if any
 pub namesOf : Kind → List ℕ
@@ -67,10 +66,18 @@ names-bytes k = bytes-by (eqb (kindNumber k) 0) (nameOf k)
     bytes-by true name = refl
     bytes-by false name = sym (append-nil (numberBytes name))
 
+pub part-numbers : (p : Part) → partBytes p ≡ numbersBytes (kindNumber (p .kind) ∷ p .a ∷ p .b ∷ namesOf (p .kind))
+unfolding partBytes numbersBytes
+part-numbers p = rw names-bytes
+
+-- where they have room, all of them are to come
+pub counts-to-come : (c : Counts) (out : List ℕ) → length (countsBytes c) ≤ length out
+    → NumbersToCome out 0 (countsBytes c) out 0 (c .terminals ∷ c .relays ∷ c .buttons ∷ c .parts ∷ [])
+counts-to-come c out room = numbers-all (c .terminals ∷ c .relays ∷ c .buttons ∷ c .parts ∷ []) (counts-numbers c) (omega arith)
+
 pub part-to-come : (p : Part) (out : List ℕ) (at : ℕ) → at + length (partBytes p) ≤ length out
     → NumbersToCome out at (partBytes p) out at (kindNumber (p .kind) ∷ p .a ∷ p .b ∷ namesOf (p .kind))
-unfolding partBytes numbersBytes
-part-to-come p out at room = numbers-all (kindNumber (p .kind) ∷ p .a ∷ p .b ∷ namesOf (p .kind)) (rw names-bytes) room
+part-to-come p out at room = numbers-all (kindNumber (p .kind) ∷ p .a ∷ p .b ∷ namesOf (p .kind)) (part-numbers p) room
 
 module _ {before all out : List ℕ} {start at : ℕ} (k : Kind) (t : NumbersToCome before start all out at (namesOf k)) where
   -- a wire carries no name, and any other kind one
@@ -101,9 +108,9 @@ pub board-in-range : (b : Board) → boardFine b ≡ true → InRange (b .counts
 unfolding boardFine
 board-in-range b fine = counts-in-range (b .counts) (both-true _ _ fine .0)
 
-pub board-bytes-length : (b : Board) → length (boardBytes b) ≡ length (countsBytes (b .counts)) + length (partsBytes (partsOf b))
+pub board-bytes-sum : (b : Board) → length (boardBytes b) ≡ length (countsBytes (b .counts)) + length (partsBytes (partsOf b))
 unfolding boardBytes
-board-bytes-length b = length-append (countsBytes (b .counts)) (partsBytes (partsOf b))
+board-bytes-sum b = length-append (countsBytes (b .counts)) (partsBytes (partsOf b))
 
 -- the counts at the start and the parts behind them are the file at the start
 board-stored : (b : Board) (out : List ℕ) → length (boardBytes b) ≤ length out
@@ -127,7 +134,7 @@ module _ (b : Board) (out : List ℕ) {m n : ℕ} (fine : boardFine b ≡ true) 
   pub writing-short : {told : Outcome ℕ} → length out < m + n → told ≡ refused bufferTooShort 0 → _≡_ {A = Outcome ℕ × List ℕ} (told, out) (writing b out)
   unfolding writing
   writing-short short is =
-      let less : length out < length (boardBytes b) = omega (arith, board-bytes-length b) in
+      let less : length out < length (boardBytes b) = omega (arith, board-bytes-sum b) in
       simp (fine, lt-leb (length (boardBytes b)) (length out) less, is)
 
   module _ (room : m + n ≤ length out) where
@@ -142,7 +149,7 @@ module _ (b : Board) (out : List ℕ) {m n : ℕ} (fine : boardFine b ≡ true) 
       -- with both written the buffer holds the file
       pub writing-whole : {out″ : List ℕ} → out″ ≡ sets out′ at (partsBytes (partsOf b)) → _≡_ {A = Outcome ℕ × List ℕ} (given (m + n), out″) (writing b out)
       writing-whole {out″} whole =
-          let size : length (boardBytes b) ≡ m + n = omega (arith, board-bytes-length b) in
+          let size : length (boardBytes b) ≡ m + n = omega (arith, board-bytes-sum b) in
           let room-all : length (boardBytes b) ≤ length out = omega arith in
           let stored : out″ ≡ boardBytes b ++ drop (length (boardBytes b)) out =
           whole ∙ ap₂ (λ (o : List ℕ) (i : ℕ). sets o i (partsBytes (partsOf b))) (put .1) (put .0) ∙ board-stored b out room-all in

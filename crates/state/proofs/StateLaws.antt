@@ -1,5 +1,5 @@
 -- The laws of a board's state and of the calls that push and release a button: what each method changes and leaves, which states a board takes, and what a refused call gives back.
--- The crates above cite these, and nothing of the definitions' text. The last section is for the proofs of `fits`, `pressable`, `push` and `release`.
+-- The crates above cite these, and nothing of the definitions' text. The last section is for the proofs of `fits`, `pressable`, `settle`, `push` and `release`.
 -- Assumes nothing.
 use Prim.Native.Nat.{ℕ, _^_, _≤_, _<_}
 use mathlib.Core.Path.{_≡_, refl, sym, ap, _∙_}
@@ -180,7 +180,7 @@ pub told-pressed-once : (x y : Pressed) → toldPressed x ≡ toldPressed y → 
 told-pressed-once x y e =
     λ i. record { state = e i .0; answer = told-press-once (x .answer) (y .answer) (λ j. e j .1) i }
 
--- ---- what the code's tests say, for the proofs of `fits`, `pressable`, `push` and `release`
+-- ---- what the code's tests say, for the proofs of `fits`, `pressable`, `settle`, `push` and `release`
 
 module _ (c : Counts) (s : State) (r : ℕ) (relays : r ≡ c .relays) where
   pub state-relay-beyond : within (s .drawn) r ≡ false → false ≡ stateFine c s
@@ -212,12 +212,16 @@ module _ (b : Board) (s : State) (n : ℕ) (already : Bool) where
   unfolding pressable
   press-done board state below so = simp (board, state, lt-ltb n (b .counts .buttons) below, so)
 
--- an answer a that was asked for with the test p, where the definition asks for q: the state u of the code is the call's t if it is done, else the state as given
-module _ (b : Board) (s t : State) (n : ℕ) (a : Press) (p q : Bool) (same : p ≡ q) (told : toldPress a ≡ pressable b s n p) where
-  pub pressed-done : (u : State) → u ≡ t → a ≡ Done → toldPressed (record { state = u; answer = a }) ≡ left s t (pressable b s n q)
+-- an answer a with the state that it leaves: the state t if it is done, else the state s as given
+module _ (s t : State) (a : Press) where
+  pub settle-done : a ≡ Done → toldPressed (record { state = t; answer = a }) ≡ left s t (toldPress a)
   unfolding left
-  pressed-done u made done = rw (← same, ← told, done, made)
+  settle-done done = rw done
 
-  pub pressed-refused : (r : Refusal) → a ≡ Refused r → toldPressed (record { state = s; answer = a }) ≡ left s t (pressable b s n q)
+  pub settle-refused : (r : Refusal) → a ≡ Refused r → toldPressed (record { state = s; answer = a }) ≡ left s t (toldPress a)
   unfolding left
-  pressed-refused r is = rw (← same, ← told, is)
+  settle-refused r is = rw is
+
+-- an outcome o that was asked for with the test p and the state u that was made, where the definition has the test q and the state t
+pub left-asked : (b : Board) (s t u : State) (n : ℕ) (o : Outcome (Unit {0})) (p q : Bool) → u ≡ t → o ≡ pressable b s n p → p ≡ q → left s u o ≡ left s t (pressable b s n q)
+left-asked b s t u n o p q made told same = rw (made, told, same)

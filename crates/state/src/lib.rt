@@ -1,10 +1,9 @@
 // The state of a board: which relays are drawn and which buttons are pushed, its methods, and the calls that push and
 // release a button.
 ghost use mathlib.Core.Path.{_≡_};
-ghost use Prim.Native.Nat.{_<_};
 ghost use Rattle.number.specs.Outcomes.{refused};
 ghost use Rattle.state.specs.States.{freshState, withDrawn, withDropped, withPushed, withReleased, stateFine};
-ghost use Rattle.state.specs.Presses.{pushing, releasing, pressable, toldPress, toldPressed};
+ghost use Rattle.state.specs.Presses.{pushing, releasing, pressable, left, toldPress, toldPressed};
 use board::Board;
 use board::Counts;
 use number::ALREADY_SO;
@@ -90,18 +89,12 @@ impl State {
     pub fn fits(self, counts: Counts) -> bool
         ensures { λ r. ⌜ r ≡ stateFine counts self ⌝ }
     {
-        if bits::all_below(self.drawn, wide(counts.relays)) {
-            bits::all_below(self.pushed, wide(counts.buttons))
+        if bits::all_below(self.drawn, bits::wide(counts.relays)) {
+            bits::all_below(self.pushed, bits::wide(counts.buttons))
         } else {
             false
         }
     }
-}
-
-fn wide(x: u8) -> u32
-    ensures { λ r. ⌜ (r ≡ x) × (r < 256) ⌝ }
-{
-    x as u32
 }
 
 // What stands against setting a button that is, or is not, so already: 15, 14, 7 or 12, or nothing.
@@ -115,7 +108,7 @@ fn pressable(board: Board, state: State, button: u32, already: bool) -> Press
     if !state.fits(counts) {
         return refuse(STATE_BEYOND_BOARD);
     }
-    if wide(counts.buttons) <= button {
+    if bits::wide(counts.buttons) <= button {
         return refuse(NO_SUCH_NAME);
     }
     if already {
@@ -131,13 +124,11 @@ fn refuse(number: u32) -> Press
     Press::Refused(Refusal { number, place: 0 })
 }
 
-// Pushes a button.
-pub fn push(board: Board, state: State, button: u32) -> Pressed
-    ensures { λ r. ⌜ toldPressed r ≡ pushing board state button ⌝ }
+// The answer with the state that it leaves: the next where it is done, else the state as given.
+fn settle(state: State, next: State, answer: Press) -> Pressed
+    ensures { λ r. ⌜ toldPressed r ≡ left state next (toldPress answer) ⌝ }
 {
-    let answer = pressable(board, state, button, bits::has(state.pushed, button));
     if let Press::Done = answer {
-        let next = state.push(button);
         Pressed {
             state: next,
             answer,
@@ -147,18 +138,20 @@ pub fn push(board: Board, state: State, button: u32) -> Pressed
     }
 }
 
+// Pushes a button.
+pub fn push(board: Board, state: State, button: u32) -> Pressed
+    ensures { λ r. ⌜ toldPressed r ≡ pushing board state button ⌝ }
+{
+    let answer = pressable(board, state, button, bits::has(state.pushed, button));
+    let next = state.push(button);
+    settle(state, next, answer)
+}
+
 // Releases a button.
 pub fn release(board: Board, state: State, button: u32) -> Pressed
     ensures { λ r. ⌜ toldPressed r ≡ releasing board state button ⌝ }
 {
     let answer = pressable(board, state, button, !bits::has(state.pushed, button));
-    if let Press::Done = answer {
-        let next = state.release(button);
-        Pressed {
-            state: next,
-            answer,
-        }
-    } else {
-        Pressed { state, answer }
-    }
+    let next = state.release(button);
+    settle(state, next, answer)
 }

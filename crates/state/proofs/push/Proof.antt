@@ -1,9 +1,10 @@
--- `state::push` meets its contract: done, the state is that of `withPushed`; refused, it is the state as given.
+-- `state::push` meets its contract: `settle` is given the answer of `pressable` and the state of `withPushed`.
 use borrow.Author.Needs.{needs}
 use Rattle.state.proofs.push.Statement.{statement}
 use Rattle.state.proofs.push.Tie as tie
+use mathlib.Core.Path.{_∙_}
 use Rattle.state.specs.Presses.{pushing}
-use Rattle.state.proofs.StateLaws.{pressed-done, pressed-refused}
+use Rattle.state.proofs.StateLaws.{left-asked}
 
 has-requires : tie.Need-has-requires
 has-requires c κs = search needs
@@ -11,31 +12,16 @@ has-requires c κs = search needs
 pressable-requires : tie.Need-pressable-requires
 pressable-requires c κs = search needs
 
-enum-told : tie.Need-enum-told
-enum-told c = search needs
-
 push-requires : tie.Need-push-requires
 push-requires c κs = search needs
 
-enum-told-2 : tie.Need-enum-told-2
-enum-told-2 c = search needs
+settle-requires : tie.Need-settle-requires
+settle-requires c κs = search needs
 
 returns : tie.Need-returns
 unfolding pushing
-returns c = pressed-done _ _ _ _ _ _ _ (c .before .before .before .before .has .ensures) (c .before .before .before .pressable .ensures) _ (c .push .ensures) (c .before .enum-told .given .1)
-
-returns-2 : tie.Need-returns-2
-unfolding pushing
-returns-2 c = pressed-refused _ _ _ _ _ _ _ (c .before .before .before .has .ensures) (c .before .before .pressable .ensures) _ (c .enum-told2 .given .1)
+returns c = c .settle .ensures ∙ left-asked _ _ _ _ _ _ _ _ (c .before .push .ensures) (c .before .before .pressable .ensures) (c .before .before .before .has .ensures)
 
 pub push-spec : {M : Type 1} → statement M
 push-spec =
-    tie.close
-    (tie.spec
-    has-requires
-    pressable-requires
-    enum-told
-    push-requires
-    enum-told-2
-    returns
-    returns-2)
+    tie.close (tie.spec has-requires pressable-requires push-requires settle-requires returns)

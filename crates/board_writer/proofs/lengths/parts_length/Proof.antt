@@ -1,7 +1,7 @@
 -- `board_writer::lengths::parts_length` meets its contract. The invariant: the total and the bytes of the parts from i on are all the bytes, and the total is at most 12 for each part passed.
 use Rattle.board_writer.proofs.lengths.parts_length.Statement.{statement}
 use Rattle.board_writer.proofs.lengths.parts_length.Tie as tie
-use mathlib.Core.Path.{_≡_, refl}
+use mathlib.Core.Path.{_≡_}
 use Prim.Native.Nat.{_+_, _*_, _-_, _≤_}
 use native.Mathlib.Omega.{arith}
 use borrow.Author.Needs.{needs}

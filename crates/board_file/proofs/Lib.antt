@@ -1,0 +1,4 @@
+pub mod StandLaws
+pub mod PartTrip
+pub mod BoardTrip
+pub mod RoundTrips

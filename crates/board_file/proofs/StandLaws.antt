@@ -1,0 +1,51 @@
+-- Bytes that stand at a place of an input, up to another place, and numbers read there. One after the other: if xs stand up to a place and ys from there on, xs ++ ys stand, and the other way round. Both directions of the round trip go by these.
+use Prim.Native.Nat.{ℕ, _+_, _≤_}
+use native.Mathlib.Omega.{arith}
+use mathlib.Core.Path.{_≡_, refl, sym, ap, _∙_}
+use mathlib.Core.Bool.{Bool, true}
+use mathlib.Core.List.{List, [], _∷_, _++_, append-assoc}
+use lib.ListN.{length, drop, length-append}
+use Rattle.number.specs.Outcomes.{found}
+use Rattle.number.specs.Numbers.{numberAt, numberBytes, largest, Bytes}
+use Rattle.number.proofs.Buffers.{drop-past}
+use Rattle.number.proofs.NumberLaws.{read-written, written-read}
+use Rattle.board_reader.specs.Reading.{wanted}
+use Rattle.board_reader.proofs.FieldLaws.{wanted-passes, wanted-found}
+
+pub record Stands (s : List ℕ) (at next : ℕ) (bytes : List ℕ) : Type 0 where
+  pub there : drop at s ≡ bytes ++ drop next s
+  pub ends : next ≡ at + length bytes
+
+pub stands-none : (s : List ℕ) (at : ℕ) → Stands s at at []
+stands-none s at = record { there = refl; ends = omega arith }
+
+pub stands-append : (s : List ℕ) (at mid next : ℕ) (xs ys : List ℕ) → Stands s at mid xs → Stands s mid next ys → Stands s at next (xs ++ ys)
+stands-append s at mid next xs ys first second =
+    record {
+      there = first .there ∙ ap (λ (l : List ℕ). xs ++ l) (second .there) ∙ sym (append-assoc xs ys (drop next s));
+      ends = omega (arith, first .ends, second .ends, length-append xs ys) }
+
+module _ (s : List ℕ) (at next : ℕ) (xs ys : List ℕ) (both : Stands s at next (xs ++ ys)) where
+  past : drop (at + length xs) s ≡ ys ++ drop next s
+  past = drop-past s at xs (ys ++ drop next s) (both .there ∙ append-assoc xs ys (drop next s))
+
+  pub stands-first : Stands s at (at + length xs) xs
+  stands-first = record { there = both .there ∙ append-assoc xs ys (drop next s) ∙ ap (λ (l : List ℕ). xs ++ l) (sym past); ends = refl }
+
+  pub stands-second : Stands s (at + length xs) next ys
+  stands-second = record { there = past; ends = omega (arith, both .ends, length-append xs ys) }
+
+-- a number's bytes read back to the number, and a number that was read stands there by its bytes
+pub number-reads : (s : List ℕ) (at next v : ℕ) → v ≤ largest → Stands s at next (numberBytes v) → numberAt s at ≡ found v next
+number-reads s at next v small here = read-written s at v (drop next s) small (here .there) ∙ ap (found v) (sym (here .ends))
+
+pub number-stands : (s : List ℕ) (at next v : ℕ) → Bytes s → numberAt s at ≡ found v next → Stands s at next (numberBytes v)
+number-stands s at next v bytes h =
+    let read = written-read s at v next bytes h in
+    record { there = read .bytes; ends = read .next }
+
+pub wanted-reads : (ok : ℕ → Bool) (n : ℕ) (s : List ℕ) (at next v : ℕ) → v ≤ largest → ok v ≡ true → Stands s at next (numberBytes v) → wanted ok n s at ≡ found v next
+wanted-reads ok n s at next v small fine here = wanted-passes ok n s at v next (number-reads s at next v small here) fine
+
+pub wanted-stands : (ok : ℕ → Bool) (n : ℕ) (s : List ℕ) (at next v : ℕ) → Bytes s → wanted ok n s at ≡ found v next → Stands s at next (numberBytes v)
+wanted-stands ok n s at next v bytes h = number-stands s at next v bytes (wanted-found ok n s at v next h .1)

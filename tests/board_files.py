@@ -1,0 +1,149 @@
+"""Compares the proved program `board_cases` with the model of the rule book in tests/lib/board_model.py on thousands of
+generated cases: good files, damaged files, cut files, random bytes, boards handed in with and without a fault. Seeded, so
+each run tries the same cases; `python3 tests/board_files.py SEED BATCHES` tries others. Needs target/bin/board_cases, which
+`rt check board_cases` builds."""
+import os
+import platform
+import random
+import subprocess
+import sys
+
+sys.path.insert(0, os.path.join(os.path.dirname(os.path.abspath(__file__)), "lib"))
+import board_model as model
+import repository
+
+TEXT_ROOM = 32_700  # the program takes texts of fewer than 32,768 bytes
+ODD_VALUES = [0, 1, 2, 3, 4, 5, 6, 7, 32, 33, 64, 65, 127, 128, 255, 256, 257, 16383, 16384, 2097151]
+LONG_FORMS = [[0], [128, 0], [255, 127], [128, 128, 0]]
+
+
+def command():
+    """How the program, which is for x86-64, is started on this machine."""
+    program = repository.path("target", "bin", "board_cases")
+    if platform.machine() == "x86_64":
+        return [program]
+    kit = os.environ.get("RATTLE_HOME") or os.path.dirname(os.path.dirname(os.path.realpath(subprocess.check_output(["sh", "-c", "command -v rt"], text=True).strip())))
+    tools = os.path.join(kit, "on", platform.machine(), "toolchain")
+    return [os.path.join(tools, "bin", "qemu-x86_64"), os.path.join(tools, "lib", "ld-linux-x86-64.so.2"), "--library-path", os.path.join(tools, "lib"), program]
+
+
+def board(dice):
+    """The counts T, R, B and the parts of some fine board."""
+    terminals = dice.choice([2, 3, 4, 5, 64, dice.randint(2, 64)])
+    relays, buttons = dice.choice([0, 1, 1, 2, 3, 32]), dice.choice([0, 1, 2, 32])
+
+    def ends():
+        a, b = dice.randrange(terminals), dice.randrange(terminals - 1)
+        return [a, b + (b >= a)]
+
+    parts = []
+    for relay in range(relays):
+        for kind in dice.choice([[4], [5, 6]]):
+            parts.append([kind] + ends() + [relay])
+    for _ in range(dice.choice([0, 1, 2, 5, 70])):
+        kind = dice.choice([0, 1, 2, 3])
+        names = buttons if kind == model.BUTTON else relays
+        parts.append([kind] + ends() + [dice.randrange(names)] if kind and names else [0] + ends())
+    dice.shuffle(parts)
+    return [terminals, relays, buttons], parts
+
+
+def file_case(dice):
+    """The bytes of a board file, good or damaged in one of several ways."""
+    counts, parts = board(dice)
+    numbers = counts + [len(parts)] + [number for part in parts for number in part]
+    damage = dice.random()
+    if damage < 0.4:
+        at = dice.randrange(len(numbers))
+        numbers[at] = dice.choice(ODD_VALUES + [numbers[at] + 1])
+    data = []
+    for number in numbers:
+        form = model.number_bytes(number)
+        if dice.random() < 0.005:
+            form[-1] |= 128
+            form += dice.choice(LONG_FORMS)
+        data += form
+    if damage > 0.8:
+        data = data[: dice.randrange(len(data) + 1)]
+    elif damage > 0.7:
+        data += [dice.randrange(256) for _ in range(3)]
+    elif damage > 0.6:
+        data[dice.randrange(len(data))] = dice.randrange(256)
+    elif damage > 0.58:
+        data = [dice.randrange(256) for _ in range(dice.randrange(40))]
+    return bytes(data)
+
+
+def handed_case(dice):
+    """The bytes of a board handed in: T R B, C as two bytes, then kind a b name of each part."""
+    counts, parts = board(dice)
+    data = counts + [len(parts) % 256, len(parts) // 256]
+    for part in parts:
+        data += (part + [dice.randrange(256)])[:4]
+    if dice.random() < 0.6:
+        data[dice.randrange(len(data))] = dice.choice([0, 1, 2, 3, 4, 5, 6, 7, 32, 33, 64, 65, 128, 255])
+    if dice.random() < 0.1:
+        data = data[: dice.randrange(len(data) + 1)]
+    return bytes(data)
+
+
+def handed_answer(data):
+    """What the calls answer on a board handed in: it is fine exactly if its file reads."""
+    data = data + bytes(5 + 4 * 256)
+    counts, parts = list(data[:3]), data[3] + 256 * data[4]
+    size = None
+    if parts <= 256:
+        rows = [[min(data[at], model.LAST_KIND)] + list(data[at + 1 : at + (4 if data[at] else 3)]) for at in range(5, 5 + 4 * parts, 4)]
+        written = model.file_of(counts, rows)
+        try:
+            size = model.read(written)
+        except model.Refused:
+            pass
+    if size is None:
+        return " ".join(f"{call} refused 15" for call in ("write", "push", "again", "release", "absent", "beyond"))
+    if counts[2]:
+        return f"write {size} push done again refused 12 release refused 12 absent refused 7 beyond refused 14"
+    return f"write {size} push refused 7 again refused 7 release refused 7 absent refused 7 beyond refused 14"
+
+
+def answer(ending, data):
+    if ending == "!":
+        return handed_answer(data)
+    try:
+        next_place = model.read(data)
+    except model.Refused as refusal:
+        return "refused %d %d" % refusal.args
+    return f"read {next_place} wrote {next_place} same" if ending == ">" else "short refused 16 kept"
+
+
+def batch(dice):
+    """One text of cases, with the line that each should print."""
+    text, lines = "", []
+    while True:
+        ending = dice.choice(">>>!!?")
+        data = handed_case(dice) if ending == "!" else file_case(dice)
+        case = data.hex() + ending + "\n"
+        if len(text) + len(case) > TEXT_ROOM:
+            return text, lines
+        text += case
+        lines.append(answer(ending, data))
+
+
+def compare(seed, batches):
+    dice, checks, words = random.Random(seed), [], set()
+    for _ in range(batches):
+        text, wanted = batch(dice)
+        told = subprocess.run(command(), input=text.encode(), capture_output=True).stdout.decode().split("\n")[:-1]
+        told += [None] * (len(wanted) - len(told))
+        for case, want, got in zip(text.split("\n"), wanted, told):
+            checks.append((f"{case}: wanted {want}, got {got}", want == got))
+            words.update(f"refused {number}" for number in want.split("refused ")[1:] for number in [number.split()[0]])
+            words.add(want.split()[0])
+    for word in ["read", "write", "short"] + [f"refused {number}" for number in (1, 2, 3, 4, 5, 6, 7, 8, 9, 12, 14, 15, 16)]:
+        checks.append((f"some case answers {word}", word in words))
+    return checks
+
+
+if __name__ == "__main__":
+    seed, batches = (int(word) for word in sys.argv[1:3]) if len(sys.argv) > 2 else (1, 60)
+    sys.exit(repository.report(compare(seed, batches)))

@@ -1,0 +1,93 @@
+"""The rule book's board files once more, in plain Python, written from ../shared/documents/01-scope.md alone: reading with
+its refusals, the rules on a board, and what the calls answer. It is compared with the proved program, so it shares nothing
+with the crates."""
+
+RANGES = ((2, 64), (0, 32), (0, 32), (0, 256))  # T, R, B, C
+BUTTON = 3
+LAST_KIND = 6
+
+
+class Refused(Exception):
+    """A refusal by number and place."""
+
+
+def number_at(data, at):
+    """The number at a place: its value and the next place."""
+    value = 0
+    for group in range(3):
+        if at + group >= len(data):
+            raise Refused(1, len(data))
+        byte = data[at + group]
+        value |= (byte & 127) << (7 * group)
+        if byte < 128:
+            if group > 0 and byte == 0:
+                raise Refused(2, at)
+            return value, at + group + 1
+    raise Refused(2, at)
+
+
+def number_bytes(value):
+    """A number in its shortest form."""
+    groups = []
+    while value >= 128:
+        groups.append(128 | value % 128)
+        value //= 128
+    return groups + [value]
+
+
+def winding_taken(windings, kind):
+    """Whether a relay with these windings has this one already, or is of the other sort."""
+    return kind in windings or (kind == 4 and bool(windings)) or (kind > 4 and 4 in windings)
+
+
+def read(data):
+    """The place just after the board at the start of the data."""
+    if len(data) > 65536:
+        raise Refused(10, 0)
+    at, counts = 0, []
+    for least, most in RANGES:
+        value, after = number_at(data, at)
+        if not least <= value <= most:
+            raise Refused(3, at)
+        counts.append(value)
+        at = after
+    terminals, relays, buttons, parts = counts
+    windings = [set() for _ in range(relays)]
+    for _ in range(parts):
+        at = read_part(data, at, terminals, relays, buttons, windings)
+    if any(own not in ({4}, {5, 6}) for own in windings):
+        raise Refused(9, at)
+    return at
+
+
+def read_part(data, at, terminals, relays, buttons, windings):
+    """The place just after the part at a place."""
+    kind, after = number_at(data, at)
+    if kind > LAST_KIND:
+        raise Refused(4, at)
+    ends = []
+    for _ in range(2):
+        at = after
+        end, after = number_at(data, at)
+        if end >= terminals:
+            raise Refused(5, at)
+        ends.append(end)
+    if ends[0] == ends[1]:
+        raise Refused(6, at)
+    if kind == 0:
+        return after
+    at = after
+    name, after = number_at(data, at)
+    if name >= (buttons if kind == BUTTON else relays):
+        raise Refused(7, at)
+    if kind >= 4:
+        if winding_taken(windings[name], kind):
+            raise Refused(8, at)
+        windings[name].add(kind)
+    return after
+
+
+def file_of(counts, parts):
+    """The file of a board: T, R, B, C, then each part's numbers."""
+    numbers = list(counts) + [len(parts)] + [number for part in parts for number in part]
+    return bytes(byte for number in numbers for byte in number_bytes(number))
