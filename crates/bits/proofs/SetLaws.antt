@@ -12,6 +12,7 @@ use lib.Dec.{ltb, eqb}
 use lib.Arith.{bin-ind}
 use lib.Pow.{pow-pos, pow-mono, split, shr-shr, shl-exact}
 use lib.Bits.{bitAnd, bitOr, bitXor, and-block, and-mask, and-zero-r, or-add-and, xor-add-and}
+use Rattle.bits.proofs.BoolLaws.{by-test}
 use Rattle.bits.specs.Sets.{member, including, excluding, within}
 
 -- ---- a member by its bit, lowest first
@@ -39,12 +40,6 @@ set-member s n h = eq-eqb (s / 2 ^ n % 2) 1 h
 clear-member : (s n : ℕ) → s / 2 ^ n % 2 ≡ 0 → member s n ≡ false
 unfolding member
 clear-member s n h = ne-eqb (s / 2 ^ n % 2) 1 (λ e. omega arith)
-
--- ---- either way of a test
-
-by-test : {A : Type 0} (b : Bool) → (b ≡ true → A) → (b ≡ false → A) → A
-by-test true f g = f refl
-by-test false f g = g refl
 
 -- ---- the bit's worth, 2 ^ n, added where the bit is clear and taken where it is set
 
@@ -201,12 +196,6 @@ member-including-below s k n m small fits set =
 
 pub including-below : (s k n : ℕ) → s < 2 ^ k → n < k → including s n < 2 ^ k
 including-below s k n small fits = below-member (including s n) k (λ m set. member-including-below s k n m small fits set)
-
-pub including-below-room : (s n : ℕ) → s < 2 ^ 64 → including s n < 2 ^ 64
-including-below-room s n small =
-    by-test (ltb n 64)
-    (λ fits. including-below s 64 n small (ltb-true n 64 fits))
-    (λ beyond. omega (arith, including-beyond s n (ltb-false n 64 beyond)))
 
 pub excluding-below : (s k n : ℕ) → s < 2 ^ k → excluding s n < 2 ^ k
 excluding-below s k n small =

@@ -7,7 +7,7 @@ use mathlib.Core.Path.{_≡_, refl, ap, _∙_}
 use mathlib.Core.Bool.{Bool, true, false, and-false}
 use mathlib.Core.Logic.{⊎-elim}
 use Rattle.board.specs.Windings.{every}
-use Rattle.board.proofs.BoolLaws.{both-true, true-both}
+use Rattle.bits.proofs.BoolLaws.{both-true, true-both}
 
 pub every-none : (f : ℕ → Bool) → every 0 f ≡ true
 unfolding every

@@ -1,4 +1,3 @@
-pub mod BoolLaws
 pub mod EveryLaws
 pub mod FirstLaws
 pub mod RuleLaws

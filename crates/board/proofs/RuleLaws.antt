@@ -11,10 +11,10 @@ use Rattle.board.specs.declared.Part.{Part}
 use Rattle.board.specs.declared.Board.{Board}
 use Rattle.board.specs.declared.windings.Windings.{Windings}
 use Rattle.board.specs.Parts.{blank, partsOf}
-use Rattle.board.specs.Rules.{countsFine, inRange, partFine, partsFine, nameFine, boardFine}
+use Rattle.board.specs.Rules.{countsFine, inRange, partFits, partFine, partsFine, nameFine, boardFine}
 use Rattle.board.specs.Windings.{noWindings, windingFree, gained, complete}
 use Rattle.board.proofs.FirstLaws.{first-from, first-past}
-use Rattle.board.proofs.BoolLaws.{both-true}
+use Rattle.bits.proofs.BoolLaws.{both-true}
 
 -- what `countsFine` says, as bounds
 pub record InRange (c : Counts) : Type 0 where
@@ -46,23 +46,23 @@ counts-fine-last c low high relays buttons = simp (leb·zero, le-leb 2 (c .termi
 -- a part's tests one after the other: the first that fails decides, and the last is the answer
 module _ (c : Counts) (w : Windings) (p : Part) where
   pub part-a-off : c .terminals ≤ p .a → false ≡ partFine c w p
-  unfolding partFine
+  unfolding partFine partFits
   part-a-off a = simp (le-ltb (p .a) (c .terminals) a)
 
   pub part-b-off : p .a < c .terminals → c .terminals ≤ p .b → false ≡ partFine c w p
-  unfolding partFine
+  unfolding partFine partFits
   part-b-off a b = simp (lt-ltb (p .a) (c .terminals) a, le-ltb (p .b) (c .terminals) b)
 
   pub part-ends-equal : p .a < c .terminals → p .b < c .terminals → p .a ≡ p .b → false ≡ partFine c w p
-  unfolding partFine
+  unfolding partFine partFits
   part-ends-equal a b e = simp (lt-ltb (p .a) (c .terminals) a, lt-ltb (p .b) (c .terminals) b, eq-eqb (p .a) (p .b) e)
 
   pub part-name-off : p .a < c .terminals → p .b < c .terminals → (p .a ≡ p .b → ⊥) → nameFine c (p .kind) ≡ false → false ≡ partFine c w p
-  unfolding partFine
+  unfolding partFine partFits
   part-name-off a b e n = simp (lt-ltb (p .a) (c .terminals) a, lt-ltb (p .b) (c .terminals) b, ne-eqb (p .a) (p .b) e, n)
 
   pub part-fine-last : p .a < c .terminals → p .b < c .terminals → (p .a ≡ p .b → ⊥) → nameFine c (p .kind) ≡ true → windingFree w (p .kind) ≡ partFine c w p
-  unfolding partFine
+  unfolding partFine partFits
   part-fine-last a b e n = simp (lt-ltb (p .a) (c .terminals) a, lt-ltb (p .b) (c .terminals) b, ne-eqb (p .a) (p .b) e, n)
 
   parts-off : (ps : List Part) → partFine c w p ≡ false → partsFine c w (p ∷ ps) ≡ false

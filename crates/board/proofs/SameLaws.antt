@@ -15,7 +15,7 @@ use Rattle.board.specs.declared.Board.{Board}
 use Rattle.board.specs.Parts.{kindNumber, nameOf, kindOf, partsOf, blank}
 use Rattle.board.specs.Same.{sameCounts, sameKind, samePart, sameParts, sameBoard}
 use Rattle.board.proofs.FirstLaws.{first-from, first-past}
-use Rattle.board.proofs.BoolLaws.{both-true, true-both}
+use Rattle.bits.proofs.BoolLaws.{both-true, true-both}
 use Rattle.board.proofs.KindLaws.{kind-of-parts}
 
 module _ (x y : Counts) where

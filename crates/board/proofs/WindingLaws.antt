@@ -15,10 +15,10 @@ use Rattle.board.specs.declared.Kind.the-variants.{Wire, Upper, Lower, B
 use Rattle.board.specs.declared.Part.{Part}
 use Rattle.board.specs.declared.Counts.{Counts}
 use Rattle.board.specs.declared.windings.Windings.{Windings}
-use Rattle.board.specs.Rules.{terminalFine, endsFine, nameFine, partFine, partsFine}
+use Rattle.board.specs.Rules.{terminalFine, endsFine, nameFine, partFits, partFine, partsFine}
 use Rattle.board.specs.Windings.{noWindings, windingFree, gained, wound, complete}
-use Rattle.board.specs.Sorts.{carries, windingsOf, Wound, partFits, partsFit}
-use Rattle.board.proofs.BoolLaws.{both-true, true-both, by-test}
+use Rattle.board.specs.Sorts.{carries, windingsOf, Wound, partsFit}
+use Rattle.bits.proofs.BoolLaws.{both-true, true-both, by-test}
 use Rattle.board.proofs.EveryLaws.{every-below, below-every}
 
 -- ---- a test as a number
@@ -178,11 +178,11 @@ module _ (c : Counts) (w : Windings) (ps : List Part) where
 -- ---- along the parts
 
 part-splits : (c : Counts) (w : Windings) (p : Part) → partFine c w p ≡ true → (partFits c p ≡ true) × (windingFree w (p .kind) ≡ true)
-unfolding partFine partFits
+unfolding partFine
 part-splits c w p fine = both-true (partFits c p) (windingFree w (p .kind)) fine
 
 splits-part : (c : Counts) (w : Windings) (p : Part) → partFits c p ≡ true → windingFree w (p .kind) ≡ true → partFine c w p ≡ true
-unfolding partFine partFits
+unfolding partFine
 splits-part c w p fits free = true-both fits free
 
 part-named : (c : Counts) (p : Part) → partFits c p ≡ true → nameFine c (p .kind) ≡ true

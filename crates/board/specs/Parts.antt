@@ -14,7 +14,6 @@ use lib.ListN.{length, take, replicate}
 use Rattle.board.specs.declared.Kind.{Kind}
 use Rattle.board.specs.declared.Kind.the-variants.{Wire, Upper, Lower, Button, Regular, Drawing, Dropping}
 use Rattle.board.specs.declared.Part.{Part}
-use Rattle.board.specs.declared.Counts.{Counts}
 use Rattle.board.specs.declared.Board.{Board}
 
 abbrev pub kindNumber : Kind → ℕ

@@ -4,6 +4,7 @@
 --     endsFine a b        6: the two ends differ
 --     limitOf c k         what a name carried by a kind of number k must be below: B for a button (kind 3), else R
 --     nameFine c k        7: the relay or button that kind k carries is below R or B
+--     partFits c p        5 to 7 of the part p, on which no other part bears
 --     partFine c w p      5 to 8 of the part p after parts that gave the windings w
 --     partsFine c w ps    5 to 9: the rest of the parts is fine after these windings
 --     boardFine b         a board breaks no rule of refusals 3 to 9: 15 does not hold
@@ -54,13 +55,11 @@ limitOf c k = cond (eqb k 3) (c .buttons) (c .relays)
 unfoldable pub nameFine : Counts → Kind → Bool
 nameFine c k = eqb (kindNumber k) 0 || ltb (nameOf k) (limitOf c (kindNumber k))
 
+unfoldable pub partFits : Counts → Part → Bool
+partFits c p = terminalFine c (p .a) && terminalFine c (p .b) && endsFine (p .a) (p .b) && nameFine c (p .kind)
+
 unfoldable pub partFine : Counts → Windings → Part → Bool
-partFine c w p =
-    terminalFine c (p .a)
-    && terminalFine c (p .b)
-    && endsFine (p .a) (p .b)
-    && nameFine c (p .kind)
-    && windingFree w (p .kind)
+partFine c w p = partFits c p && windingFree w (p .kind)
 
 unfoldable pub partsFine : Counts → Windings → List Part → Bool
 partsFine c w [] = complete (c .relays) w

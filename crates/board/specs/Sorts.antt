@@ -5,7 +5,6 @@
 --     isRegular r ps       relay r is regular: one part of kind 4, none of 5 and 6
 --     isSteel r ps         relay r is steel-core: one part of kind 5 and one of kind 6, none of 4
 --     Wound n ps           every relay below n is regular or steel-core
---     partFits c p         5 to 7 of the part p, which no other part bears on
 --     partsFit c ps        5 to 7 of every part
 use Prim.Native.Nat.{ℕ, _+_, _<_}
 use mathlib.Core.Path.{_≡_}
@@ -17,7 +16,7 @@ use Rattle.board.specs.declared.Kind.{Kind}
 use Rattle.board.specs.declared.Part.{Part}
 use Rattle.board.specs.declared.Counts.{Counts}
 use Rattle.board.specs.Parts.{kindNumber, nameOf}
-use Rattle.board.specs.Rules.{terminalFine, endsFine, nameFine}
+use Rattle.board.specs.Rules.{partFits}
 
 unfoldable pub carries : ℕ → ℕ → Kind → Bool
 carries j r k = eqb (kindNumber k) j && eqb (nameOf k) r
@@ -34,9 +33,6 @@ isSteel r ps = (windingsOf 4 r ps ≡ 0) × (windingsOf 5 r ps ≡ 1) × (windin
 
 abbrev pub Wound : ℕ → List Part → Type 0
 Wound n ps = (r : ℕ) → r < n → isRegular r ps ⊎ isSteel r ps
-
-unfoldable pub partFits : Counts → Part → Bool
-partFits c p = terminalFine c (p .a) && terminalFine c (p .b) && endsFine (p .a) (p .b) && nameFine c (p .kind)
 
 unfoldable pub partsFit : Counts → List Part → Bool
 partsFit c [] = true

@@ -6,7 +6,7 @@ use mathlib.Core.Bool.{true}
 use mathlib.Core.List.{List, [], _∷_, _++_}
 use lib.ListN.{length}
 use lib.Seq.{length-take-le}
-use Rattle.number.specs.Outcomes.{Outcome, given, Found, found, _>>=_}
+use Rattle.number.specs.Outcomes.{Found, found, _>>=_}
 use Rattle.number.specs.Refusals.{outOfRange, windingLacking}
 use Rattle.number.specs.Numbers.{numberBytes, Bytes}
 use Rattle.board.specs.declared.Part.{Part}
@@ -16,7 +16,7 @@ use Rattle.board.specs.declared.windings.Windings.{Windings}
 use Rattle.board.specs.Parts.{partsOf}
 use Rattle.board.specs.Windings.{noWindings, gained, complete}
 use Rattle.board.specs.Rules.{inRange, countsFine, partFine, partsFine, boardFine}
-use Rattle.board.proofs.BoolLaws.{both-true, true-both}
+use Rattle.bits.proofs.BoolLaws.{both-true, true-both}
 use Rattle.board.proofs.PaddedLaws.{padded-length, padded-parts}
 use Rattle.board.proofs.RuleLaws.{InRange, counts-in-range}
 use Rattle.board_reader.specs.Reading.{wanted, countsAt, partAt, partsAt, boardOf, boardFrom, boardAt}
@@ -82,7 +82,8 @@ parts-one c n w s at mid next p ps first rest =
     record {
       counted = ap suc (rest .counted);
       stands = stands-append s at mid next (partBytes p) (partsBytes ps) (first .stands) (rest .stands);
-      fine = true-both (first .fine) (rest .fine) }
+      fine = true-both (first .fine) (rest .fine);
+    }
 
 parts-read : (c : Counts) (n : ℕ) (w : Windings) (s : List ℕ) (at next : ℕ) (ps : List Part) → Bytes s → partsAt c n w s at ≡ found ps next → PartsRead c n w s at next ps
 unfolding partsAt
@@ -123,7 +124,8 @@ board-made c ps s mid next range first rest =
     record {
       stands = rw same (stands-append s 0 mid next (countsBytes c) (partsBytes ps) first (rest .stands));
       fine = true-both range (rw same (rest .fine));
-      places = padded-length ps (omega (arith, rest .counted)) }
+      places = padded-length ps (omega (arith, rest .counted));
+    }
 
 pub board-read : (s : List ℕ) (next : ℕ) (b : Board) → Bytes s → boardAt s ≡ found b next → BoardRead s next b
 unfolding boardAt boardFrom

@@ -1,16 +1,16 @@
 -- The round trip of one part: its bytes read back to it, and a part that was read stands there by its bytes and breaks no rule of 5 to 8.
-use Prim.Native.Nat.{ℕ, _+_, _<_, _≤_}
+use Prim.Native.Nat.{ℕ, _+_, _≤_}
 use native.Mathlib.Omega.{arith}
 use native.Mathlib.Decide.{ℕ-discrete}
 use mathlib.Core.Path.{_≡_, refl, sym, ap, _∙_}
-use mathlib.Core.Bool.{Bool, true, false, cond, _||_}
+use mathlib.Core.Bool.{Bool, true, false, cond}
 use mathlib.Core.List.{List, [], _++_}
 use lib.Dec.{ltb, eqb}
 use lib.ListN.{length}
 use borrow.Author.Tests.{ltb-true, eq-eqb, ne-eqb, eqb-false, not-true}
 use Rattle.number.specs.Outcomes.{Outcome, given, Found, found, _>>=_, _>>_, unless}
 use Rattle.number.specs.Refusals.{noSuchKind, noSuchTerminal, endsEqual, noSuchName, windingTaken}
-use Rattle.number.specs.Numbers.{numberBytes, largest, Bytes}
+use Rattle.number.specs.Numbers.{numberBytes, Bytes}
 use Rattle.number.proofs.NumberLaws.{found-next}
 use Rattle.board.specs.declared.Kind.{Kind}
 use Rattle.board.specs.declared.Part.{Part}
@@ -18,8 +18,8 @@ use Rattle.board.specs.declared.Counts.{Counts}
 use Rattle.board.specs.declared.windings.Windings.{Windings}
 use Rattle.board.specs.Parts.{kindNumber, nameOf, kindOf}
 use Rattle.board.specs.Windings.{windingFree}
-use Rattle.board.specs.Rules.{inRange, terminalFine, endsFine, limitOf, nameFine, partFine}
-use Rattle.board.proofs.BoolLaws.{both-true, true-both}
+use Rattle.board.specs.Rules.{inRange, terminalFine, endsFine, limitOf, nameFine, partFits, partFine}
+use Rattle.bits.proofs.BoolLaws.{both-true, true-both}
 use Rattle.board.proofs.KindLaws.{kind-of-parts, kind-number-of, kind-name-of, kind-of-wire, kind-number-most}
 use Rattle.board.proofs.RuleLaws.{InRange}
 use Rattle.board_reader.specs.Reading.{wanted, nameAt, partAt}
@@ -38,7 +38,7 @@ record Rules (c : Counts) (w : Windings) (p : Part) : Type 0 where
   free : windingFree w (p .kind) ≡ true
 
 part-rules : (c : Counts) (w : Windings) (p : Part) → partFine c w p ≡ true → Rules c w p
-unfolding partFine
+unfolding partFine partFits
 part-rules c w p fine =
     let free = both-true _ _ fine in
     let named = both-true _ _ (free .0) in
@@ -47,7 +47,7 @@ part-rules c w p fine =
     record { a-below = below .0; b-below = below .1; apart = apart .1; named = named .1; free = free .1 }
 
 rules-part : (c : Counts) (w : Windings) (p : Part) → Rules c w p → partFine c w p ≡ true
-unfolding partFine
+unfolding partFine partFits
 rules-part c w p rules = true-both (true-both (true-both (true-both (rules .a-below) (rules .b-below)) (rules .apart)) (rules .named)) (rules .free)
 
 -- a name's limit is R or B, so what is below it is small
@@ -127,6 +127,7 @@ module _ (c : Counts) (k name : ℕ) (s : List ℕ) (at next : ℕ) (most : k �
     where
       number : kindNumber (kindOf k name) ≡ k
       number = kind-number-of k name most
+
       go : Dec (k ≡ 0) → nameFine c (kindOf k name) ≡ true
       go (yes wire) = wire-fine c (kindOf k name) (number ∙ wire)
       go (no some) =
@@ -139,6 +140,7 @@ module _ (c : Counts) (k name : ℕ) (s : List ℕ) (at next : ℕ) (most : k �
     where
       number : kindNumber (kindOf k name) ≡ k
       number = kind-number-of k name most
+
       go : Dec (k ≡ 0) → Stands s at next (nameBytes (kindOf k name))
       go (yes wire) =
           let same : at ≡ next = found-next 0 name at next (name-wire c k s at wire ∙ read) in
@@ -199,7 +201,8 @@ module _ (c : Counts) (w : Windings) (s : List ℕ) (at next : ℕ) (p : Part) w
               apart = ap (λ (f : Found Part). endsFine (f .value .a) (f .value .b)) (sym same) ∙ apart;
               names = n .first ∙ ap (λ (f : Found Part). found (n .value .value) (f .next)) same;
               made = ap (λ (f : Found Part). f .value .kind) same;
-              free = free .0 }
+              free = free .0;
+            }
 
       from-b : Handed (wanted (terminalFine c) noSuchTerminal s (a .next)) (after-b (k .value) (a .value) (a .next)) end → Fields c w s at next p
       from-b b =
@@ -237,7 +240,9 @@ fields-read c w p s at next bytes f =
         b-below = wanted-found (terminalFine c) noSuchTerminal s (f .b-at) (p .b) (f .name-at) (f .as-b) .0;
         apart = f .apart;
         named = rw (f .made) at (name-fine c (f .kind) (f .name) s (f .name-at) next most (f .names));
-        free = rw (f .made) at (f .free) }) }
+        free = rw (f .made) at (f .free);
+      });
+    }
 
 pub part-read : (c : Counts) (w : Windings) (p : Part) (s : List ℕ) (at next : ℕ) → Bytes s → partAt c w s at ≡ found p next → PartRead c w s at next p
 part-read c w p s at next bytes h = fields-read c w p s at next bytes (part-fields c w s at next p h)

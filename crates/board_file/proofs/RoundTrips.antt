@@ -14,15 +14,15 @@ use Rattle.board.specs.declared.Board.{Board}
 use Rattle.board.specs.Parts.{partsOf}
 use Rattle.board.specs.Rules.{boardFine, countsFine}
 use Rattle.board.specs.Same.{sameBoard}
-use Rattle.board.proofs.BoolLaws.{both-true}
+use Rattle.bits.proofs.BoolLaws.{both-true}
 use Rattle.board.proofs.PaddedLaws.{padded-parts}
 use Rattle.board.proofs.RuleLaws.{counts-in-range}
 use Rattle.board.proofs.SameLaws.{equal-same-board}
-use Rattle.board_reader.specs.Reading.{boardOf, boardAt, answered, reading, toldAnswer}
-use Rattle.board_reader.specs.declared.BoardRead.{BoardRead}
+use Rattle.board_reader.specs.Reading.{boardOf, boardAt, answered, reading}
 use Rattle.board_reader.proofs.OutcomeLaws.{refused-never, given-same, passed}
 use Rattle.board_writer.specs.File.{boardBytes}
-use Rattle.board_writer.specs.Writing.{writing, toldWritten}
+use Rattle.board_writer.specs.Writing.{writing}
+use Rattle.board_writer.proofs.WriteLaws.{writing-with-room}
 use Rattle.board_writer.proofs.FileLaws.{board-file-bound, WasWritten, writing-given}
 use Rattle.board_file.specs.RoundTrip.{WriteThenRead, ReadThenWrite}
 use Rattle.board_file.proofs.StandLaws.{Stands}
@@ -69,21 +69,22 @@ reading-given s b n h = passed (leb (length s) 65536) inputTooLong 0 (boardAt s)
 
 -- a fine board is written where it has room
 writes : (b : Board) (out : List ℕ) (n : ℕ) → boardFine b ≡ true → n ≡ length (boardBytes b) → n ≤ length out → writing b out ≡ (given n, boardBytes b ++ drop n out)
-unfolding writing
 writes b out n fine long room =
-    let fits : length (boardBytes b) ≤ length out = omega arith in
-    rw (fine, le-leb (length (boardBytes b)) (length out) fits, ← long)
+    writing-with-room b out fine (omega arith) ∙ ap (λ (m : ℕ). (given m, boardBytes b ++ drop m out)) (sym long)
 
 pub read-then-write : ReadThenWrite
 read-then-write s out out′ n r w bytes read told wrote =
     let b = r .board in
     let found-there = reading-given s b n (sym read ∙ ap (λ (o : Outcome ℕ). (b, o)) told) in
     let was = board-read s n b bytes found-there in
-    let long : n ≡ length (boardBytes b) = omega (arith, was .stands .ends) in
-    (was .fine, λ room.
-      (let answer = wrote ∙ writes b out n (was .fine) long room in
-      (ap (λ (a : Outcome ℕ × List ℕ). a .0) answer,
-      ap (λ (a : Outcome ℕ × List ℕ). take n (a .1)) answer
-      ∙ take-at (boardBytes b) (drop n out) n (sym long)
-      ∙ sym (take-at (boardBytes b) (drop n s) n (sym long))
-      ∙ ap (take n) (sym (was .stands .there)))))
+    let long : n ≡ length (boardBytes b) = omega (arith, was .stands .ends) in (
+      was .fine,
+      λ room.
+          (let answer = wrote ∙ writes b out n (was .fine) long room in (
+            ap (λ (a : Outcome ℕ × List ℕ). a .0) answer,
+            ap (λ (a : Outcome ℕ × List ℕ). take n (a .1)) answer
+                ∙ take-at (boardBytes b) (drop n out) n (sym long)
+                ∙ sym (take-at (boardBytes b) (drop n s) n (sym long))
+                ∙ ap (take n) (sym (was .stands .there)),
+          )),
+    )

@@ -3,7 +3,7 @@ use Prim.Native.Nat.{ℕ, _+_, _≤_}
 use native.Mathlib.Omega.{arith}
 use mathlib.Core.Path.{_≡_, refl, sym, ap, _∙_}
 use mathlib.Core.Bool.{Bool, true}
-use mathlib.Core.List.{List, [], _∷_, _++_, append-assoc}
+use mathlib.Core.List.{List, [], _++_, append-assoc}
 use lib.ListN.{length, drop, length-append}
 use Rattle.number.specs.Outcomes.{found}
 use Rattle.number.specs.Numbers.{numberAt, numberBytes, largest, Bytes}
@@ -23,7 +23,8 @@ pub stands-append : (s : List ℕ) (at mid next : ℕ) (xs ys : List ℕ) → St
 stands-append s at mid next xs ys first second =
     record {
       there = first .there ∙ ap (λ (l : List ℕ). xs ++ l) (second .there) ∙ sym (append-assoc xs ys (drop next s));
-      ends = omega (arith, first .ends, second .ends, length-append xs ys) }
+      ends = omega (arith, first .ends, second .ends, length-append xs ys);
+    }
 
 module _ (s : List ℕ) (at next : ℕ) (xs ys : List ℕ) (both : Stands s at next (xs ++ ys)) where
   past : drop (at + length xs) s ≡ ys ++ drop next s

@@ -3,7 +3,7 @@ use Prim.Native.Nat.{ℕ, _≤_}
 use mathlib.Core.Path.{_≡_, ap, _∙_}
 use mathlib.Core.Bool.{true}
 use mathlib.Core.List.{List}
-use Rattle.number.specs.Outcomes.{Outcome, given, refused, Found, found}
+use Rattle.number.specs.Outcomes.{Outcome, refused, Found, found}
 use Rattle.number.specs.Refusals.{outOfRange}
 use Rattle.number.specs.Numbers.{toldNumber}
 use Rattle.number.specs.declared.Number.{Number}
@@ -11,7 +11,7 @@ use Rattle.number.specs.declared.Number.the-variants.{Refused}
 use Rattle.number.specs.declared.Refusal.{Refusal}
 use Rattle.board.specs.declared.Counts.{Counts}
 use Rattle.board.specs.Rules.{inRange, countsFine}
-use Rattle.board.proofs.BoolLaws.{true-both}
+use Rattle.bits.proofs.BoolLaws.{true-both}
 use Rattle.board_reader.specs.Reading.{wanted, countsAt, toldAnswer}
 use Rattle.board_reader.specs.Steps.{foundAt, placeOf, toldCounts}
 use Rattle.board_reader.specs.declared.counts.CountsRead.{CountsRead}
@@ -79,7 +79,8 @@ counts-found s c next h =
       terminals = t .first ∙ ap (λ (f : Found Counts). found (f .value .terminals) (t .value .next)) same;
       relays = r .first ∙ ap (λ (f : Found Counts). found (f .value .relays) (r .value .next)) same;
       buttons = b .first ∙ ap (λ (f : Found Counts). found (f .value .buttons) (b .value .next)) same;
-      parts = p .first ∙ ap (λ (f : Found Counts). found (f .value .parts) (f .next)) same }
+      parts = p .first ∙ ap (λ (f : Found Counts). found (f .value .parts) (f .next)) same;
+    }
 
 -- counts that were read break no rule of 3
 pub counts-found-fine : (s : List ℕ) (c : Counts) (next : ℕ) → CountsFound s c next → countsFine c ≡ true

@@ -12,7 +12,7 @@ use Rattle.number.specs.declared.Number.{Number}
 use Rattle.number.specs.declared.Number.the-variants.{Read, Refused}
 use Rattle.number.specs.declared.Refusal.{Refusal}
 use Rattle.board.specs.declared.Counts.{Counts}
-use Rattle.board.proofs.BoolLaws.{both-true}
+use Rattle.bits.proofs.BoolLaws.{both-true}
 use Rattle.board.specs.Rules.{inRange, limitOf}
 use Rattle.board_reader.specs.Reading.{wanted, nameAt}
 use Rattle.board_reader.proofs.OutcomeLaws.{given-same, handed, passed}

@@ -6,7 +6,7 @@ use mathlib.Core.List.{List}
 use native.Mathlib.Omega.{arith}
 use lib.Dec.{ltb, eqb}
 use borrow.Author.Tests.{eq-eqb, ne-eqb, ltb-true}
-use Rattle.number.specs.Outcomes.{Outcome, given, refused, Found, found}
+use Rattle.number.specs.Outcomes.{refused, found}
 use Rattle.number.specs.Refusals.{noSuchKind, noSuchTerminal, endsEqual, noSuchName, windingTaken}
 use Rattle.number.specs.Numbers.{toldNumber}
 use Rattle.number.specs.declared.Number.{Number}
@@ -78,6 +78,7 @@ name-below c k s at v next m h relays buttons some = go (eqb k 0) h
     limit : (t : Bool) → cond t (c .buttons) (c .relays) ≤ m
     limit true = buttons
     limit false = relays
+
     go : (t : Bool) → cond t (found 0 at) (wanted (λ n. ltb n (limitOf c k)) noSuchName s at) ≡ found v next → v < m
     go true e = omega (arith, found-value 0 v at next e)
     go false e = omega (arith, ltb-true v (limitOf c k) (wanted-found (λ n. ltb n (limitOf c k)) noSuchName s at v next e .0), limit (eqb k 3))

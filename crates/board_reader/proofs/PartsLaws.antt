@@ -1,5 +1,5 @@
 -- Laws of `partsAt`: reading parts one after the other. The loop of `read_parts` is a walk; each step of it, and each way out, is a law here.
-use Prim.Native.Nat.{ℕ, zero, suc, _+_, _-_, _<_, _≤_}
+use Prim.Native.Nat.{ℕ, suc, _+_, _-_, _<_, _≤_}
 use native.Mathlib.Omega.{arith}
 use mathlib.Core.Path.{_≡_, refl, sym, ap, _∙_}
 use mathlib.Core.Bool.{true, false}
@@ -68,7 +68,8 @@ walk-start c s start p w filler none =
       so-far = [];
       counted = refl;
       array = ap (replicate 256) filler;
-      rest = rw (whole, none) (after-none (partsAt c (c .parts) noWindings s start)) }
+      rest = rw (whole, none) (after-none (partsAt c (c .parts) noWindings s start));
+    }
 
 module _ (c : Counts) (s : List ℕ) (start : ℕ) (parts : List Part) (w : Windings) (at i : ℕ) (walk : Walk c s start parts w at i) where
   pub walk-on : (p : Part) (next : ℕ) (w′ : Windings) → i < c .parts → c .parts ≤ 256 → partAt c w s at ≡ found p next → w′ ≡ gained w (p .kind) → Walk c s start (set parts i p) w′ next (i + 1)
@@ -81,10 +82,11 @@ module _ (c : Counts) (s : List ℕ) (start : ℕ) (parts : List Part) (w : Wind
         counted = omega (arith, length-append ps (p ∷ []));
         array = ap (λ (l : List Part). set l i p) (walk .array) ∙ ap (λ (n : ℕ). set (padded ps) n p) (sym long) ∙ padded-set ps p (omega arith);
         rest = walk .rest
-          ∙ ap (λ (n : ℕ). after ps (partsAt c n w s at)) one
-          ∙ ap (after ps) (parts-next c (c .parts - (i + 1)) w s at p next here)
-          ∙ after-more ps p (partsAt c (c .parts - (i + 1)) (gained w (p .kind)) s next)
-          ∙ ap (λ (v : Windings). after (ps ++ (p ∷ [])) (partsAt c (c .parts - (i + 1)) v s next)) (sym more) }
+            ∙ ap (λ (n : ℕ). after ps (partsAt c n w s at)) one
+            ∙ ap (after ps) (parts-next c (c .parts - (i + 1)) w s at p next here)
+            ∙ after-more ps p (partsAt c (c .parts - (i + 1)) (gained w (p .kind)) s next)
+            ∙ ap (λ (v : Windings). after (ps ++ (p ∷ [])) (partsAt c (c .parts - (i + 1)) v s next)) (sym more);
+      }
 
   pub walk-refused : (k p : ℕ) → i < c .parts → partAt c w s at ≡ refused k p → partsAt c (c .parts) noWindings s start ≡ refused k p
   walk-refused k p below here =

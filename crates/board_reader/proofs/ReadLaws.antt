@@ -1,4 +1,4 @@
--- Laws of `reading`: each way out of the reader as an outcome of the definition.
+-- Laws of `reading`: each way out of the reader as an outcome of the definition, and what a refused read returns.
 use Prim.Native.Nat.{ℕ, _<_, _≤_}
 use mathlib.Core.Path.{_≡_, sym, ap, _∙_}
 use mathlib.Core.List.{List}
@@ -8,12 +8,15 @@ use Rattle.number.specs.Outcomes.{Outcome, given, refused, Found, found}
 use Rattle.number.specs.Refusals.{inputTooLong}
 use Rattle.number.specs.declared.Refusal.{Refusal}
 use Rattle.board.specs.declared.Counts.{Counts}
+use Rattle.board.specs.declared.Board.{Board}
+use Rattle.board.specs.Parts.{emptyBoard}
 use Rattle.board.specs.Windings.{noWindings}
 use Rattle.board_reader.specs.Reading.{countsAt, partsAt, boardFrom, boardAt, answered, reading, toldAnswer}
 use Rattle.board_reader.specs.Steps.{foundAt, toldCounts}
 use Rattle.board_reader.specs.declared.ReadAnswer.{ReadAnswer}
 use Rattle.board_reader.specs.declared.ReadAnswer.the-variants.{Read, Refused}
 use Rattle.board_reader.specs.declared.counts.CountsRead.{CountsRead}
+use Rattle.board_reader.proofs.OutcomeLaws.{refused-never}
 
 -- what the answer on the counts says of the outcome that it tells
 pub counts-stopped : (o : Outcome (Found Counts)) (a : CountsRead) (r : Refusal) → a .answer ≡ Refused r → toldCounts a ≡ o → o ≡ refused (r .number) (r .place)
@@ -42,3 +45,13 @@ module _ (s : List ℕ) where
   reading-went c at short h =
       let went : boardFrom c (partsAt c (c .parts) noWindings s at) ≡ boardAt s = rw h in
       ap answered went ∙ reading-board short
+
+-- a refused read returns the empty board
+answered-refused : (o : Outcome (Found Board)) (b : Board) (k p : ℕ) → answered o ≡ (b, refused k p) → b ≡ emptyBoard
+unfolding answered
+answered-refused (given f) b k p e = absurd (refused-never k p (f .next) (sym (λ i. e i .1)))
+answered-refused (refused m q) b k p e = sym (λ i. e i .0)
+
+pub reading-refused : (s : List ℕ) (b : Board) (k p : ℕ) → reading s ≡ (b, refused k p) → b ≡ emptyBoard
+unfolding reading
+reading-refused s b k p e = answered-refused _ b k p e

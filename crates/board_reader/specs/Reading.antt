@@ -16,7 +16,6 @@ use lib.ListN.{length}
 use Rattle.number.specs.Outcomes.{Outcome, given, refused, Found, found, _>>=_, _>>_, unless}
 use Rattle.number.specs.Refusals.{outOfRange, noSuchKind, noSuchTerminal, endsEqual, noSuchName, windingTaken, windingLacking, inputTooLong}
 use Rattle.number.specs.Numbers.{numberAt}
-use Rattle.board.specs.declared.Kind.{Kind}
 use Rattle.board.specs.declared.Part.{Part}
 use Rattle.board.specs.declared.Counts.{Counts}
 use Rattle.board.specs.declared.Board.{Board}
@@ -30,17 +29,17 @@ use Rattle.board_reader.specs.declared.ReadAnswer.the-variants.{Read, Re
 
 unfoldable pub wanted : (ℕ → Bool) → ℕ → List ℕ → ℕ → Outcome (Found ℕ)
 wanted ok n s at = do
-    v ← numberAt s at
-    unless (ok (v .value)) n at
-    given v
+  v ← numberAt s at
+  unless (ok (v .value)) n at
+  given v
 
 unfoldable pub countsAt : List ℕ → Outcome (Found Counts)
 countsAt s = do
-    t ← wanted (inRange leastTerminals mostTerminals) outOfRange s 0
-    r ← wanted (inRange 0 mostRelays) outOfRange s (t .next)
-    b ← wanted (inRange 0 mostButtons) outOfRange s (r .next)
-    c ← wanted (inRange 0 mostParts) outOfRange s (b .next)
-    found (record { terminals = t .value; relays = r .value; buttons = b .value; parts = c .value }) (c .next)
+  t ← wanted (inRange leastTerminals mostTerminals) outOfRange s 0
+  r ← wanted (inRange 0 mostRelays) outOfRange s (t .next)
+  b ← wanted (inRange 0 mostButtons) outOfRange s (r .next)
+  c ← wanted (inRange 0 mostParts) outOfRange s (b .next)
+  found (record { terminals = t .value; relays = r .value; buttons = b .value; parts = c .value }) (c .next)
 
 abbrev pub lastKind : ℕ
 lastKind = 6
@@ -50,35 +49,35 @@ nameAt c k s at = cond (eqb k 0) (found 0 at) (wanted (λ n. ltb n (limitOf c k)
 
 unfoldable pub partAt : Counts → Windings → List ℕ → ℕ → Outcome (Found Part)
 partAt c w s at = do
-    k ← wanted (inRange 0 lastKind) noSuchKind s at
-    a ← wanted (terminalFine c) noSuchTerminal s (k .next)
-    b ← wanted (terminalFine c) noSuchTerminal s (a .next)
-    unless (endsFine (a .value) (b .value)) endsEqual (a .next)
-    n ← nameAt c (k .value) s (b .next)
-    unless (windingFree w (kindOf (k .value) (n .value))) windingTaken (b .next)
-    found (record { a = a .value; b = b .value; kind = kindOf (k .value) (n .value) }) (n .next)
+  k ← wanted (inRange 0 lastKind) noSuchKind s at
+  a ← wanted (terminalFine c) noSuchTerminal s (k .next)
+  b ← wanted (terminalFine c) noSuchTerminal s (a .next)
+  unless (endsFine (a .value) (b .value)) endsEqual (a .next)
+  n ← nameAt c (k .value) s (b .next)
+  unless (windingFree w (kindOf (k .value) (n .value))) windingTaken (b .next)
+  found (record { a = a .value; b = b .value; kind = kindOf (k .value) (n .value) }) (n .next)
 
 unfoldable pub partsAt : Counts → ℕ → Windings → List ℕ → ℕ → Outcome (Found (List Part))
 partsAt c zero w s at = do
-    unless (complete (c .relays) w) windingLacking at
-    found [] at
+  unless (complete (c .relays) w) windingLacking at
+  found [] at
 partsAt c (suc n) w s at = do
-    p ← partAt c w s at
-    ps ← partsAt c n (gained w (p .value .kind)) s (p .next)
-    found (p .value ∷ ps .value) (ps .next)
+  p ← partAt c w s at
+  ps ← partsAt c n (gained w (p .value .kind)) s (p .next)
+  found (p .value ∷ ps .value) (ps .next)
 
 abbrev pub boardOf : Counts → List Part → Board
 boardOf c ps = record { counts = c; parts = padded ps }
 
 unfoldable pub boardFrom : Counts → Outcome (Found (List Part)) → Outcome (Found Board)
 boardFrom c o = do
-    ps ← o
-    found (boardOf c (ps .value)) (ps .next)
+  ps ← o
+  found (boardOf c (ps .value)) (ps .next)
 
 unfoldable pub boardAt : List ℕ → Outcome (Found Board)
 boardAt s = do
-    c ← countsAt s
-    boardFrom (c .value) (partsAt (c .value) (c .value .parts) noWindings s (c .next))
+  c ← countsAt s
+  boardFrom (c .value) (partsAt (c .value) (c .value .parts) noWindings s (c .next))
 
 abbrev pub longestInput : ℕ
 longestInput = 65_536
@@ -89,8 +88,8 @@ answered (refused n p) = (emptyBoard, refused n p)
 
 unfoldable pub reading : List ℕ → Board × Outcome ℕ
 reading s = answered (do
-    unless (leb (length s) longestInput) inputTooLong 0
-    boardAt s)
+  unless (leb (length s) longestInput) inputTooLong 0
+  boardAt s)
 
 abbrev pub toldAnswer : ReadAnswer → Outcome ℕ
 toldAnswer (Read next) = given next

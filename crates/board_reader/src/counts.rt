@@ -42,7 +42,12 @@ fn read_count(s: &[u8], at: usize, low: u32, high: u32) -> Number
 pub fn read_counts(s: &[u8]) -> CountsRead
     ensures { λ r. ⌜ toldCounts r ≡ countsAt (now (s .entry)) ⌝ }
 {
-    let terminals_read = read_count(s, 0, board::LEAST_TERMINALS as u32, board::MOST_TERMINALS as u32);
+    let terminals_read = read_count(
+        s,
+        0,
+        board::LEAST_TERMINALS as u32,
+        board::MOST_TERMINALS as u32,
+    );
     let Number::Read(terminals, relays_at) = terminals_read else {
         return no_counts(terminals_read);
     };

@@ -2,7 +2,7 @@
 use mathlib.Core.Path.{_≡_, refl, sym, ap, ap₂, _∙_}
 use mathlib.Core.Bool.{Bool, true, false, cond, _||_}
 use mathlib.Core.List.{List, [], _∷_, _++_}
-use Prim.Native.Nat.{ℕ, zero, suc, _+_, _*_, _≤_, _<_}
+use Prim.Native.Nat.{ℕ, zero, suc, _*_, _≤_, _<_}
 use native.Mathlib.Omega.{arith}
 use borrow.Author.Tests.{ltb-true, leb-true, leb-false}
 use lib.Dec.{eqb, ltb, leb}
@@ -17,11 +17,11 @@ use Rattle.board.specs.declared.Part.{Part}
 use Rattle.board.specs.declared.Counts.{Counts}
 use Rattle.board.specs.declared.Board.{Board}
 use Rattle.board.specs.Parts.{kindNumber, nameOf, partsOf}
-use Rattle.board.specs.Rules.{limitOf, nameFine, boardFine}
+use Rattle.board.specs.Rules.{limitOf, nameFine, partFits, boardFine}
 use Rattle.board.specs.Windings.{noWindings}
-use Rattle.board.specs.Sorts.{partFits, partsFit}
+use Rattle.board.specs.Sorts.{partsFit}
 use Rattle.board.specs.Same.{sameBoard}
-use Rattle.board.proofs.BoolLaws.{both-true, by-test}
+use Rattle.bits.proofs.BoolLaws.{both-true, by-test}
 use Rattle.board.proofs.KindLaws.{kind-number-most}
 use Rattle.board.proofs.RuleLaws.{InRange, counts-in-range}
 use Rattle.board.proofs.WindingLaws.{fine-fit}
@@ -59,19 +59,6 @@ name-bytes-few c k fit fine = few (eqb (kindNumber k) 0) (nameOf k) (limitOf c (
     few : (wire : Bool) (name limit : ℕ) → limit ≤ 32 → (wire || ltb name limit) ≡ true → length (cond wire [] (numberBytes name)) ≤ 1
     few true name limit most fine = omega arith
     few false name limit most fine = omega (arith, one-byte name (omega (arith, ltb-true name limit fine)))
-
-name-bytes-most : (k : Kind) → length (nameBytes k) ≤ 3
-unfolding nameBytes
-name-bytes-most k = most (eqb (kindNumber k) 0) (nameOf k)
-  where
-    most : (wire : Bool) (name : ℕ) → length (cond wire [] (numberBytes name)) ≤ 3
-    most true name = omega arith
-    most false name = number-bytes-length name .1
-
--- any part takes 3 to 12 bytes
-pub part-bytes-length : (p : Part) → (3 ≤ length (partBytes p)) × (length (partBytes p) ≤ 12)
-part-bytes-length p =
-    omega (arith, part-bytes-sum p, number-bytes-length (kindNumber (p .kind)), number-bytes-length (p .a), number-bytes-length (p .b), name-bytes-most (p .kind))
 
 part-fields : (c : Counts) (p : Part) → partFits c p ≡ true → (p .a < c .terminals) × (p .b < c .terminals) × (nameFine c (p .kind) ≡ true)
 unfolding partFits

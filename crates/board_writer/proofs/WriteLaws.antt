@@ -23,7 +23,7 @@ use Rattle.board.specs.declared.Counts.{Counts}
 use Rattle.board.specs.declared.Board.{Board}
 use Rattle.board.specs.Parts.{kindNumber, nameOf, blank, partsOf}
 use Rattle.board.specs.Rules.{boardFine}
-use Rattle.board.proofs.BoolLaws.{both-true}
+use Rattle.bits.proofs.BoolLaws.{both-true}
 use Rattle.board.proofs.RuleLaws.{InRange, counts-in-range}
 use Rattle.board_writer.specs.File.{nameBytes, partBytes, partsBytes, countsBytes, boardBytes}
 use Rattle.board_writer.specs.Writing.{writing}

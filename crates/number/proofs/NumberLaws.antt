@@ -20,7 +20,7 @@ use Rattle.number.specs.declared.Form.the-variants.{Got, Ends, Bad}
 use Rattle.number.specs.Outcomes.{Outcome, given, refused, Found, found}
 use Rattle.number.specs.Refusals.{inputEnds, badForm, bufferTooShort}
 use Rattle.number.specs.Numbers.{Bytes, form, placed, numberAt, encode, numberBytes, numberWriting, toldNumber, toldWritten, longest, largest}
-use Rattle.number.proofs.Buffers.{drop-past, take-drop}
+use Rattle.number.proofs.Buffers.{take-drop}
 use Rattle.number.proofs.FormLaws.{FormRead, Bytes-drop, form-written, form-read, form-within, form-no-further, encode-last, encode-some, encode-few, encode-short, encode-long, encode-bytes}
 
 -- ---- outcomes
@@ -78,9 +78,6 @@ read-written s at v rest h e =
     ap (λ (l : List ℕ). placed (length s) at (form longest l)) e
     ∙ ap (placed (length s) at) (form-written 2 v rest (omega arith))
     ∙ placed-as (length s) at v (length (encode longest v)) h
-
-pub written-drop : (s : List ℕ) (at v : ℕ) (rest : List ℕ) → drop at s ≡ numberBytes v ++ rest → drop (at + length (numberBytes v)) s ≡ rest
-written-drop s at v rest e = drop-past s at (numberBytes v) rest e
 
 -- what is known where the number v was read at a place of s, with the place n just after it
 pub record WasRead (s : List ℕ) (at v n : ℕ) : Type 0 where

@@ -14,7 +14,7 @@ use Rattle.number.specs.Refusals.{noSuchName, alreadySo, stateBeyondBoard, brok
 use Rattle.board.specs.declared.Counts.{Counts}
 use Rattle.board.specs.declared.Board.{Board}
 use Rattle.board.specs.Rules.{boardFine}
-use Rattle.board.proofs.BoolLaws.{both-true, true-both}
+use Rattle.bits.proofs.BoolLaws.{both-true, true-both}
 use Rattle.state.specs.declared.State.{State}
 use Rattle.state.specs.declared.Press.{Press}
 use Rattle.state.specs.declared.Press.the-variants.{Done, Refused}

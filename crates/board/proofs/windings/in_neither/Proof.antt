@@ -2,8 +2,7 @@
 use borrow.Author.Needs.{needs}
 use Rattle.board.proofs.windings.in_neither.Statement.{statement}
 use Rattle.board.proofs.windings.in_neither.Tie as tie
-use mathlib.Core.Path.{sym, _∙_}
-use mathlib.Core.Path.{_≡_, ap}
+use mathlib.Core.Path.{_≡_}
 use mathlib.Core.Bool.{true, false}
 use Rattle.bits.specs.Sets.{member}
 
