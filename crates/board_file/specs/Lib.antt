@@ -1,1 +1,2 @@
+-- The statements of the theorems.
 pub mod RoundTrip

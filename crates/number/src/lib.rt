@@ -67,12 +67,6 @@ const LONGEST: usize = 3;
 
 const LARGEST: u32 = 2_097_151;
 
-fn wide(x: u8) -> u32
-    ensures { λ r. ⌜ (r ≡ x) × (r < 256) ⌝ }
-{
-    x as u32
-}
-
 // The number of at most `left` bytes at a place.
 fn read_form(s: &[u8], at: usize, left: usize) -> Form
     requires { ⌜ left ≤ 3 ⌝ }
@@ -84,7 +78,7 @@ fn read_form(s: &[u8], at: usize, left: usize) -> Form
     if s.len() <= at {
         return Form::Ends;
     }
-    let group = wide(s[at]);
+    let group = bits::wide(s[at]);
     if group < 128 {
         return Form::Got(group, 1);
     }

@@ -9,7 +9,7 @@ use Rattle.number.proofs.FormSteps.{FormBounds, form-none, form-ends, f
 use Rattle.number.proofs.read_form.Reads as read-form
 use Rattle.number.proofs.read_form.Kinds as read-form-kinds
 use Rattle.number.proofs.+read_form.Lts-read_form as read-form-lts
-use Rattle.number.proofs.wide.Reads as wide-reads
+use Rattle.bits.proofs.wide.Reads as wide-reads
 use Rattle.number.proofs.+read_form.{statement}
 use Rattle.number.proofs.+read_form.Tie.{close}
 
