@@ -1,6 +1,6 @@
-"""The rule book's board files once more, in plain Python, written from ../shared/documents/01-scope.md alone: reading with
-its refusals, the rules on a board, and what the calls answer. It is compared with the proved program, so it shares nothing
-with the crates."""
+"""The rule book's board files once more, in plain Python, after ../shared/documents/01-scope.md: reading with its refusals
+and the rules on a board. It shares no text with the crates, but those who wrote it had read the crates' public functions,
+so it is a check on slips and not the independent second program."""
 
 RANGES = ((2, 64), (0, 32), (0, 32), (0, 256))  # T, R, B, C
 BUTTON = 3
