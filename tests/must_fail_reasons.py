@@ -18,13 +18,10 @@ def reason(crate, label):
         return None
     with open(log, encoding="utf-8") as file:
         lines = file.read().split("\n")
-    errors = [line for line in lines if ": error" in line]
+    # That something was not admitted only follows from another error, or from what the search left of a callee.
+    errors = [line for line in lines if ": error" in line and "was not admitted" not in line]
     left = [line for line in lines if "`search` does not close" in line]
-    first = (errors or left or [None])[0]
-    # A caller's error that only follows from a callee with no proof file: the callee's line says what is left.
-    if first and "was not admitted" in first and left:
-        first = left[0]
-    return first
+    return (errors or left or [None])[0]
 
 
 checks = []

@@ -1,10 +1,9 @@
 // Parts and boards, and the rules behind refusals 3 to 9: the reader of board files uses them one by one, and `check`
 // all together on a board handed in (15).
 ghost use mathlib.Core.Path.{_≡_};
-ghost use mathlib.Core.List.{List};
 ghost use Prim.Native.Nat.{_≤_};
 ghost use lib.ListN.{take};
-ghost use Rattle.board.specs.Parts.{kindNumber, nameOf, blank, emptyBoard};
+ghost use Rattle.board.specs.Parts.{kindNumber, nameOf, mostParts, emptyBoard};
 ghost use Rattle.board.specs.Rules.{limitOf, nameFine, countsFine, partFine, partsFine, boardFine};
 ghost use Rattle.board.specs.Windings.{noWindings};
 ghost use Rattle.board.specs.Same.{sameCounts, samePart, sameParts, sameBoard};
@@ -171,7 +170,7 @@ fn part_fine(counts: Counts, windings: Windings, part: Part) -> bool
 
 // Whether the first C parts break none of 5 to 9.
 fn parts_fine(parts: [Part; 256], counts: Counts) -> bool
-    requires { ⌜ counts .parts ≤ 256 ⌝ }
+    requires { ⌜ counts .parts ≤ mostParts ⌝ }
     ensures { λ r. ⌜ r ≡ partsFine counts noWindings (take (counts .parts) parts) ⌝ }
 {
     let count = counts.parts;
@@ -237,7 +236,7 @@ fn same_part(x: Part, y: Part) -> bool
 
 // Whether the first `count` of two arrays of parts are the same.
 fn same_parts(x: [Part; 256], y: [Part; 256], count: usize) -> bool
-    requires { ⌜ count ≤ 256 ⌝ }
+    requires { ⌜ count ≤ mostParts ⌝ }
     ensures { λ r. ⌜ r ≡ sameParts (take count x) (take count y) ⌝ }
 {
     let mut i = 0;

@@ -5,6 +5,7 @@ use board::Counts;
 use number::Number;
 ghost use mathlib.Core.Path.{_≡_};
 ghost use Rattle.number.specs.Numbers.{toldNumber};
+ghost use Rattle.number.specs.Refusals.{outOfRange};
 ghost use Rattle.board_reader.specs.Reading.{wanted, countsAt, toldAnswer};
 ghost use Rattle.board_reader.specs.Steps.{placeOf, toldCounts};
 ghost use Rattle.board.specs.Rules.{inRange};
@@ -33,7 +34,7 @@ fn no_counts(number: Number) -> CountsRead
 
 // The count at a place, refused by 3 there unless it is from low to high.
 fn read_count(s: &[u8], at: usize, low: u32, high: u32) -> Number
-    ensures { λ r. ⌜ toldNumber r ≡ wanted (inRange low high) 3 (now (s .entry)) at ⌝ }
+    ensures { λ r. ⌜ toldNumber r ≡ wanted (inRange low high) outOfRange (now (s .entry)) at ⌝ }
 {
     fields::read_within(s, at, low, high, number::OUT_OF_RANGE)
 }

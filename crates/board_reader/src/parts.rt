@@ -11,11 +11,12 @@ use number::Number;
 ghost use mathlib.Core.Path.{_≡_};
 ghost use Prim.Native.Nat.{_≤_};
 ghost use Rattle.number.specs.Numbers.{toldNumber};
-ghost use Rattle.board.specs.Parts.{kindOf, blank, emptyBoard};
+ghost use Rattle.number.specs.Refusals.{noSuchTerminal};
+ghost use Rattle.board.specs.Parts.{kindOf, mostParts, blank, emptyBoard};
 ghost use Rattle.board.specs.Windings.{noWindings};
 ghost use Rattle.board.specs.Rules.{terminalFine};
-ghost use Rattle.board_reader.specs.Reading.{wanted, nameAt, partAt, partsAt, boardFrom, answered, toldAnswer, toldRead};
-ghost use Rattle.board_reader.specs.Steps.{placeOf, toldPart};
+ghost use Rattle.board_reader.specs.Reading.{wanted, nameAt, partAt, partsAt, boardFrom, answered, toldRead};
+ghost use Rattle.board_reader.specs.Steps.{toldPart};
 
 // The part that was read, where the answer is no refusal.
 pub struct PartRead {
@@ -70,7 +71,7 @@ fn kind_of(number: u32, name: u8) -> Kind
 
 // The terminal at a place, refused by 5 there unless it is below T.
 fn read_terminal(s: &[u8], at: usize, counts: Counts) -> Number
-    ensures { λ r. ⌜ toldNumber r ≡ wanted (terminalFine counts) 5 (now (s .entry)) at ⌝ }
+    ensures { λ r. ⌜ toldNumber r ≡ wanted (terminalFine counts) noSuchTerminal (now (s .entry)) at ⌝ }
 {
     let limit = bits::wide(counts.terminals);
     fields::read_below(s, at, limit, number::NO_SUCH_TERMINAL)
@@ -127,7 +128,7 @@ fn read_part(s: &[u8], at: usize, counts: Counts, windings: Windings) -> PartRea
 
 // The parts from a place on, and with them the board.
 pub fn read_parts(s: &[u8], start: usize, counts: Counts) -> BoardRead
-    requires { ⌜ counts .parts ≤ 256 ⌝ }
+    requires { ⌜ counts .parts ≤ mostParts ⌝ }
     ensures { λ r. ⌜ toldRead r ≡ answered (boardFrom counts (partsAt counts (counts .parts) noWindings (now (s .entry)) start)) ⌝ }
 {
     let blank = filler();

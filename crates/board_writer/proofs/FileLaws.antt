@@ -6,7 +6,8 @@ use Prim.Native.Nat.{ℕ, zero, suc, _*_, _≤_, _<_}
 use native.Mathlib.Omega.{arith}
 use borrow.Author.Tests.{ltb-true, leb-true, leb-false}
 use lib.Dec.{eqb, ltb, leb}
-use lib.ListN.{length, drop, length-append, length-take}
+use lib.ListN.{length, take, drop, length-append, length-take}
+use lib.Seq.{take-all}
 use Rattle.number.specs.declared.Refusal.{Refusal}
 use Rattle.number.specs.Outcomes.{Outcome, given, refused}
 use Rattle.number.specs.Refusals.{brokenBoard, bufferTooShort}
@@ -30,7 +31,7 @@ use Rattle.board.proofs.FineLaws.{same-boards-fine}
 use Rattle.board_writer.specs.declared.Written.{Written}
 use Rattle.board_writer.specs.declared.Written.the-variants.{Bytes as Count, Refused}
 use Rattle.board_writer.specs.File.{nameBytes, partBytes, partsBytes, countsBytes, boardBytes, longestFile}
-use Rattle.board_writer.specs.Writing.{writing, toldWritten}
+use Rattle.board_writer.specs.Writing.{writing, toldWritten, bytesWritten}
 use Rattle.board_writer.proofs.LengthLaws.{counts-bytes-sum, part-bytes-sum}
 use Rattle.board_writer.proofs.PieceLaws.{numbersBytes}
 use Rattle.board_writer.proofs.WriteLaws.{counts-numbers, part-numbers, namesOf, board-bytes-sum, writing-broken, writing-short, writing-with-room}
@@ -204,6 +205,13 @@ writing-given b out n out′ is =
 
 refusal-once : (r q : Refusal) → r .number ≡ q .number → r .place ≡ q .place → r ≡ q
 refusal-once r q e f = λ i. record { number = e i; place = f i }
+
+-- whatever `write` answers, the bytes that it says were written begin the buffer, and the rest stays
+pub write-bytes : (b : Board) (out out′ : List ℕ) (w : Written) → _≡_ {A = Outcome ℕ × List ℕ} (toldWritten w, out′) (writing b out) → out′ ≡ take (bytesWritten w) (boardBytes b) ++ drop (bytesWritten w) out
+write-bytes b out out′ (Count n) wrote =
+    let was = writing-given b out n out′ (sym wrote) in
+    was .begins ∙ ap (λ (l : List ℕ). l ++ drop n out) (sym (take-all n (boardBytes b) (omega (arith, was .count))))
+write-bytes b out out′ (Refused r) wrote = writing-refused b out (r .number) (r .place) out′ (sym wrote) .0
 
 pub told-written-once : (x y : Written) → toldWritten x ≡ toldWritten y → x ≡ y
 told-written-once (Count n) (Count m) e = cc

@@ -1,6 +1,7 @@
 -- Writing a board. Rule book: "Calls: 15, .., 16, those that apply"; "a refused write 0 bytes written. .. output buffer stay as lent"; "Written bytes begin the buffer; the rest stays."
 --     writing b out     what writing answers, the count of bytes or the refusal, and the buffer afterwards
 --     toldWritten       the answer's cases in the rule book's numbers
+--     bytesWritten w    how many bytes an answer says were written: none where it is a refusal
 use Prim.Native.Nat.{ℕ}
 use mathlib.Core.Bool.{cond}
 use mathlib.Core.List.{List, _++_}
@@ -25,3 +26,7 @@ writing b out =
 abbrev pub toldWritten : Written → Outcome ℕ
 toldWritten (Bytes n) = given n
 toldWritten (Refused r) = refused (r .number) (r .place)
+
+abbrev pub bytesWritten : Written → ℕ
+bytesWritten (Bytes n) = n
+bytesWritten (Refused r) = 0

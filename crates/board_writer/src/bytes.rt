@@ -7,6 +7,7 @@ ghost use Prim.Native.Nat.{_+_, _≤_};
 ghost use lib.ListN.{length, take};
 ghost use lib.Seq.{sets};
 ghost use Rattle.number.specs.Numbers.{numberBytes, largest};
+ghost use Rattle.board.specs.Parts.{mostParts};
 ghost use Rattle.board_writer.specs.File.{countsBytes, partBytes, partsBytes};
 
 // Writes a number at a place where it has room, and gives the next place.
@@ -23,7 +24,7 @@ fn put(value: u32, out: &mut [u8], at: usize) -> usize
 
 // Writes T, R, B and C at the start of the buffer, and gives the next place.
 pub fn write_counts(counts: Counts, out: &mut [u8]) -> usize
-    requires { ⌜ (counts .parts ≤ 256) × (length (countsBytes counts) ≤ length (now out)) ⌝ }
+    requires { ⌜ (counts .parts ≤ mostParts) × (length (countsBytes counts) ≤ length (now out)) ⌝ }
     ensures { λ r. ⌜ (r ≡ length (countsBytes counts)) × (now (out .exit) ≡ sets (now (out .entry)) 0 (countsBytes counts)) ⌝ }
 {
     let relays_at = put(bits::wide(counts.terminals), out, 0);
@@ -51,7 +52,7 @@ fn write_part(part: Part, out: &mut [u8], at: usize) -> usize
 
 // Writes the first `count` parts one after the other from a place on where they have room.
 pub fn write_parts(parts: [Part; 256], count: usize, out: &mut [u8], start: usize)
-    requires { ⌜ (count ≤ 256) × (start + length (partsBytes (take count parts)) ≤ length (now out)) ⌝ }
+    requires { ⌜ (count ≤ mostParts) × (start + length (partsBytes (take count parts)) ≤ length (now out)) ⌝ }
     ensures { λ _. ⌜ now (out .exit) ≡ sets (now (out .entry)) start (partsBytes (take count parts)) ⌝ }
 {
     let mut at = start;

@@ -4,11 +4,12 @@ use board::Part;
 ghost use mathlib.Core.Path.{_≡_};
 ghost use Prim.Native.Nat.{_≤_};
 ghost use lib.ListN.{length, take};
+ghost use Rattle.board.specs.Parts.{mostParts};
 ghost use Rattle.board_writer.specs.File.{countsBytes, partBytes, partsBytes};
 
 // How many bytes T, R, B and C take.
 pub fn counts_length(counts: Counts) -> usize
-    requires { ⌜ counts .parts ≤ 256 ⌝ }
+    requires { ⌜ counts .parts ≤ mostParts ⌝ }
     ensures { λ r. ⌜ (r ≡ length (countsBytes counts)) × (r ≤ 12) ⌝ }
 {
     let terminals = number::number_length(bits::wide(counts.terminals));
@@ -36,7 +37,7 @@ fn part_length(part: Part) -> usize
 
 // How many bytes the first `count` parts take.
 pub fn parts_length(parts: [Part; 256], count: usize) -> usize
-    requires { ⌜ count ≤ 256 ⌝ }
+    requires { ⌜ count ≤ mostParts ⌝ }
     ensures { λ r. ⌜ (r ≡ length (partsBytes (take count parts))) × (r ≤ 3072) ⌝ }
 {
     let mut total = 0;

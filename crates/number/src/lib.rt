@@ -6,7 +6,7 @@ ghost use Prim.Native.Nat.{ℕ, _+_, _≤_, _<_, _^_};
 ghost use lib.ListN.{length, drop};
 ghost use lib.Seq.{sets};
 ghost use Rattle.number.specs.Outcomes.{Outcome};
-ghost use Rattle.number.specs.Numbers.{form, encode, numberAt, numberBytes, numberWriting, toldNumber, toldWritten};
+ghost use Rattle.number.specs.Numbers.{longest, form, encode, numberAt, numberBytes, numberWriting, toldNumber, toldWritten};
 
 // The rule book's numbers for no, one for each line of its table that a call can give today.
 pub const INPUT_ENDS: u32 = 1;
@@ -69,7 +69,7 @@ const LARGEST: u32 = 2_097_151;
 
 // The number of at most `left` bytes at a place.
 fn read_form(s: &[u8], at: usize, left: usize) -> Form
-    requires { ⌜ left ≤ 3 ⌝ }
+    requires { ⌜ left ≤ longest ⌝ }
     ensures { λ r. ⌜ r ≡ form left (drop at (now (s .entry))) ⌝ }
 {
     if left == 0 {

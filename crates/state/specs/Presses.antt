@@ -1,8 +1,8 @@
 -- Pushing and releasing a button. Rule book, calls: "15, 14, 13, 11, 7, 12, 16, those that apply"; "a refused call returns the number, place 0 and the state it was given".
 --     pressable b s n p      what stands against setting button n of board b in state s, where p says that it is so already: refusals 15, 14, 7, 12
---     left s o               the state afterwards and what the call came to: the new state, or the state given and the refusal
+--     left s t o             the state afterwards and what the call came to: t where it is done, else the state s as given and the refusal
 --     pushing, releasing     the two calls
---     toldPressed            the answer's cases in the rule book's numbers
+--     toldPress, toldPressed    the answer's cases in the rule book's numbers
 use Prim.Native.Nat.{ℕ}
 use mathlib.Core.Bool.{Bool, not}
 use lib.Dec.{ltb}
