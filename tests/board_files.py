@@ -3,29 +3,16 @@ generated cases: good files, damaged files, cut files, random bytes, boards hand
 each run tries the same cases; `python3 tests/board_files.py SEED BATCHES` tries others. Needs target/bin/board_cases, which
 `rt check board_cases` builds."""
 import os
-import platform
 import random
-import shutil
-import subprocess
 import sys
 
 sys.path.insert(0, os.path.join(os.path.dirname(os.path.abspath(__file__)), "lib"))
 import board_model as model
+import program
 import repository
 
-TEXT_ROOM = 32_700  # the program takes texts of fewer than 32,768 bytes
 ODD_VALUES = [0, 1, 2, 3, 4, 5, 6, 7, 32, 33, 64, 65, 127, 128, 255, 256, 257, 16383, 16384, 2097151]
 LONG_FORMS = [[0], [128, 0], [255, 127], [128, 128, 0]]
-
-
-def command():
-    """How `rt` starts the program, which is for x86-64: by the kit's loader, and under the kit's emulator where it has one."""
-    rt = os.path.realpath(shutil.which("rt"))
-    kit = os.environ.get("RATTLE_HOME") or os.path.dirname(os.path.dirname(rt))
-    tools = os.path.join(kit, "on", platform.machine(), "toolchain")
-    emulator = os.path.join(tools, "bin", "qemu-x86_64")
-    start = [emulator] if os.access(emulator, os.X_OK) else []
-    return start + [os.path.join(tools, "lib", "ld-linux-x86-64.so.2"), "--library-path", os.path.join(tools, "lib"), repository.path("target", "bin", "board_cases")]
 
 
 def board(dice):
@@ -124,7 +111,7 @@ def batch(dice):
         ending = dice.choice(">>>!!?")
         data = handed_case(dice) if ending == "!" else file_case(dice)
         case = data.hex() + ending + "\n"
-        if len(text) + len(case) > TEXT_ROOM:
+        if len(text) + len(case) > program.TEXT_ROOM:
             return text, lines
         text += case
         lines.append(answer(ending, data))
@@ -134,7 +121,7 @@ def compare(seed, batches):
     dice, checks, words = random.Random(seed), [], set()
     for _ in range(batches):
         text, wanted = batch(dice)
-        told = subprocess.run(command(), input=text.encode(), capture_output=True).stdout.decode().split("\n")[:-1]
+        told = program.answers(text)
         told += [None] * (len(wanted) - len(told))
         for case, want, got in zip(text.split("\n"), wanted, told):
             checks.append((f"{case}: wanted {want}, got {got}", want == got))

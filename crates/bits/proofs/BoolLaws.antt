@@ -1,6 +1,7 @@
--- Laws of tests: both of two in a row hold exactly if their conjunction does, and a test goes one way or the other.
+-- Laws of tests: both of two in a row hold exactly if their conjunction does, one of two exactly if their disjunction does, and a test goes one way or the other.
 use mathlib.Core.Path.{_≡_, refl}
-use mathlib.Core.Bool.{Bool, true, false, _&&_}
+use mathlib.Core.Logic.{_⊎_, inl, inr}
+use mathlib.Core.Bool.{Bool, true, false, _&&_, _||_, false≢true}
 
 pub both-true : (a b : Bool) → (a && b) ≡ true → (a ≡ true) × (b ≡ true)
 both-true true b h = (refl, h)
@@ -9,6 +10,15 @@ both-true false false h = (h, h)
 
 pub true-both : {a b : Bool} → a ≡ true → b ≡ true → (a && b) ≡ true
 true-both p q = rw (p, q)
+
+pub either-true : (a b : Bool) → (a || b) ≡ true → (a ≡ true) ⊎ (b ≡ true)
+either-true true b h = inl refl
+either-true false b h = inr h
+
+pub true-either : (a b : Bool) → (a ≡ true) ⊎ (b ≡ true) → (a || b) ≡ true
+true-either true b h = refl
+true-either false b (inl h) = absurd (false≢true h)
+true-either false b (inr h) = h
 
 pub by-test : {A : Type 0} (t : Bool) → (t ≡ true → A) → (t ≡ false → A) → A
 by-test true on off = on refl

@@ -1,9 +1,9 @@
--- The laws of sets of small numbers: what `including` and `excluding` do to each member and to the width, and that a set is known by its members.
+-- The laws of sets of small numbers: what `including`, `excluding` and `remaining` do to each member and to the width, and that a set is known by its members.
 -- Every proof that speaks of drawn relays, pushed buttons or windings cites these. The last section is for the proofs of `has`, `with`, `without` and `all_below`.
 -- Assumes nothing.
 use Prim.Native.Nat.{ℕ, zero, suc, _+_, _-_, _*_, _/_, _%_, _^_, _≤_, _<_}
 use mathlib.Core.Path.{_≡_, refl, sym, ap, ap₂, _∙_}
-use mathlib.Core.Bool.{Bool, true, false, false≢true}
+use mathlib.Core.Bool.{true, false, not, _&&_, false≢true}
 use native.Mathlib.Omega.{arith}
 use native.Mathlib.Nat.{mod-lt, div-eq-of-lt, div-one, pow-suc, lt-of-lt-of-le, add-div-right, one-mul, zero-mul, add-zero, zero-div, sub-add-cancel}
 use native.Mathlib.Numerals.{one-add}
@@ -11,9 +11,9 @@ use borrow.Author.Tests.{ltb-true, ltb-false, eqb-true, eqb-false, lt-ltb, le-lt
 use lib.Dec.{ltb, eqb}
 use lib.Arith.{bin-ind}
 use lib.Pow.{pow-pos, pow-mono, split, shr-shr, shl-exact}
-use lib.Bits.{bitAnd, bitOr, bitXor, and-block, and-mask, and-zero-r, or-add-and, xor-add-and}
+use lib.Bits.{bitAnd, bitOr, bitXor, and-block, and-mask, and-zero-r, and-zero-l, or-add-and, xor-add-and, and-shr, xor-shr, and-mod, xor-mod}
 use Rattle.bits.proofs.BoolLaws.{by-test}
-use Rattle.bits.specs.Sets.{member, including, excluding, within}
+use Rattle.bits.specs.Sets.{member, including, excluding, remaining, within}
 
 -- ---- a member by its bit, lowest first
 
@@ -202,6 +202,25 @@ excluding-below s k n small =
     by-test (member s n)
     (λ set. omega (arith, excluding-member s n set))
     (λ clear. omega (arith, excluding-absent s n clear))
+
+-- ---- the members of a set that are not in another
+
+-- bit by bit
+remaining-bit : (s t n : ℕ) → remaining s t / 2 ^ n % 2 ≡ bitXor (s / 2 ^ n % 2) (bitAnd (s / 2 ^ n % 2) (t / 2 ^ n % 2))
+unfolding remaining
+remaining-bit s t n =
+    ap (λ (x : ℕ). x % 2 ^ 1) (xor-shr s (bitAnd s t) n ∙ ap (bitXor (s / 2 ^ n)) (and-shr s t n))
+    ∙ xor-mod (s / 2 ^ n) (bitAnd (s / 2 ^ n) (t / 2 ^ n)) 1
+    ∙ ap (bitXor (s / 2 ^ n % 2)) (and-mod (s / 2 ^ n) (t / 2 ^ n) 1)
+
+pub member-remaining : (s t n : ℕ) → member (remaining s t) n ≡ (member s n && not (member t n))
+member-remaining s t n =
+    by-test (member s n)
+    (λ set.
+    by-test (member t n)
+    (λ taken. rw (set, taken) (clear-member (remaining s t) n (remaining-bit s t n ∙ ap₂ (λ (x y : ℕ). bitXor x (bitAnd x y)) (member-set s n set) (member-set t n taken))))
+    (λ left. rw (set, left) (set-member (remaining s t) n (remaining-bit s t n ∙ ap₂ (λ (x y : ℕ). bitXor x (bitAnd x y)) (member-set s n set) (member-clear t n left)))))
+    (λ clear. rw clear (clear-member (remaining s t) n (remaining-bit s t n ∙ ap (λ (x : ℕ). bitXor x (bitAnd x (t / 2 ^ n % 2))) (member-clear s n clear) ∙ ap (bitXor 0) (and-zero-l (t / 2 ^ n % 2)))))
 
 -- ---- what the code's shifts and masks are, for the proofs of `has`, `with`, `without` and `all_below`
 

@@ -1,7 +1,7 @@
 // Sets of the numbers 0 to 63, a bit of a word each: n is a member exactly if bit n is set.
 ghost use mathlib.Core.Path.{_≡_};
 ghost use Prim.Native.Nat.{_<_};
-ghost use Rattle.bits.specs.Sets.{member, including, excluding, within};
+ghost use Rattle.bits.specs.Sets.{member, including, excluding, remaining, lowestFrom, within};
 
 // How many numbers a word has room for.
 const ROOM: u32 = 64;
@@ -31,6 +31,32 @@ pub fn without(set: u64, n: u32) -> u64
     ensures { λ r. ⌜ r ≡ excluding set n ⌝ }
 {
     if has(set, n) { set ^ (1 << n) } else { set }
+}
+
+// The members of a set that are not in another.
+pub fn remaining(set: u64, taken: u64) -> u64
+    ensures { λ r. ⌜ r ≡ remaining set taken ⌝ }
+{
+    set ^ (set & taken)
+}
+
+// The lowest member from n up; where there is none, the room of a word, or n if that is more.
+pub fn lowest_from(set: u64, n: u32) -> u32
+    ensures { λ r. ⌜ r ≡ lowestFrom set n ⌝ }
+{
+    if ROOM <= n {
+        return n;
+    }
+    let mut rest = set >> n;
+    let mut next = n;
+    while rest != 0 {
+        if rest % 2 == 1 {
+            return next;
+        }
+        rest /= 2;
+        next += 1;
+    }
+    ROOM
 }
 
 // Whether every member is below n.

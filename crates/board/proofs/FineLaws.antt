@@ -1,4 +1,4 @@
--- Laws of boards that break no rule: being fine goes by the counts and the first C parts alone, and the empty board is fine.
+-- Laws of boards that break no rule: being fine goes by the counts and the first C parts alone; what it says of the counts, of each part and of each relay; and the empty board is fine.
 use mathlib.Core.Path.{_≡_, refl, ap₂}
 use mathlib.Core.Bool.{true, _&&_}
 use mathlib.Core.List.{List, []}
@@ -9,13 +9,29 @@ use Rattle.board.specs.Parts.{partsOf, emptyBoard}
 use Rattle.board.specs.Rules.{countsFine, inRange, partsFine, boardFine}
 use Rattle.board.specs.Windings.{noWindings, complete, every}
 use Rattle.board.specs.Same.{sameBoard}
+use Rattle.bits.proofs.BoolLaws.{both-true}
+use Rattle.board.specs.Sorts.{Wound, partsFit}
+use Rattle.board.proofs.RuleLaws.{InRange, counts-in-range}
 use Rattle.board.proofs.SameLaws.{same-board-equal}
+use Rattle.board.proofs.WindingLaws.{fine-fit, fine-wound}
 
 pub same-boards-fine : (x y : Board) → sameBoard x y ≡ true → boardFine x ≡ boardFine y
 unfolding boardFine
 same-boards-fine x y same =
     let equal = same-board-equal x y same in
     ap₂ (λ (c : Counts) (ps : List Part). countsFine c && partsFine c noWindings ps) (equal .0) (equal .1)
+
+pub fine-range : (b : Board) → boardFine b ≡ true → InRange (b .counts)
+unfolding boardFine
+fine-range b fine = counts-in-range (b .counts) (both-true (countsFine (b .counts)) _ fine .0)
+
+pub fine-parts-fit : (b : Board) → boardFine b ≡ true → partsFit (b .counts) (partsOf b) ≡ true
+unfolding boardFine
+fine-parts-fit b fine = fine-fit (b .counts) noWindings (partsOf b) (both-true (countsFine (b .counts)) _ fine .1)
+
+pub fine-relays-wound : (b : Board) → boardFine b ≡ true → Wound (b .counts .relays) (partsOf b)
+unfolding boardFine
+fine-relays-wound b fine = fine-wound (b .counts) (partsOf b) (fine-range b fine .most-relays) (both-true (countsFine (b .counts)) _ fine .1)
 
 pub empty-fine : boardFine emptyBoard ≡ true
 unfolding boardFine emptyBoard countsFine inRange partsFine complete every

@@ -1,6 +1,5 @@
 -- The laws, by subject; each function has its proof in a folder of its own.
 pub mod EveryLaws
-pub mod FirstLaws
 pub mod RuleLaws
 pub mod SameLaws
 pub mod KindLaws

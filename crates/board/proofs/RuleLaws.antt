@@ -13,7 +13,7 @@ use Rattle.board.specs.declared.windings.Windings.{Windings}
 use Rattle.board.specs.Parts.{blank, partsOf}
 use Rattle.board.specs.Rules.{countsFine, inRange, partFits, partFine, partsFine, nameFine, boardFine}
 use Rattle.board.specs.Windings.{noWindings, windingFree, gained, complete}
-use Rattle.board.proofs.FirstLaws.{first-from, first-past}
+use Rattle.lists.proofs.FirstLaws.{first-from, first-past}
 use Rattle.bits.proofs.BoolLaws.{both-true}
 
 -- what `countsFine` says, as bounds

@@ -185,7 +185,7 @@ splits-part : (c : Counts) (w : Windings) (p : Part) → partFits c p ≡ true �
 unfolding partFine
 splits-part c w p fits free = true-both fits free
 
-part-named : (c : Counts) (p : Part) → partFits c p ≡ true → nameFine c (p .kind) ≡ true
+pub part-named : (c : Counts) (p : Part) → partFits c p ≡ true → nameFine c (p .kind) ≡ true
 unfolding partFits
 part-named c p fits = both-true (terminalFine c (p .a) && terminalFine c (p .b) && endsFine (p .a) (p .b)) (nameFine c (p .kind)) fits .1
 

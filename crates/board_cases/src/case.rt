@@ -2,6 +2,7 @@
 // room for are dropped.
 use crate::file;
 use crate::handed;
+use crate::judged;
 use crate::text;
 use crate::text::Ending;
 use crate::text::Mark;
@@ -34,6 +35,7 @@ fn answer(ending: Ending, bytes: &[u8]) {
         Ending::File => file::answer(bytes),
         Ending::Handed => handed::answer(bytes),
         Ending::Short => file::answer_short(bytes),
+        Ending::Judged => judged::answer(bytes),
     }
 }
 

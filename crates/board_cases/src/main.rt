@@ -1,10 +1,12 @@
 // Runs board cases through the proved libraries and prints what they answer. A case is typed as text: pairs of hex
 // digits are its bytes, `*` adds zero bytes up to a length of 65,536, `#` opens a comment up to the end of the line, and
-// the case ends with `>` (a board file, to be read and written back), `!` (a board handed in) or `?` (a board file, to
-// be written into a buffer one byte too short). White space stands between.
+// the case ends with `>` (a board file, to be read and written back), `!` (a board handed in), `?` (a board file, to be
+// written into a buffer one byte too short) or `@` (a board file and what is to be judged on it). White space stands
+// between.
 mod case;
 mod file;
 mod handed;
+mod judged;
 mod print;
 mod text;
 

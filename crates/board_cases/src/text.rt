@@ -1,10 +1,12 @@
 // What each character of the text means.
 
-// How a case ends: as a board file, as a board handed in, or as a board file for a buffer that is too short.
+// How a case ends: as a board file, as a board handed in, as a board file for a buffer that is too short, or as a
+// judgement.
 pub enum Ending {
     File,
     Handed,
     Short,
+    Judged,
 }
 
 // What a character is.
@@ -26,6 +28,7 @@ pub fn mark_of(character: u8) -> Mark {
         b'>' => Mark::End(Ending::File),
         b'!' => Mark::End(Ending::Handed),
         b'?' => Mark::End(Ending::Short),
+        b'@' => Mark::End(Ending::Judged),
         b'0'..=b'9' => Mark::Digit(character - 48),
         b'A'..=b'F' => Mark::Digit(character - 55),
         b'a'..=b'f' => Mark::Digit(character - 87),

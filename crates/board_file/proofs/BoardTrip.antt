@@ -20,7 +20,7 @@ use Rattle.bits.proofs.BoolLaws.{both-true, true-both}
 use Rattle.board.proofs.PaddedLaws.{padded-length, padded-parts}
 use Rattle.board.proofs.RuleLaws.{InRange, counts-in-range}
 use Rattle.board_reader.specs.Reading.{wanted, countsAt, partAt, partsAt, boardOf, boardFrom, boardAt}
-use Rattle.board_reader.proofs.OutcomeLaws.{given-same, handed, passed}
+use Rattle.number.proofs.OutcomeLaws.{given-same, handed, passed}
 use Rattle.board_reader.proofs.FieldLaws.{range-within}
 use Rattle.board_reader.proofs.CountsLaws.{CountsFound, counts-found, counts-found-fine, counts-read}
 use Rattle.board_writer.specs.File.{countsBytes, partBytes, partsBytes, boardBytes}

@@ -23,7 +23,7 @@ use Rattle.bits.proofs.BoolLaws.{both-true, true-both}
 use Rattle.board.proofs.KindLaws.{kind-of-parts, kind-number-of, kind-name-of, kind-of-wire, kind-number-most}
 use Rattle.board.proofs.RuleLaws.{InRange}
 use Rattle.board_reader.specs.Reading.{wanted, nameAt, partAt}
-use Rattle.board_reader.proofs.OutcomeLaws.{given-same, Handed, handed, passed}
+use Rattle.number.proofs.OutcomeLaws.{given-same, Handed, handed, passed}
 use Rattle.board_reader.proofs.FieldLaws.{range-within, range-bounds, wanted-found, name-wire, name-carried}
 use Rattle.board_reader.proofs.PartLaws.{part-as, part-found}
 use Rattle.board_writer.specs.File.{nameBytes, partBytes}

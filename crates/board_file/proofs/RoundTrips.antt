@@ -19,7 +19,7 @@ use Rattle.board.proofs.PaddedLaws.{padded-parts}
 use Rattle.board.proofs.RuleLaws.{counts-in-range}
 use Rattle.board.proofs.SameLaws.{equal-same-board}
 use Rattle.board_reader.specs.Reading.{boardOf, boardAt, answered, reading}
-use Rattle.board_reader.proofs.OutcomeLaws.{refused-never, given-same, passed}
+use Rattle.number.proofs.OutcomeLaws.{refused-never, given-same, passed}
 use Rattle.board_writer.specs.File.{boardBytes}
 use Rattle.board_writer.specs.Writing.{writing}
 use Rattle.board_writer.proofs.WriteLaws.{writing-with-room}

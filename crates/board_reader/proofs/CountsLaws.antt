@@ -15,7 +15,7 @@ use Rattle.bits.proofs.BoolLaws.{true-both}
 use Rattle.board_reader.specs.Reading.{wanted, countsAt, toldAnswer}
 use Rattle.board_reader.specs.Steps.{foundAt, placeOf, toldCounts}
 use Rattle.board_reader.specs.declared.counts.CountsRead.{CountsRead}
-use Rattle.board_reader.proofs.OutcomeLaws.{given-same, handed}
+use Rattle.number.proofs.OutcomeLaws.{given-same, handed}
 use Rattle.board_reader.proofs.FieldLaws.{wanted-found, range-bounds}
 
 -- a refused count as the answer on all four

@@ -15,7 +15,7 @@ use Rattle.board.specs.declared.Counts.{Counts}
 use Rattle.bits.proofs.BoolLaws.{both-true}
 use Rattle.board.specs.Rules.{inRange, limitOf}
 use Rattle.board_reader.specs.Reading.{wanted, nameAt}
-use Rattle.board_reader.proofs.OutcomeLaws.{given-same, handed, passed}
+use Rattle.number.proofs.OutcomeLaws.{given-same, handed, passed}
 
 module _ (ok : ℕ → Bool) (n : ℕ) (s : List ℕ) (at : ℕ) where
   pub wanted-refused : (k p : ℕ) → numberAt s at ≡ refused k p → wanted ok n s at ≡ refused k p

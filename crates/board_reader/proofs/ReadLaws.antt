@@ -16,7 +16,7 @@ use Rattle.board_reader.specs.Steps.{foundAt, toldCounts}
 use Rattle.board_reader.specs.declared.ReadAnswer.{ReadAnswer}
 use Rattle.board_reader.specs.declared.ReadAnswer.the-variants.{Read, Refused}
 use Rattle.board_reader.specs.declared.counts.CountsRead.{CountsRead}
-use Rattle.board_reader.proofs.OutcomeLaws.{refused-never}
+use Rattle.number.proofs.OutcomeLaws.{refused-never}
 
 -- what the answer on the counts says of the outcome that it tells
 pub counts-stopped : (o : Outcome (Found Counts)) (a : CountsRead) (r : Refusal) → a .answer ≡ Refused r → toldCounts a ≡ o → o ≡ refused (r .number) (r .place)

@@ -12,7 +12,7 @@ use Rattle.number.specs.declared.Refusal.{Refusal}
 use Rattle.number.specs.Outcomes.{Outcome, given, refused}
 use Rattle.number.specs.Refusals.{brokenBoard, bufferTooShort}
 use Rattle.number.specs.Numbers.{Bytes, numberBytes}
-use Rattle.number.proofs.NumberLaws.{number-bytes-length, number-bytes-one, number-bytes-length-two, number-bytes-are-bytes}
+use Rattle.number.proofs.NumberLaws.{number-bytes-one, number-bytes-length-two, number-bytes-are-bytes}
 use Rattle.board.specs.declared.Kind.{Kind}
 use Rattle.board.specs.declared.Part.{Part}
 use Rattle.board.specs.declared.Counts.{Counts}

@@ -11,7 +11,7 @@ use Rattle.board.specs.declared.Kind.{Kind}
 use Rattle.board.specs.declared.Part.{Part}
 use Rattle.board.specs.declared.Counts.{Counts}
 use Rattle.board.specs.Parts.{kindNumber, nameOf, blank}
-use Rattle.board.proofs.FirstLaws.{first-from, first-past}
+use Rattle.lists.proofs.FirstLaws.{first-from, first-past}
 use Rattle.board_writer.specs.File.{nameBytes, partBytes, partsBytes, countsBytes}
 
 abbrev size : ℕ → ℕ

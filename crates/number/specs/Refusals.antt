@@ -41,6 +41,10 @@ windingLacking = 9
 abbrev pub inputTooLong : ℕ
 inputTooLong = 10
 
+-- 11: no such relay, or a second winding asked of a regular one
+abbrev pub noSuchWinding : ℕ
+noSuchWinding = 11
+
 -- 12: push of a pushed button, release of a released one
 abbrev pub alreadySo : ℕ
 alreadySo = 12

@@ -29,6 +29,8 @@ pub const WINDING_LACKING: u32 = 9;
 
 pub const INPUT_TOO_LONG: u32 = 10;
 
+pub const NO_SUCH_WINDING: u32 = 11;
+
 pub const ALREADY_SO: u32 = 12;
 
 pub const STATE_BEYOND_BOARD: u32 = 14;

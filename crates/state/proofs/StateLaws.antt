@@ -9,6 +9,7 @@ use borrow.Author.Tests.{ltb-true, lt-ltb, le-ltb}
 use Rattle.bits.specs.Sets.{including, excluding, within}
 use Rattle.bits.proofs.SetLaws.{member-including-same, member-including-other, member-excluding-same, member-excluding-other, member-none, members-same, within-member, member-within, including-below, excluding-below}
 use Rattle.number.specs.declared.Refusal.{Refusal}
+use Rattle.number.proofs.OutcomeLaws.{refusal-equal}
 use Rattle.number.specs.Outcomes.{Outcome, given, refused, unless, _>>_}
 use Rattle.number.specs.Refusals.{noSuchName, alreadySo, stateBeyondBoard, brokenBoard}
 use Rattle.board.specs.declared.Counts.{Counts}
@@ -166,9 +167,6 @@ unfolding releasing
 release-refused b s t n m p = left-refused s _ t _ m p (pressable-place b s n _ m p)
 
 -- ---- the answer's cases are told apart
-
-refusal-equal : (r q : Refusal) → r .number ≡ q .number → r .place ≡ q .place → r ≡ q
-refusal-equal r q e f = λ i. record { number = e i; place = f i }
 
 told-press-once : (x y : Press) → toldPress x ≡ toldPress y → x ≡ y
 told-press-once Done Done e = refl

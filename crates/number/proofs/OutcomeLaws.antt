@@ -1,15 +1,19 @@
--- Laws of outcomes one after the other: where a row of them gives something, each of them did. They take a `do` block of the definitions apart.
+-- Laws of outcomes one after the other: where a row of them gives something, each of them did. They take a `do` block of the definitions apart. Also, when two refusals are one.
 use Prim.Native.Nat.{ℕ}
 use native.Mathlib.Omega.{arith}
 use mathlib.Core.Path.{_≡_, refl}
 use mathlib.Core.Bool.{Bool, true, false}
+use Rattle.number.specs.declared.Refusal.{Refusal}
 use Rattle.number.specs.Outcomes.{Outcome, given, refused, _>>=_, _>>_, unless}
 
 pub refused-never : {A : Type 0} (k p : ℕ) (a : A) → refused k p ≡ given a → ⊥
 refused-never k p a h = let z : _≡_ {A = ℕ} 0 1 = cc in omega arith
 
 pub given-same : {A : Type 0} (a b : A) → given a ≡ given b → a ≡ b
 given-same a b h = cc
+
+pub refusal-equal : (r q : Refusal) → r .number ≡ q .number → r .place ≡ q .place → r ≡ q
+refusal-equal r q e f = λ i. record { number = e i; place = f i }
 
 -- what was handed on, that it was given, and what came of it
 pub record Handed {A B : Type 0} (o : Outcome A) (f : A → Outcome B) (b : B) : Type 0 where

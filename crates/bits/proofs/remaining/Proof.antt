@@ -1,0 +1,12 @@
+-- `bits::remaining` meets its contract.
+use Rattle.bits.proofs.remaining.Statement.{statement}
+use Rattle.bits.proofs.remaining.Tie as tie
+use mathlib.Core.Path.{refl}
+use Rattle.bits.specs.Sets.{remaining}
+
+returns : tie.Need-returns
+unfolding remaining
+returns c = refl
+
+pub remaining-spec : {M : Type 1} → statement M
+remaining-spec = tie.close (tie.spec returns)

@@ -1,0 +1,45 @@
+-- Laws of judging as a call, one for each way out of `judge`: refused by 15, 14 or 11, in that order, or judged.
+use Prim.Native.Nat.{ℕ}
+use mathlib.Core.Path.{_≡_, refl, sym, ap, _∙_}
+use mathlib.Core.Bool.{true, false}
+use mathlib.Core.List.{List}
+use Rattle.number.specs.Outcomes.{Outcome, given, refused}
+use Rattle.number.specs.Refusals.{stateBeyondBoard, brokenBoard}
+use Rattle.board.specs.declared.Board.{Board}
+use Rattle.board.specs.Parts.{partsOf}
+use Rattle.board.specs.Rules.{boardFine}
+use Rattle.board.proofs.FineLaws.{fine-range}
+use Rattle.state.specs.declared.State.{State}
+use Rattle.state.specs.States.{stateFine}
+use Rattle.neighbours.specs.Neighbours.{neighbours}
+use Rattle.search.specs.declared.Winding.{Winding}
+use Rattle.search.specs.Verdicts.{judged}
+use Rattle.search.proofs.VerdictLaws.{judged-given}
+use Rattle.judge.specs.declared.Which.{Which}
+use Rattle.judge.specs.RelayWindings.{windingOf}
+use Rattle.judge.specs.Judging.{judgeable, verdictOn, judging}
+
+module _ (b : Board) (s : State) (r : ℕ) (n : Which) where
+  pub judgeable-broken : boardFine b ≡ false → judgeable b s r n ≡ refused brokenBoard 0
+  unfolding judgeable
+  judgeable-broken off = rw off refl
+
+  pub judgeable-beyond : boardFine b ≡ true → stateFine (b .counts) s ≡ false → judgeable b s r n ≡ refused stateBeyondBoard 0
+  unfolding judgeable
+  judgeable-beyond fine off = rw (fine, off) refl
+
+  pub judgeable-sought : boardFine b ≡ true → stateFine (b .counts) s ≡ true → judgeable b s r n ≡ windingOf n r (partsOf b)
+  unfolding judgeable
+  judgeable-sought fine fits = rw (fine, fits) refl
+
+  -- the call's verdict goes by what is judged
+  pub judging-by : (w : ℕ) (o : Outcome Winding) → judgeable b s r n ≡ o → verdictOn b s w o ≡ judging b s r n w
+  unfolding judging
+  judging-by w o e = ap (verdictOn b s w) (sym e)
+
+  pub judging-judged : (w : ℕ) (v : Winding) (near : List ℕ) → boardFine b ≡ true → stateFine (b .counts) s ≡ true → windingOf n r (partsOf b) ≡ given v → near ≡ neighbours b s
+      → judged near (b .counts .terminals) v w ≡ judging b s r n w
+  judging-judged w v near fine fits found same =
+      ap (λ (k : List ℕ). judged k (b .counts .terminals) v w) same
+      ∙ sym (judged-given (neighbours b s) (b .counts .terminals) v w (fine-range b fine .most-terminals))
+      ∙ judging-by w (given v) (judgeable-sought fine fits ∙ found)

@@ -1,0 +1,61 @@
+-- Laws of a relay's winding among the parts: what the walk along a board's first C parts needs, one law for each way out of `winding`.
+use Prim.Native.Nat.{ℕ, _+_, _<_, _≤_}
+use mathlib.Core.Path.{_≡_, refl, sym, ap, _∙_}
+use mathlib.Core.Bool.{true, false}
+use mathlib.Core.List.{List, [], _∷_}
+use lib.ListN.{length, getD, take, drop}
+use Rattle.number.specs.Outcomes.{Outcome, given, refused}
+use Rattle.number.specs.Refusals.{noSuchWinding}
+use Rattle.number.proofs.OutcomeLaws.{refused-never, given-same}
+use Rattle.board.specs.declared.Part.{Part}
+use Rattle.board.specs.Parts.{blank}
+use Rattle.lists.proofs.FirstLaws.{taken-from, taken-past, taken-full}
+use Rattle.search.specs.declared.Winding.{Winding}
+use Rattle.judge.specs.declared.Which.{Which}
+use Rattle.judge.specs.declared.Sought.{Sought}
+use Rattle.judge.specs.declared.Sought.the-variants.{Between, Nowhere}
+use Rattle.judge.specs.RelayWindings.{isWinding, windingOf, toldSought}
+
+abbrev pub ends : Part → Winding
+ends p = record { a = p .a; b = p .b }
+
+pub winding-here : (w : Which) (r : ℕ) (p : Part) (ps : List Part) → isWinding w r (p .kind) ≡ true → windingOf w r (p ∷ ps) ≡ given (ends p)
+unfolding windingOf
+winding-here w r p ps e = rw e refl
+
+pub winding-past : (w : Which) (r : ℕ) (p : Part) (ps : List Part) → isWinding w r (p .kind) ≡ false → windingOf w r (p ∷ ps) ≡ windingOf w r ps
+unfolding windingOf
+winding-past w r p ps e = rw e refl
+
+pub winding-none : (w : Which) (r : ℕ) → windingOf w r [] ≡ refused noSuchWinding 0
+unfolding windingOf
+winding-none w r = refl
+
+-- at place i of the first n parts of l, `all` is the winding among the parts from there on
+module _ (w : Which) (r : ℕ) (l : List Part) (n i : ℕ) (all : Outcome Winding) (here : all ≡ windingOf w r (drop i (take n l))) where
+  pub sought-here : i < n → i < length l → isWinding w r (getD l i blank .kind) ≡ true → given (ends (getD l i blank)) ≡ all
+  sought-here below there e = sym (here ∙ ap (windingOf w r) (taken-from blank l n i below there) ∙ winding-here w r (getD l i blank) (drop (i + 1) (take n l)) e)
+
+  pub sought-on : i < n → i < length l → isWinding w r (getD l i blank .kind) ≡ false → all ≡ windingOf w r (drop (i + 1) (take n l))
+  sought-on below there e = here ∙ ap (windingOf w r) (taken-from blank l n i below there) ∙ winding-past w r (getD l i blank) (drop (i + 1) (take n l)) e
+
+  pub sought-end : n ≤ i → refused noSuchWinding 0 ≡ all
+  sought-end past = sym (here ∙ ap (windingOf w r) (taken-past blank l n i past) ∙ winding-none w r)
+
+  pub sought-full : length l ≤ i → refused noSuchWinding 0 ≡ all
+  sought-full past = sym (here ∙ ap (windingOf w r) (taken-full blank l n i past) ∙ winding-none w r)
+
+-- ---- two answers that say the same are one
+
+pub told-sought-once : (x y : Sought) → toldSought x ≡ toldSought y → x ≡ y
+told-sought-once (Between v) (Between w) e = ap Between (given-same v w e)
+told-sought-once (Between v) Nowhere e = absurd (refused-never noSuchWinding 0 v (sym e))
+told-sought-once Nowhere (Between w) e = absurd (refused-never noSuchWinding 0 w e)
+told-sought-once Nowhere Nowhere e = refl
+
+-- what an answer says of the winding
+pub told-between : (x : Sought) (v : Winding) (o : Outcome Winding) → x ≡ Between v → toldSought x ≡ o → o ≡ given v
+told-between x v o e told = sym told ∙ ap toldSought e
+
+pub told-nowhere : (x : Sought) (o : Outcome Winding) → x ≡ Nowhere → toldSought x ≡ o → o ≡ refused noSuchWinding 0
+told-nowhere x o e told = sym told ∙ ap toldSought e

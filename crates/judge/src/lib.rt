@@ -1,0 +1,125 @@
+// Judging a winding of a relay, on any board and state handed in: refusals 15, 14 and 11, then the search.
+ghost use mathlib.Core.Path.{_≡_};
+ghost use Rattle.board.specs.Parts.{partsOf};
+ghost use Rattle.search.specs.Verdicts.{unanswered, toldVerdict};
+ghost use Rattle.judge.specs.RelayWindings.{isFirst, isSecond, isWinding, windingOf, toldSought};
+ghost use Rattle.judge.specs.Judging.{judging};
+use board::Board;
+use board::Kind;
+use board::MOST_PARTS;
+use number::BROKEN_BOARD;
+use number::NO_SUCH_WINDING;
+use number::Refusal;
+use number::STATE_BEYOND_BOARD;
+use search::Finding;
+use search::Verdict;
+use search::Winding;
+use state::State;
+
+// Which winding of a relay: its first, the regular or the drawing one, or its second, the dropping one.
+pub enum Which {
+    First,
+    Second,
+}
+
+// Where a relay's winding is, or that it has no such winding.
+pub enum Sought {
+    Between(Winding),
+    Nowhere,
+}
+
+// Whether a kind is the first winding of this relay.
+fn is_first(kind: Kind, relay: u32) -> bool
+    ensures { λ r. ⌜ r ≡ isFirst relay kind ⌝ }
+{
+    match kind {
+        Kind::Regular(name) => bits::wide(name) == relay,
+        Kind::Drawing(name) => bits::wide(name) == relay,
+        Kind::Dropping(_) => false,
+        Kind::Wire => false,
+        Kind::Upper(_) => false,
+        Kind::Lower(_) => false,
+        Kind::Button(_) => false,
+    }
+}
+
+// Whether a kind is the second winding of this relay.
+fn is_second(kind: Kind, relay: u32) -> bool
+    ensures { λ r. ⌜ r ≡ isSecond relay kind ⌝ }
+{
+    match kind {
+        Kind::Dropping(name) => bits::wide(name) == relay,
+        Kind::Regular(_) => false,
+        Kind::Drawing(_) => false,
+        Kind::Wire => false,
+        Kind::Upper(_) => false,
+        Kind::Lower(_) => false,
+        Kind::Button(_) => false,
+    }
+}
+
+// Whether a kind is that winding of this relay.
+fn is_winding(kind: Kind, relay: u32, which: Which) -> bool
+    ensures { λ r. ⌜ r ≡ isWinding which relay kind ⌝ }
+{
+    match which {
+        Which::First => is_first(kind, relay),
+        Which::Second => is_second(kind, relay),
+    }
+}
+
+// The ends of that winding of this relay (11 where there is none).
+pub fn winding(board: Board, relay: u32, which: Which) -> Sought
+    ensures { λ r. ⌜ toldSought r ≡ windingOf which relay (partsOf board) ⌝ }
+{
+    let parts = board.parts;
+    let count = board.counts.parts;
+    let mut i = 0;
+    while i < count {
+        if MOST_PARTS <= i {
+            return Sought::Nowhere;
+        }
+        let part = parts[i];
+        let kind = part.kind;
+        if is_winding(kind, relay, which) {
+            return Sought::Between(Winding {
+                a: part.a,
+                b: part.b,
+            });
+        }
+        i += 1;
+    }
+    Sought::Nowhere
+}
+
+// A refused judgement: no verdict, effort 0 and length 0. A call's place is 0.
+fn refuse(number: u32) -> Verdict
+    ensures { λ r. ⌜ toldVerdict r ≡ unanswered number 0 ⌝ }
+{
+    let terminals = [0u8; 64];
+    Verdict {
+        finding: Finding::Refused(Refusal { number, place: 0 }),
+        effort: 0,
+        length: 0,
+        terminals,
+    }
+}
+
+// Judges that winding of this relay within the allowance.
+pub fn judge(board: Board, state: State, relay: u32, which: Which, allowance: u32) -> Verdict
+    ensures { λ r. ⌜ toldVerdict r ≡ judging board state relay which allowance ⌝ }
+{
+    if !board::check(board) {
+        return refuse(BROKEN_BOARD);
+    }
+    let counts = board.counts;
+    if !state.fits(counts) {
+        return refuse(STATE_BEYOND_BOARD);
+    }
+    let sought = winding(board, relay, which);
+    let Sought::Between(ends) = sought else {
+        return refuse(NO_SUCH_WINDING);
+    };
+    let near = neighbours::neighbours(board, state);
+    search::search(&near, counts.terminals, ends, allowance)
+}

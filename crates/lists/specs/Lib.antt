@@ -1,0 +1,2 @@
+-- The definitions, which later crates use in theirs.
+pub mod Members

@@ -1,0 +1,17 @@
+-- What conducts. Rule book, "Parts of a board", the table's last column, a line for each kind in its order.
+--     conducts s k      a part of kind k conducts in state s
+-- A contact has no state of its own: it follows its relay (document 002).
+use mathlib.Core.Bool.{Bool, true, not}
+use Rattle.board.specs.declared.Kind.{Kind}
+use Rattle.board.specs.declared.Kind.the-variants.{Wire, Upper, Lower, Button, Regular, Drawing, Dropping}
+use Rattle.state.specs.declared.State.{State}
+use Rattle.state.specs.States.{isDrawn, isPushed}
+
+abbrev pub conducts : State → Kind → Bool
+conducts s Wire = true
+conducts s (Upper relay) = isDrawn s relay
+conducts s (Lower relay) = not (isDrawn s relay)
+conducts s (Button button) = isPushed s button
+conducts s (Regular relay) = true
+conducts s (Drawing relay) = true
+conducts s (Dropping relay) = true

@@ -1,0 +1,70 @@
+// Which parts of a board conduct in a state, and which terminals they join.
+ghost use mathlib.Core.Path.{_≡_};
+ghost use Rattle.neighbours.specs.Conduction.{conducts};
+ghost use Rattle.neighbours.specs.Neighbours.{joining, bridged, neighbours};
+use board::Board;
+use board::Kind;
+use board::MOST_PARTS;
+use board::MOST_TERMINALS;
+use board::Part;
+use state::State;
+
+// Whether a part of this kind conducts: a line for each line of the rule book's table. A contact follows its relay.
+pub fn conducts(kind: Kind, state: State) -> bool
+    ensures { λ r. ⌜ r ≡ conducts state kind ⌝ }
+{
+    match kind {
+        Kind::Wire => true,
+        Kind::Upper(relay) => bits::has(state.drawn, bits::wide(relay)),
+        Kind::Lower(relay) => !bits::has(state.drawn, bits::wide(relay)),
+        Kind::Button(button) => bits::has(state.pushed, bits::wide(button)),
+        Kind::Regular(_) => true,
+        Kind::Drawing(_) => true,
+        Kind::Dropping(_) => true,
+    }
+}
+
+// The sets with y joined to x besides; as they are where they have no place for x.
+fn join(near: [u64; 64], x: u8, y: u8) -> [u64; 64]
+    ensures { λ r. ⌜ r ≡ joining near x y ⌝ }
+{
+    if MOST_TERMINALS <= x {
+        return near;
+    }
+    let place = x as usize;
+    let mut next = near;
+    next[place] = bits::with(near[place], bits::wide(y));
+    next
+}
+
+// The sets with the ends of a part joined besides, in both directions, if it conducts.
+fn bridge(near: [u64; 64], part: Part, state: State) -> [u64; 64]
+    ensures { λ r. ⌜ r ≡ bridged state near part ⌝ }
+{
+    let kind = part.kind;
+    if conducts(kind, state) {
+        join(join(near, part.a, part.b), part.b, part.a)
+    } else {
+        near
+    }
+}
+
+// For each terminal the set of terminals that a conducting part joins to it.
+pub fn neighbours(board: Board, state: State) -> [u64; 64]
+    ensures { λ r. ⌜ r ≡ neighbours board state ⌝ }
+{
+    let parts = board.parts;
+    let count = board.counts.parts;
+    let mut near = [0u64; 64];
+    let mut i = 0;
+    while i < count {
+        if MOST_PARTS <= i {
+            return near;
+        }
+        let part = parts[i];
+        let next = bridge(near, part, state);
+        near = next;
+        i += 1;
+    }
+    near
+}

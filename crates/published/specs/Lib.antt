@@ -1,0 +1,2 @@
+-- The published model's words.
+pub mod Circuits

@@ -1,0 +1,21 @@
+-- `search::search` meets its contract.
+use borrow.Author.Needs.{needs}
+use Rattle.search.proofs.search.Statement.{statement}
+use Rattle.search.proofs.search.Tie as tie
+use mathlib.Core.Path.{_∙_}
+use Rattle.search.proofs.VerdictLaws.{judged-most, judged-given}
+
+from-plus-requires : tie.Need-from-plus-requires
+from-plus-requires c κs = search needs
+
+from-plus-requires-2 : tie.Need-from-plus-requires-2
+from-plus-requires-2 c κs = search needs
+
+returns : tie.Need-returns
+returns c = c .from-plus .ensures ∙ judged-most _ _ _ _ (c .before .if1 .taken)
+
+returns-2 : tie.Need-returns-2
+returns-2 c = c .from-plus2 .ensures ∙ judged-given _ _ _ _ (c .before .if1 .left)
+
+pub search-spec : {M : Type 1} → statement M
+search-spec = tie.close (tie.spec from-plus-requires from-plus-requires-2 returns returns-2)

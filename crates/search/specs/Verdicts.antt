@@ -1,0 +1,74 @@
+-- Judging a winding by the chains. Rule book: "Live, with the first such chain shown, exactly if the winding is live and its effort is at most W. Dead exactly if it is dead and its effort is at most W. Undecided otherwise."
+--     firstShown s cs        the first of the chains cs that passes the test s, if one does
+--     effort s cs            "the number of chains up to and including the first such one; for a dead winding it is the number of all chains"
+--     places c               "A chain is shown as its length and 64 places, the unused ones 0"
+--     settled e f            live with effort e and the chain shown, or dead with effort e
+--     unsettled w            undecided: "undecided reports W"
+--     weighed s cs w         the verdict by the chains cs within the allowance w
+--     judgement near t v w   the verdict on winding v within the allowance w, by all chains of t terminals that `near` joins
+--     judged near t v w      the same; the sets `near` are of 64 terminals, and of more only those are looked at
+--     unanswered n p         "a refused judgement no verdict, effort 0 and length 0"
+--     toldFinding, toldVerdict   the answer's cases in the rule book's words and numbers
+use Prim.Native.Nat.{ℕ, suc, _-_}
+use mathlib.Core.Bool.{Bool, cond}
+use mathlib.Core.List.{List, [], _∷_, _++_}
+use mathlib.Core.Option.{Option, none, some}
+use lib.Dec.{leb, ltb}
+use lib.ListN.{replicate}
+use Rattle.number.specs.Outcomes.{Outcome, given, refused}
+use Rattle.board.specs.Rules.{mostTerminals}
+use Rattle.neighbours.specs.Neighbours.{joined}
+use Rattle.chains.specs.ChainList.{chains, shows}
+use Rattle.search.specs.declared.Winding.{Winding}
+use Rattle.search.specs.declared.Finding.{Finding}
+use Rattle.search.specs.declared.Finding.the-variants.{Live, Dead, Undecided, Refused}
+use Rattle.search.specs.declared.Verdict.{Verdict}
+
+-- the rule book's three words
+pub data Word : Type 0 where
+  live dead undecided : Word
+
+pub record Judgement : Type 0 where
+  pub word : Outcome Word
+  pub effort : ℕ
+  pub length : ℕ
+  pub places : List ℕ
+
+unfoldable pub firstShown : (List ℕ → Bool) → List (List ℕ) → Option (List ℕ)
+firstShown s [] = none
+firstShown s (c ∷ cs) = cond (s c) (some c) (firstShown s cs)
+
+unfoldable pub effort : (List ℕ → Bool) → List (List ℕ) → ℕ
+effort s [] = 0
+effort s (c ∷ cs) = suc (cond (s c) 0 (effort s cs))
+
+unfoldable pub places : List ℕ → List ℕ
+places c = c ++ replicate (mostTerminals - lib.ListN.length c) 0
+
+abbrev pub settled : ℕ → Option (List ℕ) → Judgement
+settled e (some c) = record { word = given live; effort = e; length = lib.ListN.length c; places = places c }
+settled e none = record { word = given dead; effort = e; length = 0; places = places [] }
+
+abbrev pub unsettled : ℕ → Judgement
+unsettled w = record { word = given undecided; effort = w; length = 0; places = places [] }
+
+unfoldable pub weighed : (List ℕ → Bool) → List (List ℕ) → ℕ → Judgement
+weighed s cs w = cond (leb (effort s cs) w) (settled (effort s cs) (firstShown s cs)) (unsettled w)
+
+unfoldable pub judgement : List ℕ → ℕ → Winding → ℕ → Judgement
+judgement near t v w = weighed (shows (v .a) (v .b)) (chains (joined near) t) w
+
+unfoldable pub judged : List ℕ → ℕ → Winding → ℕ → Judgement
+judged near t v w = judgement near (cond (ltb mostTerminals t) mostTerminals t) v w
+
+abbrev pub unanswered : ℕ → ℕ → Judgement
+unanswered n p = record { word = refused n p; effort = 0; length = 0; places = places [] }
+
+abbrev pub toldFinding : Finding → Outcome Word
+toldFinding Live = given live
+toldFinding Dead = given dead
+toldFinding Undecided = given undecided
+toldFinding (Refused r) = refused (r .number) (r .place)
+
+abbrev pub toldVerdict : Verdict → Judgement
+toldVerdict v = record { word = toldFinding (v .finding); effort = v .effort; length = v .length; places = v .terminals }

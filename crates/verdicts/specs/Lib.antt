@@ -1,0 +1,5 @@
+-- The statements, in reading order.
+pub mod Exactness
+pub mod Allowances
+pub mod Eleven
+pub mod Tried

@@ -1,0 +1,174 @@
+"""Compares the proved program `board_cases` with the model of judging in tests/lib/judge_model.py on generated judgements:
+random boards of 2 to 10 terminals, rings, ladders, paths through all 64 terminals, each with allowances around the effort,
+states within and beyond the board, relays that are there and that are not; and searches that nest deeply, with 2 MiB of
+stack. Seeded, so each run tries the same cases; `python3 tests/judging.py SEED BOARDS` tries others, or more (it is 1 and
+600 else). Needs target/bin/board_cases, which `rt check board_cases` builds."""
+import os
+import random
+import sys
+
+sys.path.insert(0, os.path.join(os.path.dirname(os.path.abspath(__file__)), "lib"))
+import board_model
+import judge_model as model
+import program
+import repository
+
+LARGEST = 2_097_151
+MOST_CHAINS = 200_000  # boards with more are left out
+STACK = 2 * 1024 * 1024
+
+
+def some_parts(dice, relays, buttons, joined, ends):
+    """A part on each of the pairs that are to be joined, and each relay's windings on some of the pairs of ends."""
+    parts = []
+    for relay in range(relays):
+        for kind in dice.choice([[4], [5, 6], [6, 5]]):
+            parts.append([kind] + dice.choice(ends) + [relay])
+    kinds = [0] * dice.choice([1, 5, 500]) + [1, 2, 3]
+    for pair in joined:
+        kind = dice.choice(kinds)
+        names = buttons if kind == model.BUTTON else relays
+        parts.append([kind] + pair + [dice.randrange(names)] if kind and names else [0] + pair)
+    for part in parts:
+        if dice.random() < 0.5:
+            part[1:3] = part[2:0:-1]
+    dice.shuffle(parts)
+    return parts
+
+
+def random_pairs(dice):
+    """Between 2 and 10 terminals, joined at random, some of them more than once."""
+    terminals = dice.randint(2, 10)
+    every = [[a, b] for a in range(terminals) for b in range(a)]
+    joined = [dice.choice(every) for _ in range(dice.randint(0, dice.choice([1, 2, 4]) * terminals))]
+    return terminals, joined, joined + every if dice.random() < 0.5 or not joined else joined
+
+
+def dense_pairs(dice):
+    """Between 4 and 9 terminals, nearly all of them joined to each other."""
+    terminals = dice.randint(4, 9)
+    every = [[a, b] for a in range(terminals) for b in range(a)]
+    joined = dice.sample(every, len(every) - dice.randint(0, 3))
+    return terminals, joined, joined
+
+
+def ring_pairs(dice):
+    """A ring of terminals in any order."""
+    terminals = dice.randint(3, 20)
+    order = dice.sample(range(terminals), terminals)
+    ring = [list(pair) for pair in zip(order, order[1:] + order[:1])]
+    return terminals, ring, ring
+
+
+def ladder_pairs(dice):
+    """Two rails with rungs, plus at one end and minus at the other."""
+    rungs = dice.randint(2, 11)
+    order = [0] + dice.sample(range(2, 2 * rungs), 2 * rungs - 2) + [1]
+    rails = [[order[i], order[i + 2]] for i in range(2 * rungs - 2)]
+    ladder = rails + [[order[i], order[i + 1]] for i in range(0, 2 * rungs, 2)]
+    return 2 * rungs, ladder, ladder
+
+
+def path_pairs(dice):
+    """A path through all 64 terminals from plus to minus, in any order, with some short cuts."""
+    order = [0] + dice.sample(range(2, 64), 62) + [1]
+    path = [list(pair) for pair in zip(order, order[1:])]
+    cuts = [dice.sample(range(64), 2) for _ in range(dice.choice([0, 0, 1, 3]))]
+    return 64, path + cuts, path + cuts
+
+
+def board(dice):
+    """The counts T, R, B and the parts of some fine board."""
+    terminals, joined, ends = dice.choice([random_pairs] * 6 + [dense_pairs, ring_pairs, ring_pairs, ladder_pairs, ladder_pairs, path_pairs, path_pairs])(dice)
+    if terminals < 64 and dice.random() < 0.4:  # the windings hang on a terminal of their own, and are dead
+        ends = [[dice.randrange(terminals), terminals]]
+        terminals += 1
+    relays, buttons = dice.choice([0, 1, 2, 3, 5, 5]), dice.choice([0, 1, 2, 5])
+    return [terminals, relays, buttons], some_parts(dice, relays, buttons, joined, ends)
+
+
+def state(dice, relays, buttons):
+    """The drawn relays and the pushed buttons, most of the buttons; seldom one that the board lacks."""
+    drawn = {relay for relay in range(relays) if dice.random() < 0.5}
+    pushed = {button for button in range(buttons) if dice.random() < 0.8}
+    if dice.random() < 0.1:
+        beyond, limit = dice.choice([(drawn, relays), (pushed, buttons)])
+        beyond.add(dice.choice([limit, limit + 1, dice.randint(limit, 20)]))
+    return drawn, pushed
+
+
+def case(counts, parts, drawn, pushed, relay, which, allowance):
+    """The text of a judgement."""
+    numbers = [sum(2**name for name in drawn), sum(2**name for name in pushed), relay, which, allowance]
+    data = board_model.file_of(counts, parts) + bytes(byte for number in numbers for byte in board_model.number_bytes(number))
+    return data.hex() + "@\n"
+
+
+def judgements(dice, counts, parts):
+    """Judgements of some winding on a board, with the line that each should print."""
+    drawn, pushed = state(dice, counts[1], counts[2])
+    relay = dice.choice([dice.randrange(max(counts[1], 1))] * 6 + [counts[1], LARGEST])
+    which = dice.choice([0] * 4 + [1, 1, 2, LARGEST])
+    asked = counts, parts, drawn, pushed, relay, which
+    number = model.refusal(*asked)
+    if number:
+        return [(case(*asked, dice.choice([0, 1, 100, LARGEST])), f"judged refused {number}")]
+    effort, chain = model.effort(*asked, MOST_CHAINS)
+    if effort is None:
+        return []
+    allowances = sorted({0, 1, effort - 1, effort, effort + 1, LARGEST})
+    return [(case(*asked, allowance), "judged " + model.verdict(effort, chain, allowance)) for allowance in allowances]
+
+
+def deep_judgements():
+    """Searches that nest deeply, with the line that each should print: a path through all 64 terminals, and a path whose
+    terminals are all joined to minus and to terminal 2 as well. Those are tried first, so that the search is three tries
+    deep at each terminal of the path. The winding hangs on its end, and is dead."""
+    path = [[0, 0, 2]] + [[0, n, n + 1] for n in range(2, 63)] + [[4, 63, 1, 0]]
+    deep = [[0, 0, 3]] + [[0, n, n + 1] for n in range(3, 62)] + [[0, n, low] for n in range(3, 63) for low in (1, 2)] + [[4, 62, 63, 0]]
+    found = []
+    for parts in (path, deep):
+        asked = [64, 1, 0], parts, set(), set(), 0, 0
+        effort, chain = model.effort(*asked, MOST_CHAINS)
+        found.append((case(*asked, LARGEST), "judged " + model.verdict(effort, chain, LARGEST)))
+    return found
+
+
+def batches(found):
+    """The judgements in lists whose texts the program takes."""
+    size, own = 0, []
+    for text, line in found:
+        if size + len(text) > program.TEXT_ROOM:
+            yield own
+            size, own = 0, []
+        size += len(text)
+        own.append((text, line))
+    yield own
+
+
+def compared(found, stack=None):
+    """A check for each judgement: that the program prints its line."""
+    checks = []
+    for own in batches(found):
+        told = program.answers("".join(text for text, _ in own), stack)
+        checks.append((f"a text of {len(own)} cases has {len(told)} answers", len(told) == len(own)))
+        told += [None] * (len(own) - len(told))
+        checks += [(f"{text.strip()}: wanted {want}, got {got}", want == got) for (text, want), got in zip(own, told)]
+    return checks
+
+
+def compare(seed, boards):
+    dice, found = random.Random(seed), []
+    for _ in range(boards):
+        counts, parts = board(dice)
+        for _ in range(3):
+            found += judgements(dice, counts, parts)
+    checks = compared(found) + compared(deep_judgements(), STACK)
+    for words in ("live", "dead", "undecided", "refused 11", "refused 14"):
+        checks.append((f"some case is {words}", any(line.startswith("judged " + words) for _, line in found)))
+    return checks
+
+
+if __name__ == "__main__":
+    seed, boards = (int(word) for word in sys.argv[1:3]) if len(sys.argv) > 2 else (1, 600)
+    sys.exit(repository.report(compare(seed, boards)))

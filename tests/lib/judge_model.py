@@ -1,0 +1,78 @@
+"""Judging a winding once more, in plain Python, after ../shared/documents/01-scope.md, "Parts of a board", "Chains and
+current" and "Numbers for no": written from those sections alone. A part is [kind, a, b] or [kind, a, b, relay or button]."""
+
+PLUS, MINUS = 0, 1
+UPPER, LOWER, BUTTON, REGULAR, DRAWING, DROPPING = 1, 2, 3, 4, 5, 6
+NO_SUCH_WINDING, STATE_BEYOND_BOARD = 11, 14
+
+
+def conducts(part, drawn, pushed):
+    """Whether a part conducts while these relays are drawn and these buttons are pushed."""
+    kind = part[0]
+    if kind == UPPER:
+        return part[3] in drawn
+    if kind == LOWER:
+        return part[3] not in drawn
+    if kind == BUTTON:
+        return part[3] in pushed
+    return True
+
+
+def neighbours(terminals, parts, drawn, pushed):
+    """For each terminal those that a conducting part joins to it, from the lowest up, each once."""
+    near = [set() for _ in range(terminals)]
+    for part in parts:
+        if conducts(part, drawn, pushed):
+            near[part[1]].add(part[2])
+            near[part[2]].add(part[1])
+    return [sorted(own) for own in near]
+
+
+def chains(near, chain=(PLUS,)):
+    """The chains that begin with this one, in dictionary order."""
+    yield chain
+    if chain[-1] != MINUS:
+        for terminal in near[chain[-1]]:
+            if terminal not in chain:
+                yield from chains(near, chain + (terminal,))
+
+
+def shows(chain, a, b):
+    """Whether a chain ends at minus and has a and b side by side."""
+    return chain[-1] == MINUS and any({a, b} == {x, y} for x, y in zip(chain, chain[1:]))
+
+
+def refusal(counts, parts, drawn, pushed, relay, second):
+    """The number for no that judging this winding in this state gives, or None."""
+    _, relays, buttons = counts
+    if any(name >= relays for name in drawn) or any(name >= buttons for name in pushed):
+        return STATE_BEYOND_BOARD
+    return None if winding(parts, relay, second) else NO_SUCH_WINDING
+
+
+def winding(parts, relay, second):
+    """The part that is the first or the second winding of a relay, or None."""
+    kinds = (DROPPING,) if second else (REGULAR, DRAWING)
+    return next((part for part in parts if part[0] in kinds and part[3] == relay), None)
+
+
+def effort(counts, parts, drawn, pushed, relay, second, most):
+    """The effort of a winding and the chain that shows it, None for a dead one; None for both beyond so many chains."""
+    _, a, b, _ = winding(parts, relay, second)
+    count = 0
+    for chain in chains(neighbours(counts[0], parts, drawn, pushed)):
+        count += 1
+        if count > most:
+            return None, None
+        if shows(chain, a, b):
+            return count, chain
+    return count, None
+
+
+def verdict(count, chain, allowance):
+    """The verdict within an allowance on a winding of this effort, shown by this chain or dead."""
+    if count > allowance:
+        return f"undecided {allowance}"
+    if chain is None:
+        return f"dead {count}"
+    return f"live {count} {len(chain)}: " + " ".join(map(str, chain))
