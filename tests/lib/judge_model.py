@@ -1,5 +1,6 @@
 """Judging a winding once more, in plain Python, after ../shared/documents/01-scope.md, "Parts of a board", "Chains and
-current" and "Numbers for no": written from those sections alone. A part is [kind, a, b] or [kind, a, b, relay or button]."""
+current" and "Numbers for no". Its author had read the crates, so it is not the independent second program. A part is
+[kind, a, b] or [kind, a, b, relay or button]."""
 
 PLUS, MINUS = 0, 1
 UPPER, LOWER, BUTTON, REGULAR, DRAWING, DROPPING = 1, 2, 3, 4, 5, 6

@@ -3,7 +3,7 @@
 -- Assumes nothing.
 use Prim.Native.Nat.{ℕ, zero, suc, _+_, _-_, _*_, _/_, _%_, _^_, _≤_, _<_}
 use mathlib.Core.Path.{_≡_, refl, sym, ap, ap₂, _∙_}
-use mathlib.Core.Bool.{true, false, not, _&&_, false≢true}
+use mathlib.Core.Bool.{true, false, not, _&&_, _||_, or-true, or-false, false≢true}
 use native.Mathlib.Omega.{arith}
 use native.Mathlib.Nat.{mod-lt, div-eq-of-lt, div-one, pow-suc, lt-of-lt-of-le, add-div-right, one-mul, zero-mul, add-zero, zero-div, sub-add-cancel}
 use native.Mathlib.Numerals.{one-add}
@@ -128,6 +128,12 @@ member-including-other s n m other =
     by-test (ltb n 64)
     (λ fits. member-fitting-other s n m (ltb-true n 64 fits) other)
     (λ beyond. ap (λ (x : ℕ). member x m) (including-beyond s n (ltb-false n 64 beyond)))
+
+pub member-including : (s n m : ℕ) → m < 64 → member (including s n) m ≡ (member s m || eqb m n)
+member-including s n m fits =
+    by-test (eqb m n)
+    (λ same. ap (λ (k : ℕ). member (including s k) m) (sym (eqb-true m n same)) ∙ member-including-same s m fits ∙ rw same (sym (or-true (member s m))))
+    (λ other. member-including-other s n m (eqb-false m n other) ∙ rw other (sym (or-false (member s m))))
 
 pub member-excluding-same : (s n : ℕ) → member (excluding s n) n ≡ false
 member-excluding-same s n =

@@ -4,10 +4,11 @@ use Prim.Native.Nat.{ℕ, _+_, _≤_, _<_}
 use native.Mathlib.Omega.{arith}
 use mathlib.Core.Path.{_≡_, refl, sym, ap, _∙_}
 use mathlib.Core.Logic.{_⊎_, inl, inr}
-use mathlib.Core.Bool.{Bool, true, false, cond, not, _&&_, _||_, false≢true}
+use mathlib.Core.Bool.{Bool, true, false, not, _&&_, _||_, false≢true}
 use mathlib.Core.List.{List, [], _∷_}
 use lib.Dec.{ltb, eqb}
 use borrow.Author.Tests.{ltb-true, eqb-true, eqb-false, eq-eqb, not-true}
+use Rattle.lists.proofs.CountedLaws.{worth}
 use Rattle.bits.specs.Sets.{member, including}
 use Rattle.bits.proofs.SetLaws.{member-including-same, member-including-other, member-none}
 use Rattle.board.specs.declared.Kind.{Kind}
@@ -22,9 +23,6 @@ use Rattle.bits.proofs.BoolLaws.{both-true, true-both, by-test}
 use Rattle.board.proofs.EveryLaws.{every-below, below-every}
 
 -- ---- a test as a number
-
-abbrev worth : Bool → ℕ
-worth t = cond t 1 0
 
 worth-none : (t : Bool) → worth t ≡ 0 → not t ≡ true
 worth-none true e = absurd (omega arith)

@@ -7,11 +7,9 @@ use board_reader::ReadAnswer;
 use judge::Which;
 use number::Number;
 use search::Finding;
+use search::PLACES;
 use search::Verdict;
 use state::State;
-
-// The places of a shown chain.
-const PLACES: usize = 64;
 
 // Whether no place from this one on is used.
 fn unused_from(terminals: [u8; 64], start: usize) -> bool {

@@ -5,6 +5,7 @@ use mathlib.Core.Bool.{true, false}
 use mathlib.Core.List.{List}
 use Rattle.number.specs.Outcomes.{Outcome, given, refused}
 use Rattle.number.specs.Refusals.{stateBeyondBoard, brokenBoard}
+use Rattle.number.proofs.OutcomeLaws.{passed}
 use Rattle.board.specs.declared.Board.{Board}
 use Rattle.board.specs.Parts.{partsOf}
 use Rattle.board.specs.Rules.{boardFine}
@@ -31,6 +32,14 @@ module _ (b : Board) (s : State) (r : ℕ) (n : Which) where
   pub judgeable-sought : boardFine b ≡ true → stateFine (b .counts) s ≡ true → judgeable b s r n ≡ windingOf n r (partsOf b)
   unfolding judgeable
   judgeable-sought fine fits = rw (fine, fits) refl
+
+  -- where a winding is judged, the board breaks no rule and the winding is the relay's
+  pub judgeable-given : (e : Winding) → judgeable b s r n ≡ given e → (boardFine b ≡ true) × (windingOf n r (partsOf b) ≡ given e)
+  unfolding judgeable
+  judgeable-given e taken =
+      let board = passed (boardFine b) brokenBoard 0 _ e taken in
+      let state = passed (stateFine (b .counts) s) stateBeyondBoard 0 _ e (board .1) in
+      (board .0, state .1)
 
   -- the call's verdict goes by what is judged
   pub judging-by : (w : ℕ) (o : Outcome Winding) → judgeable b s r n ≡ o → verdictOn b s w o ≡ judging b s r n w

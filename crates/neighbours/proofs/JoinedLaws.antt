@@ -2,7 +2,7 @@
 use Prim.Native.Nat.{ℕ, zero, suc, _≤_, _<_}
 use native.Mathlib.Omega.{arith}
 use mathlib.Core.Path.{_≡_, refl, sym, subst, ap, _∙_}
-use mathlib.Core.Logic.{_⊎_, inl, inr}
+use mathlib.Core.Logic.{inl, inr}
 use mathlib.Core.Bool.{Bool, true, false, false≢true}
 use mathlib.Core.List.{List, [], _∷_}
 use lib.Dec.{eqb, ltb}
@@ -22,20 +22,17 @@ use Rattle.board.specs.Sorts.{partsFit}
 use Rattle.board.proofs.FineLaws.{fine-range, fine-parts-fit}
 use Rattle.state.specs.declared.State.{State}
 use Rattle.neighbours.specs.Conduction.{conducts}
-use Rattle.neighbours.specs.Neighbours.{Joined, joined, alone, joining, bridged, gathered, neighbours}
+use Rattle.neighbours.specs.Neighbours.{EndsAt, Joined, joined, alone, joining, bridged, gathered, neighbours}
 use Rattle.neighbours.proofs.GatherLaws.{gathered-none, gathered-next, neighbours-gathered, bridged-conducting, bridged-open, joining-length, bridged-length, gathered-length}
 
 -- ---- a part's two ends, in either order
 
-abbrev Ends : Part → ℕ → ℕ → Type 0
-Ends p x y = ((p .a ≡ x) × (p .b ≡ y)) ⊎ ((p .a ≡ y) × (p .b ≡ x))
-
-ends-turned : (p : Part) (x y : ℕ) → Ends p x y → Ends p y x
+ends-turned : (p : Part) (x y : ℕ) → EndsAt p x y → EndsAt p y x
 ends-turned p x y (inl e) = inr e
 ends-turned p x y (inr e) = inl e
 
 -- what holds of the ends both ways round holds of x and y
-ends-either : (p : Part) (P : ℕ → ℕ → Type 0) → P (p .a) (p .b) → P (p .b) (p .a) → (x y : ℕ) → Ends p x y → P x y
+ends-either : (p : Part) (P : ℕ → ℕ → Type 0) → P (p .a) (p .b) → P (p .b) (p .a) → (x y : ℕ) → EndsAt p x y → P x y
 ends-either p P on turned x y (inl e) = subst (λ (z : ℕ). P z y) (e .0) (subst (P (p .a)) (e .1) on)
 ends-either p P on turned x y (inr e) = subst (λ (z : ℕ). P z y) (e .1) (subst (P (p .b)) (e .0) turned)
 
@@ -106,14 +103,14 @@ module _ (s : State) (near : List ℕ) (p : Part) where
       (λ on. bridged-on x y on ∙ joining-kept (joining near (p .a) (p .b)) (p .b) (p .a) x y (joining-kept near (p .a) (p .b) x y is))
       (λ off. bridged-off x y off ∙ is)
 
-  bridged-joins : (x y : ℕ) → length near ≡ 64 → conducts s (p .kind) ≡ true → Ends p x y → x < 64 → y < 64 → joined (bridged s near p) x y ≡ true
+  bridged-joins : (x y : ℕ) → length near ≡ 64 → conducts s (p .kind) ≡ true → EndsAt p x y → x < 64 → y < 64 → joined (bridged s near p) x y ≡ true
   bridged-joins x y long on =
       ends-either p (λ u v. u < 64 → v < 64 → joined (bridged s near p) u v ≡ true)
       (λ a b. bridged-on (p .a) (p .b) on ∙ joining-kept (joining near (p .a) (p .b)) (p .b) (p .a) (p .a) (p .b) (joining-joins near (p .a) (p .b) (omega arith) b))
       (λ b a. bridged-on (p .b) (p .a) on ∙ joining-joins (joining near (p .a) (p .b)) (p .b) (p .a) (omega (arith, joining-length near (p .a) (p .b))) a)
       x y
 
-  bridged-new : (x y : ℕ) {C : Type 0} → (conducts s (p .kind) ≡ true → Ends p x y → C) → (joined near x y ≡ true → C) → joined (bridged s near p) x y ≡ true → C
+  bridged-new : (x y : ℕ) {C : Type 0} → (conducts s (p .kind) ≡ true → EndsAt p x y → C) → (joined near x y ≡ true → C) → joined (bridged s near p) x y ≡ true → C
   bridged-new x y new old is =
       by-test (conducts s (p .kind))
       (λ on. joining-new (joining near (p .a) (p .b)) (p .b) (p .a) x y
@@ -135,7 +132,7 @@ module _ (s : State) (x y : ℕ) where
   gathered-kept near [] is = gathered-end near ∙ is
   gathered-kept near (p ∷ ps) is = gathered-step near p ps ∙ gathered-kept (bridged s near p) ps (bridged-kept s near p x y is)
 
-  gathered-joins : (near : List ℕ) (ps : List Part) (p : Part) → p ∈ ps → length near ≡ 64 → conducts s (p .kind) ≡ true → Ends p x y → x < 64 → y < 64 → joined (gathered s near ps) x y ≡ true
+  gathered-joins : (near : List ℕ) (ps : List Part) (p : Part) → p ∈ ps → length near ≡ 64 → conducts s (p .kind) ≡ true → EndsAt p x y → x < 64 → y < 64 → joined (gathered s near ps) x y ≡ true
   gathered-joins near [] p among long on ends inside also = absurd among
   gathered-joins near (q ∷ ps) p (inl same) long on ends inside also =
       gathered-step near q ps
@@ -144,7 +141,7 @@ module _ (s : State) (x y : ℕ) where
       gathered-step near q ps
       ∙ gathered-joins (bridged s near q) ps p among (bridged-length s near q ∙ long) on ends inside also
 
-  gathered-new : {C : Type 0} (near : List ℕ) (ps : List Part) → ((p : Part) → p ∈ ps → conducts s (p .kind) ≡ true → Ends p x y → C) → (joined near x y ≡ true → C) → joined (gathered s near ps) x y ≡ true → C
+  gathered-new : {C : Type 0} (near : List ℕ) (ps : List Part) → ((p : Part) → p ∈ ps → conducts s (p .kind) ≡ true → EndsAt p x y → C) → (joined near x y ≡ true → C) → joined (gathered s near ps) x y ≡ true → C
   gathered-new near [] new old is = old (sym (gathered-end near) ∙ is)
   gathered-new near (p ∷ ps) new old is =
       gathered-new (bridged s near p) ps (λ q among. new q (inr among))
@@ -177,7 +174,7 @@ fit-apart c p fit =
       apart = eqb-false (p .a) (p .b) (not-true _ (ends .1));
     }
 
-ends-apart : (c : Counts) (p : Part) (x y : ℕ) → partFits c p ≡ true → Ends p x y → Apart c x y
+ends-apart : (c : Counts) (p : Part) (x y : ℕ) → partFits c p ≡ true → EndsAt p x y → Apart c x y
 ends-apart c p x y fit =
     let on = fit-apart c p fit in
     ends-either p (Apart c) on (record { inside = on .also; also = on .inside; apart = λ same. on .apart (sym same) }) x y
@@ -193,7 +190,7 @@ neighbours-length b s =
 
 module _ (b : Board) (s : State) (x y : ℕ) where
   -- x and y are joined by a conducting part: what follows from such a part holds
-  joined-by : {C : Type 0} → ((p : Part) → p ∈ partsOf b → conducts s (p .kind) ≡ true → Ends p x y → C) → joined (neighbours b s) x y ≡ true → C
+  joined-by : {C : Type 0} → ((p : Part) → p ∈ partsOf b → conducts s (p .kind) ≡ true → EndsAt p x y → C) → joined (neighbours b s) x y ≡ true → C
   joined-by use-part is =
       gathered-new s x y alone (partsOf b) use-part
       (λ none. absurd (false≢true (sym (none-joined 64 x y) ∙ none)))
@@ -202,7 +199,7 @@ module _ (b : Board) (s : State) (x y : ℕ) where
   pub joined-part : joined (neighbours b s) x y ≡ true → Joined b s x y
   joined-part = joined-by (λ p among on ends. record { part = p; on-board = among; conducting = on; ends = ends })
 
-  part-joins : (p : Part) → boardFine b ≡ true → p ∈ partsOf b → conducts s (p .kind) ≡ true → Ends p x y → joined (neighbours b s) x y ≡ true
+  part-joins : (p : Part) → boardFine b ≡ true → p ∈ partsOf b → conducts s (p .kind) ≡ true → EndsAt p x y → joined (neighbours b s) x y ≡ true
   part-joins p fine among on ends =
       let range = fine-range b fine in
       let both = ends-apart (b .counts) p x y (fit-among (b .counts) (partsOf b) p (fine-parts-fit b fine) among) ends in

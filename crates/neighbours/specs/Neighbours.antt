@@ -1,4 +1,5 @@
 -- Which terminals are joined. Rule book: "neighbours are each joined by a conducting part".
+--     EndsAt p x y         x and y are the ends of part p, in either order
 --     Joined b s x y       some conducting part of board b in state s has x and y as its ends, in either order
 --     joined near x y      in the sets `near`, y is in the set of x
 --     neighbours b s       the sets of board b in state s, one for each of 64 terminals
@@ -23,11 +24,14 @@ use Rattle.board.specs.Rules.{mostTerminals}
 use Rattle.state.specs.declared.State.{State}
 use Rattle.neighbours.specs.Conduction.{conducts}
 
+abbrev pub EndsAt : Part → ℕ → ℕ → Type 0
+EndsAt p x y = ((p .a ≡ x) × (p .b ≡ y)) ⊎ ((p .a ≡ y) × (p .b ≡ x))
+
 pub record Joined (b : Board) (s : State) (x y : ℕ) : Type 0 where
   pub part : Part
   pub on-board : part ∈ partsOf b
   pub conducting : conducts s (part .kind) ≡ true
-  pub ends : ((part .a ≡ x) × (part .b ≡ y)) ⊎ ((part .a ≡ y) × (part .b ≡ x))
+  pub ends : EndsAt part x y
 
 abbrev pub joined : List ℕ → ℕ → ℕ → Bool
 joined near x y = member (getD near x 0) y

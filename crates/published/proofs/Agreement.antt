@@ -8,49 +8,46 @@ use mathlib.Core.List.{List, [], _∷_}
 use lib.ListN.{length}
 use Rattle.lists.specs.Members.{_∈_, All}
 use Rattle.lists.proofs.MemberLaws.{all-map}
+use Rattle.board.specs.declared.Part.{Part}
 use Rattle.board.specs.declared.Board.{Board}
 use Rattle.board.specs.Rules.{boardFine}
 use Rattle.state.specs.declared.State.{State}
 use Rattle.neighbours.specs.Conduction.{conducts}
-use Rattle.neighbours.specs.Neighbours.{Joined}
+use Rattle.neighbours.specs.Neighbours.{EndsAt, Joined}
 use Rattle.neighbours.proofs.JoinedLaws.{part-joined, joined-inside}
 use Rattle.chains.specs.Chains.{minus, steps, ending, Linked, StopsAtMinus, IsChain, Live}
-use Rattle.published.specs.Circuits.{pos, neg, place, actualConnections, AreConnected, Available, AvailablePath, CurrentCarrying, WindingCarries}
+use Rattle.published.specs.Circuits.{pos, neg, place, actualConnections, AreConnected, Available, AvailablePath, CurrentCarrying, WindingCarries, PathsAreChains, LiveIsCarrying}
 use Rattle.published.proofs.PathLaws.{once-places, places-once, contains-step, step-contains, steps-placed, placed-steps, steps-members, begins-place, place-begins, ending-place, apart-long}
 
 -- ---- connected and joined
 
--- a and b are x and y, in either order
-abbrev Ends : ℕ → ℕ → ℕ → ℕ → Type 0
-Ends a b x y = ((a ≡ x) × (b ≡ y)) ⊎ ((a ≡ y) × (b ≡ x))
+abbrev bothWays : Part → List (ℕ × ℕ)
+bothWays p = (p .a, p .b) ∷ (p .b, p .a) ∷ []
 
-abbrev bothWays : ℕ → ℕ → List (ℕ × ℕ)
-bothWays a b = (a, b) ∷ (b, a) ∷ []
+connection-ends : (on : Bool) (p : Part) (x y : ℕ) → _∈_ {A = ℕ × ℕ} (x, y) (cond on (bothWays p) []) → (on ≡ true) × EndsAt p x y
+connection-ends false p x y m = absurd m
+connection-ends true p x y (inl e) = (refl, inl (ap (λ (s : ℕ × ℕ). s .0) (sym e), ap (λ (s : ℕ × ℕ). s .1) (sym e)))
+connection-ends true p x y (inr (inl e)) = (refl, inr (ap (λ (s : ℕ × ℕ). s .1) (sym e), ap (λ (s : ℕ × ℕ). s .0) (sym e)))
+connection-ends true p x y (inr (inr m)) = absurd m
 
-connection-ends : (on : Bool) (a b x y : ℕ) → _∈_ {A = ℕ × ℕ} (x, y) (cond on (bothWays a b) []) → (on ≡ true) × Ends a b x y
-connection-ends false a b x y m = absurd m
-connection-ends true a b x y (inl e) = (refl, inl (ap (λ (s : ℕ × ℕ). s .0) (sym e), ap (λ (s : ℕ × ℕ). s .1) (sym e)))
-connection-ends true a b x y (inr (inl e)) = (refl, inr (ap (λ (s : ℕ × ℕ). s .1) (sym e), ap (λ (s : ℕ × ℕ). s .0) (sym e)))
-connection-ends true a b x y (inr (inr m)) = absurd m
-
-ends-connection : (a b x y : ℕ) → Ends a b x y → (x, y) ∈ bothWays a b
-ends-connection a b x y (inl e) = inl (cc (e .0, e .1))
-ends-connection a b x y (inr e) = inr (inl (cc (e .0, e .1)))
+ends-connection : (p : Part) (x y : ℕ) → EndsAt p x y → (x, y) ∈ bothWays p
+ends-connection p x y (inl e) = inl (cc (e .0, e .1))
+ends-connection p x y (inr e) = inr (inl (cc (e .0, e .1)))
 
 module _ (b : Board) (s : State) where
-  pub connected-joined : (x y : ℕ) → AreConnected b s x y → Joined b s x y
+  connected-joined : (x y : ℕ) → AreConnected b s x y → Joined b s x y
   unfolding actualConnections
   connected-joined x y c =
       let p = c .component in
-      let made = connection-ends (conducts s (p .kind)) (p .a) (p .b) x y (c .connects) in
+      let made = connection-ends (conducts s (p .kind)) p x y (c .connects) in
       record { part = p; on-board = c .of-network; conducting = made .0; ends = made .1 }
 
-  pub joined-connected : (x y : ℕ) → Joined b s x y → AreConnected b s x y
+  joined-connected : (x y : ℕ) → Joined b s x y → AreConnected b s x y
   unfolding actualConnections
   joined-connected x y j = record {
     component = j .part;
     of-network = j .on-board;
-    connects = rw (j .conducting) (ends-connection (j .part .a) (j .part .b) x y (j .ends));
+    connects = rw (j .conducting) (ends-connection (j .part) x y (j .ends));
   }
 
   -- ---- paths and chains
@@ -71,7 +68,7 @@ module _ (b : Board) (s : State) where
       let free = path .available in
       placed-steps (λ x y. ¬ (x ≡ minus)) p (λ i h e. free .no-repetition i (length p - 1) (omega arith) (omega (arith, free .long)) (omega arith) (e ∙ sym (path .ends)))
 
-  pub path-chain : (p : List ℕ) → boardFine b ≡ true → AvailablePath b s pos neg p → IsChain (Joined b s) (b .counts .terminals) p × (ending p ≡ minus)
+  path-chain : (p : List ℕ) → boardFine b ≡ true → AvailablePath b s pos neg p → IsChain (Joined b s) (b .counts .terminals) p × (ending p ≡ minus)
   path-chain p fine path = (
     record {
       begins = place-begins p (path .available .long) (path .starts);
@@ -84,7 +81,7 @@ module _ (b : Board) (s : State) where
   )
 
   -- of every board: a chain that ends at minus has two terminals or more, because plus is not minus
-  pub chain-path : (c : List ℕ) → IsChain (Joined b s) (b .counts .terminals) c → ending c ≡ minus → AvailablePath b s pos neg c
+  chain-path : (c : List ℕ) → IsChain (Joined b s) (b .counts .terminals) c → ending c ≡ minus → AvailablePath b s pos neg c
   chain-path c chain ends = record {
     available = record {
       long = apart-long c (chain .begins) ends;
@@ -105,13 +102,20 @@ carrying-live b s x y fine carries =
 live-turned : (J : ℕ → ℕ → Type 0) (t x y : ℕ) → Live J t x y → Live J t y x
 live-turned J t x y live = record { chain = live .chain; is-chain = live .is-chain; showing = (live .showing .0, ⊎-elim inr inl (live .showing .1)) }
 
--- the theorem, in its two directions
-pub live-carries : (b : Board) (s : State) (x y : ℕ) → boardFine b ≡ true → Live (Joined b s) (b .counts .terminals) x y → WindingCarries b s x y
-live-carries b s x y fine live = ⊎-map (carried x y) (carried y x) (live .showing .1)
+live-carries : (b : Board) (s : State) (x y : ℕ) → Live (Joined b s) (b .counts .terminals) x y → WindingCarries b s x y
+live-carries b s x y live = ⊎-map (carried x y) (carried y x) (live .showing .1)
   where
     carried : (u v : ℕ) → (u, v) ∈ steps (live .chain) → CurrentCarrying b s u v
     carried u v m = record { path = live .chain; from-pos-to-neg = chain-path b s (live .chain) (live .is-chain) (live .showing .0); contains = step-contains (live .chain) u v m }
 
-pub carries-live : (b : Board) (s : State) (x y : ℕ) → boardFine b ≡ true → WindingCarries b s x y → Live (Joined b s) (b .counts .terminals) x y
+carries-live : (b : Board) (s : State) (x y : ℕ) → boardFine b ≡ true → WindingCarries b s x y → Live (Joined b s) (b .counts .terminals) x y
 carries-live b s x y fine (inl carries) = carrying-live b s x y fine carries
 carries-live b s x y fine (inr carries) = live-turned (Joined b s) (b .counts .terminals) y x (carrying-live b s y x fine carries)
+
+-- ---- the theorems
+
+pub paths-are-chains : PathsAreChains
+paths-are-chains b s p fine = (path-chain b s p fine, λ h. chain-path b s p (h .0) (h .1))
+
+pub live-is-carrying : LiveIsCarrying
+live-is-carrying b s x y fine = (live-carries b s x y, carries-live b s x y fine)

@@ -6,11 +6,10 @@ use mathlib.Core.Bool.{Bool, true, false, _&&_, _||_, or-true, or-false, or-asso
 use mathlib.Core.List.{List, [], _∷_, _++_}
 use lib.Dec.{eqb}
 use lib.ListN.{length, length-append}
-use borrow.Author.Tests.{eq-eqb, ne-eqb, eqb-true, eqb-false}
+use borrow.Author.Tests.{eq-eqb, ne-eqb}
 use Rattle.bits.specs.Sets.{member, including}
-use Rattle.bits.proofs.SetLaws.{member-including-same, member-including-other, member-none}
-use Rattle.bits.proofs.BoolLaws.{by-test}
-use Rattle.chains.specs.Chains.{plus, ending}
+use Rattle.bits.proofs.SetLaws.{member-including, member-none}
+use Rattle.chains.specs.Chains.{plus}
 use Rattle.chains.specs.ChainList.{isIn, crosses, someCrosses, beside}
 use Rattle.chains.proofs.StepLaws.{ending-next, beside-next}
 use Rattle.search.specs.declared.Winding.{Winding}
@@ -40,16 +39,10 @@ unfolding marked
 marked-next s [] n = refl
 marked-next s (m ∷ p) n = marked-next (including s m) p n
 
-including-member : (s n m : ℕ) → m < 64 → member (including s n) m ≡ (member s m || eqb m n)
-including-member s n m fits =
-    by-test (eqb m n)
-    (λ same. ap (λ (k : ℕ). member (including s k) m) (sym (eqb-true m n same)) ∙ member-including-same s m fits ∙ rw same (sym (or-true (member s m))))
-    (λ other. member-including-other s n m (eqb-false m n other) ∙ rw other (sym (or-false (member s m))))
-
 marked-member : (s : ℕ) (p : List ℕ) (m : ℕ) → m < 64 → member (marked s p) m ≡ (member s m || isIn m p)
 unfolding marked isIn
 marked-member s [] m fits = sym (or-false (member s m))
-marked-member s (n ∷ p) m fits = marked-member (including s n) p m fits ∙ ap (λ (t : Bool). t || isIn m p) (including-member s n m fits) ∙ or-assoc (member s m) (eqb m n) (isIn m p)
+marked-member s (n ∷ p) m fits = marked-member (including s n) p m fits ∙ ap (λ (t : Bool). t || isIn m p) (member-including s n m fits) ∙ or-assoc (member s m) (eqb m n) (isIn m p)
 
 pub met-member : (p : List ℕ) (m : ℕ) → m < 64 → member (marked 0 p) m ≡ isIn m p
 met-member p m fits = marked-member 0 p m fits ∙ ap (λ (t : Bool). t || isIn m p) (member-none m)

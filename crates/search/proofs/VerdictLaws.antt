@@ -97,14 +97,6 @@ pub effort-some : (s : List ℕ → Bool) (c : List ℕ) (cs : List (List ℕ)) 
 unfolding effort
 effort-some s c cs = omega arith
 
-pub effort-most : (s : List ℕ → Bool) (cs : List (List ℕ)) → effort s cs ≤ length cs
-unfolding effort
-effort-most s [] = omega arith
-effort-most s (c ∷ cs) =
-    by-test (s c)
-    (λ here. rw here (omega arith))
-    (λ past. rw past (omega (arith, effort-most s cs)))
-
 -- ---- the answer's cases are told apart
 
 told-finding-once : (x y : Finding) → toldFinding x ≡ toldFinding y → x ≡ y

@@ -8,6 +8,9 @@ use number::Refusal;
 mod chain;
 mod walk;
 
+// The places of a shown chain.
+pub const PLACES: usize = 64;
+
 // The two ends of a winding.
 pub struct Winding {
     pub a: u8,

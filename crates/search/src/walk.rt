@@ -1,6 +1,7 @@
 // The chain walk: one function enters a terminal, another tries its next neighbour; they call each other, with unvisited
 // terminals and untried numbers falling.
 use crate::Finding;
+use crate::PLACES;
 use crate::Verdict;
 use crate::Winding;
 use crate::chain::Chain;
@@ -14,9 +15,6 @@ ghost use Rattle.search.specs.Walks.{pathIn, Carries, Comes, entered, tr
 
 // Terminal 1.
 const MINUS: u8 = 1;
-
-// The places of a shown chain.
-const MOST_PLACES: usize = 64;
 
 // What a walk comes to: a chain that shows the winding; none among the chains walked; or the allowance is spent first.
 pub enum Found {
@@ -139,7 +137,7 @@ fn shown(places: [u8; 64], length: usize) -> [u8; 64]
 {
     let mut terminals = places;
     let mut i = length;
-    while i < MOST_PLACES {
+    while i < PLACES {
         terminals[i] = 0;
         i += 1;
     }

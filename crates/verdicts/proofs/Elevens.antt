@@ -10,8 +10,8 @@ use borrow.Author.Tests.{eqb-true, ltb-true, ltb-false}
 use Rattle.lists.specs.Members.{_∈_}
 use Rattle.bits.proofs.BoolLaws.{both-true, by-test}
 use Rattle.number.specs.Outcomes.{given, refused}
-use Rattle.number.specs.Refusals.{noSuchWinding, stateBeyondBoard, brokenBoard}
-use Rattle.number.proofs.OutcomeLaws.{refused-never, given-same, passed}
+use Rattle.number.specs.Refusals.{noSuchWinding}
+use Rattle.number.proofs.OutcomeLaws.{refused-never, given-same}
 use Rattle.board.specs.declared.Kind.{Kind}
 use Rattle.board.specs.declared.Kind.the-variants.{Wire, Upper, Lower, Button, Regular, Drawing, Dropping}
 use Rattle.board.specs.declared.Part.{Part}
@@ -22,18 +22,14 @@ use Rattle.board.specs.Rules.{nameFine, partFits, boardFine}
 use Rattle.board.specs.Sorts.{carries, windingsOf, isRegular, isSteel, partsFit}
 use Rattle.board.proofs.WindingLaws.{part-named}
 use Rattle.board.proofs.FineLaws.{fine-parts-fit, fine-relays-wound}
-use Rattle.state.specs.declared.State.{State}
-use Rattle.state.specs.States.{stateFine}
 use Rattle.search.specs.declared.Winding.{Winding}
 use Rattle.judge.specs.declared.Which.{Which}
 use Rattle.judge.specs.declared.Which.the-variants.{First, Second}
 use Rattle.judge.specs.RelayWindings.{isWinding, windingOf}
-use Rattle.judge.specs.Judging.{judgeable}
 use Rattle.judge.proofs.SoughtLaws.{ends, winding-here, winding-past, winding-none}
-use Rattle.judge.proofs.JudgeLaws.{judgeable-sought}
-use Rattle.verdicts.specs.Exactness.{Accepted}
+use Rattle.judge.proofs.JudgeLaws.{judgeable-sought, judgeable-given}
 use Rattle.verdicts.specs.Eleven.{ElevenExactly, TheWinding}
-use Rattle.verdicts.proofs.CountedLaws.{worth, counted, member-counted, counted-only}
+use Rattle.lists.proofs.CountedLaws.{worth, counted, member-counted, counted-only}
 
 -- ---- how many parts are winding n of relay r
 --     its n r p        part p is it
@@ -179,17 +175,9 @@ eleven-exactly b s r n fine fits =
     let same = judgeable-sought b s r n fine fits in
     (λ refusal. none-line b r n fine (refused-none n r (partsOf b) (sym same ∙ refusal)), λ line. same ∙ none-refused n r (partsOf b) (line-none b r n fine line))
 
--- where a judgement is accepted, the board is fine and the winding is found
-accepted-found : (b : Board) (s : State) (r : ℕ) (n : Which) (e : Winding) → Accepted b s r n e → (boardFine b ≡ true) × (windingOf n r (partsOf b) ≡ given e)
-unfolding judgeable
-accepted-found b s r n e accepted =
-    let board = passed (boardFine b) brokenBoard 0 _ e accepted in
-    let state = passed (stateFine (b .counts) s) stateBeyondBoard 0 _ e (board .1) in
-    (board .0, state .1)
-
 pub the-winding : TheWinding
 the-winding b s r n e accepted =
-    let answer = accepted-found b s r n e accepted in
+    let answer = judgeable-given b s r n e accepted in
     let f = given-found n r (partsOf b) e (answer .1) in
     let same = given-same (ends (f .part)) e (sym (f .found) ∙ answer .1) in
     record {

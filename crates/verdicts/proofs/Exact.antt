@@ -13,8 +13,6 @@ use Rattle.bits.proofs.BoolLaws.{by-test}
 use Rattle.lists.specs.Members.{_∈_, All}
 use Rattle.lists.proofs.MemberLaws.{append-member, all-member}
 use Rattle.number.specs.Outcomes.{given}
-use Rattle.number.specs.Refusals.{brokenBoard}
-use Rattle.number.proofs.OutcomeLaws.{passed}
 use Rattle.board.specs.declared.Board.{Board}
 use Rattle.board.specs.Rules.{boardFine}
 use Rattle.board.proofs.FineLaws.{fine-range}
@@ -28,7 +26,7 @@ use Rattle.chains.proofs.ChainsCorrect.{chains-correct}
 use Rattle.chains.proofs.ChainsComplete.{chains-complete}
 use Rattle.chains.proofs.ChainsSorted.{chains-sorted, chains-once}
 use Rattle.chains.proofs.ShowsLaws.{shows-true, true-shows}
-use Rattle.published.proofs.Agreement.{live-carries, carries-live}
+use Rattle.published.proofs.Agreement.{live-is-carrying}
 use Rattle.search.specs.declared.Winding.{Winding}
 use Rattle.search.specs.declared.Verdict.{Verdict}
 use Rattle.search.specs.declared.Finding.{Finding}
@@ -36,8 +34,7 @@ use Rattle.search.specs.declared.Finding.the-variants as said
 use Rattle.search.specs.Verdicts.{firstShown, effort, places, settled, weighed, judgement, toldVerdict}
 use Rattle.search.proofs.VerdictLaws.{weighed-within, weighed-short, FirstAt, first-shown-at, first-shown-some, first-shown-none, effort-none, told-verdict-once}
 use Rattle.judge.specs.declared.Which.{Which}
-use Rattle.judge.specs.Judging.{judgeable}
-use Rattle.judge.proofs.JudgeLaws.{judging-by}
+use Rattle.judge.proofs.JudgeLaws.{judgeable-given, judging-by}
 use Rattle.verdicts.specs.Exactness.{Judges, Accepted, chainsOf, ChainOf, IsLive, effortOf, TheChains, LiveExactly, DeadExactly, UndecidedExactly, FirstChain, LiveShows, DeadCounts, UndecidedReports, AsPublished}
 
 -- ---- the list holds exactly the chains
@@ -60,10 +57,6 @@ the-chains b s fine = record {
 }
 
 -- ---- what a call is accepted for
-
-pub accepted-fine : (b : Board) (s : State) (r : ℕ) (n : Which) (e : Winding) → Accepted b s r n e → boardFine b ≡ true
-unfolding judgeable
-accepted-fine b s r n e taken = passed (boardFine b) brokenBoard 0 _ e taken .0
 
 judged-weighed : (b : Board) (s : State) (r : ℕ) (n : Which) (w : ℕ) (e : Winding) (v : Verdict) → Judges b s r n w v → Accepted b s r n e → toldVerdict v ≡ weighed (shows (e .a) (e .b)) (chainsOf b s) w
 unfolding judgement
@@ -128,7 +121,7 @@ in-order-after (d ∷ k) c l h = in-order-after k c l (h .1)
 
 module _ (b : Board) (s : State) (r : ℕ) (n : Which) (w : ℕ) (e : Winding) (v : Verdict) (told : Judges b s r n w v) (taken : Accepted b s r n e) where
   fine : boardFine b ≡ true
-  fine = accepted-fine b s r n e taken
+  fine = judgeable-given b s r n e taken .0
 
   found : (c : List ℕ) → firstShown (shows (e .a) (e .b)) (chainsOf b s) ≡ some c → IsLive b s e
   found c first =
@@ -211,7 +204,6 @@ pub undecided-reports : UndecidedReports
 undecided-reports b s r n w e v told taken = reports-allowance b s r n w e v told taken (judged-says b s r n w e v told taken)
 
 pub as-published : AsPublished
-as-published b s r n w e v told taken = (
-  λ live. live-carries b s (e .a) (e .b) (accepted-fine b s r n e taken) (live-exactly b s r n w e v told taken .0 live .0),
-  λ dead carries. dead-exactly b s r n w e v told taken .0 dead .0 (carries-live b s (e .a) (e .b) (accepted-fine b s r n e taken) carries),
-)
+as-published b s r n w e v told taken =
+    let agree = live-is-carrying b s (e .a) (e .b) (judgeable-given b s r n e taken .0) in
+    (λ live. agree .0 (live-exactly b s r n w e v told taken .0 live .0), λ dead carries. dead-exactly b s r n w e v told taken .0 dead .0 (agree .1 carries))

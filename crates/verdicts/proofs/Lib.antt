@@ -1,6 +1,5 @@
 -- The theorems, by subject.
 pub mod Exact
 pub mod Allowed
-pub mod CountedLaws
 pub mod Elevens
 pub mod Table

@@ -3,7 +3,6 @@ use Prim.Native.Nat.{ℕ, _+_, _-_, _*_, _<_}
 use borrow.Author.Needs.{needs}
 use native.Mathlib.Omega.{arith}
 use native.Mathlib.Nat.{pos-of-ne-zero}
-use mathlib.Core.Path.{refl, sym, _∙_}
 use Rattle.bits.proofs.LowestLaws.{first-after}
 use Rattle.search.proofs.WalkLaws.{next-length, next-carries, kept-below, carries-kept, entered-spent, entered-live, entered-ends, entered-full, entered-on, tried-none, tried-some, tried-on, tried-back, comes-here, comes-as, comes-after, comes-back, left-room, tries-fall, visits-fall, numbers-fall}
 use borrow.Fn.Kinds.{In}
