@@ -4,6 +4,7 @@ use mathlib.Core.Path.{_≡_, refl, sym, ap, _∙_}
 use mathlib.Core.Bool.{true, false}
 use mathlib.Core.List.{List, [], _∷_}
 use lib.ListN.{length, getD, take, drop}
+use Rattle.bits.proofs.BoolLaws.{by-test}
 use Rattle.number.specs.Outcomes.{Outcome, given, refused}
 use Rattle.number.specs.Refusals.{noSuchWinding}
 use Rattle.number.proofs.OutcomeLaws.{refused-never, given-same}
@@ -30,6 +31,14 @@ winding-past w r p ps e = rw e refl
 pub winding-none : (w : Which) (r : ℕ) → windingOf w r [] ≡ refused noSuchWinding 0
 unfolding windingOf
 winding-none w r = refl
+
+-- a winding that is not found is refused by 11
+pub winding-refused : (w : Which) (r : ℕ) (ps : List Part) (k q : ℕ) → windingOf w r ps ≡ refused k q → windingOf w r ps ≡ refused noSuchWinding 0
+winding-refused w r [] k q e = winding-none w r
+winding-refused w r (p ∷ ps) k q e =
+    by-test (isWinding w r (p .kind))
+    (λ on. absurd (refused-never k q (ends p) (sym e ∙ winding-here w r p ps on)))
+    (λ off. winding-past w r p ps off ∙ winding-refused w r ps k q (sym (winding-past w r p ps off) ∙ e))
 
 -- at place i of the first n parts of l, `all` is the winding among the parts from there on
 module _ (w : Which) (r : ℕ) (l : List Part) (n i : ℕ) (all : Outcome Winding) (here : all ≡ windingOf w r (drop i (take n l))) where

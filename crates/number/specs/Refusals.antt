@@ -49,6 +49,10 @@ noSuchWinding = 11
 abbrev pub alreadySo : ℕ
 alreadySo = 12
 
+-- 13: log longer than 65,536
+abbrev pub logTooLong : ℕ
+logTooLong = 13
+
 -- 14: state has a relay or button the board lacks
 abbrev pub stateBeyondBoard : ℕ
 stateBeyondBoard = 14

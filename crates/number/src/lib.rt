@@ -33,6 +33,8 @@ pub const NO_SUCH_WINDING: u32 = 11;
 
 pub const ALREADY_SO: u32 = 12;
 
+pub const LOG_TOO_LONG: u32 = 13;
+
 pub const STATE_BEYOND_BOARD: u32 = 14;
 
 pub const BROKEN_BOARD: u32 = 15;

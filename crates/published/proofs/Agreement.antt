@@ -2,7 +2,7 @@
 use Prim.Native.Nat.{ℕ, _+_, _-_, _≤_, _<_}
 use native.Mathlib.Omega.{arith}
 use mathlib.Core.Path.{_≡_, refl, sym, ap, _∙_}
-use mathlib.Core.Logic.{_⊎_, inl, inr, ⊎-map, ⊎-elim}
+use mathlib.Core.Logic.{inl, inr, ⊎-map, ⊎-elim}
 use mathlib.Core.Bool.{Bool, true, false, cond}
 use mathlib.Core.List.{List, [], _∷_}
 use lib.ListN.{length}
@@ -24,31 +24,34 @@ use Rattle.published.proofs.PathLaws.{once-places, places-once, contain
 abbrev bothWays : Part → List (ℕ × ℕ)
 bothWays p = (p .a, p .b) ∷ (p .b, p .a) ∷ []
 
-connection-ends : (on : Bool) (p : Part) (x y : ℕ) → _∈_ {A = ℕ × ℕ} (x, y) (cond on (bothWays p) []) → (on ≡ true) × EndsAt p x y
-connection-ends false p x y m = absurd m
-connection-ends true p x y (inl e) = (refl, inl (ap (λ (s : ℕ × ℕ). s .0) (sym e), ap (λ (s : ℕ × ℕ). s .1) (sym e)))
-connection-ends true p x y (inr (inl e)) = (refl, inr (ap (λ (s : ℕ × ℕ). s .1) (sym e), ap (λ (s : ℕ × ℕ). s .0) (sym e)))
-connection-ends true p x y (inr (inr m)) = absurd m
+ways-ends : (on : Bool) (p : Part) (x y : ℕ) → _∈_ {A = ℕ × ℕ} (x, y) (cond on (bothWays p) []) → (on ≡ true) × EndsAt p x y
+ways-ends false p x y m = absurd m
+ways-ends true p x y (inl e) = (refl, inl (ap (λ (s : ℕ × ℕ). s .0) (sym e), ap (λ (s : ℕ × ℕ). s .1) (sym e)))
+ways-ends true p x y (inr (inl e)) = (refl, inr (ap (λ (s : ℕ × ℕ). s .1) (sym e), ap (λ (s : ℕ × ℕ). s .0) (sym e)))
+ways-ends true p x y (inr (inr m)) = absurd m
 
-ends-connection : (p : Part) (x y : ℕ) → EndsAt p x y → (x, y) ∈ bothWays p
-ends-connection p x y (inl e) = inl (cc (e .0, e .1))
-ends-connection p x y (inr e) = inr (inl (cc (e .0, e .1)))
+ends-ways : (p : Part) (x y : ℕ) → EndsAt p x y → (x, y) ∈ bothWays p
+ends-ways p x y (inl e) = inl (cc (e .0, e .1))
+ends-ways p x y (inr e) = inr (inl (cc (e .0, e .1)))
+
+-- the connections of a part are those between its ends, either way, while it conducts
+module _ (s : State) (p : Part) (x y : ℕ) where
+  pub connection-ends : (x, y) ∈ actualConnections s p → (conducts s (p .kind) ≡ true) × EndsAt p x y
+  unfolding actualConnections
+  connection-ends m = ways-ends (conducts s (p .kind)) p x y m
+
+  pub ends-connection : conducts s (p .kind) ≡ true → EndsAt p x y → (x, y) ∈ actualConnections s p
+  unfolding actualConnections
+  ends-connection on ends = rw on (ends-ways p x y ends)
 
 module _ (b : Board) (s : State) where
   connected-joined : (x y : ℕ) → AreConnected b s x y → Joined b s x y
-  unfolding actualConnections
   connected-joined x y c =
-      let p = c .component in
-      let made = connection-ends (conducts s (p .kind)) p x y (c .connects) in
-      record { part = p; on-board = c .of-network; conducting = made .0; ends = made .1 }
+      let made = connection-ends s (c .component) x y (c .connects) in
+      record { part = c .component; on-board = c .of-network; conducting = made .0; ends = made .1 }
 
   joined-connected : (x y : ℕ) → Joined b s x y → AreConnected b s x y
-  unfolding actualConnections
-  joined-connected x y j = record {
-    component = j .part;
-    of-network = j .on-board;
-    connects = rw (j .conducting) (ends-connection (j .part) x y (j .ends));
-  }
+  joined-connected x y j = record { component = j .part; of-network = j .on-board; connects = ends-connection s (j .part) x y (j .conducting) (j .ends) }
 
   -- ---- paths and chains
 

@@ -1,22 +1,24 @@
 -- Laws of verdicts: what live, dead and undecided say of the chains, what the effort counts, that a verdict is known by what it tells, and that at most 64 terminals are looked at. What `search`, `judge` and the crates above them need. Assumes nothing.
 use Prim.Native.Nat.{ℕ, _+_, _<_, _≤_}
 use native.Mathlib.Omega.{arith}
-use mathlib.Core.Path.{_≡_, refl, sym, ap, subst}
-use mathlib.Core.Logic.{inl}
+use mathlib.Core.Path.{_≡_, refl, sym, ap, subst, _∙_}
+use mathlib.Core.Logic.{_⊎_, inl, inr}
 use mathlib.Core.Bool.{Bool, true, false}
 use mathlib.Core.List.{List, [], _∷_, _++_}
 use mathlib.Core.Option.{some, none, Option·none-ne-some, Option·some-injective}
+use lib.Dec.{leb}
 use lib.ListN.{length}
-use borrow.Author.Tests.{lt-ltb, le-ltb, le-leb, lt-leb}
+use borrow.Author.Tests.{lt-ltb, le-ltb, le-leb, lt-leb, leb-true, leb-false}
 use Rattle.bits.proofs.BoolLaws.{by-test}
 use Rattle.lists.specs.Members.{_∈_, All}
 use Rattle.lists.proofs.MemberLaws.{all-member, member-append-right}
+use Rattle.number.specs.Outcomes.{given}
 use Rattle.number.proofs.OutcomeLaws.{refusal-equal}
 use Rattle.search.specs.declared.Winding.{Winding}
 use Rattle.search.specs.declared.Finding.{Finding}
 use Rattle.search.specs.declared.Finding.the-variants.{Live, Dead, Undecided, Refused}
 use Rattle.search.specs.declared.Verdict.{Verdict}
-use Rattle.search.specs.Verdicts.{firstShown, effort, settled, unsettled, weighed, judgement, judged, toldFinding, toldVerdict}
+use Rattle.search.specs.Verdicts.{Judgement, undecided, firstShown, effort, settled, unsettled, weighed, judgement, judged, toldFinding, toldVerdict}
 
 -- ---- the verdict turns at the effort
 
@@ -27,6 +29,20 @@ weighed-within s cs w enough = rw (le-leb (effort s cs) w enough) refl
 pub weighed-short : (s : List ℕ → Bool) (cs : List (List ℕ)) (w : ℕ) → w < effort s cs → weighed s cs w ≡ unsettled w
 unfolding weighed
 weighed-short s cs w short = rw (lt-leb (effort s cs) w short) refl
+
+-- what an allowance w settles, every larger one x settles the same way
+pub weighed-larger : (s : List ℕ → Bool) (cs : List (List ℕ)) (w x : ℕ) → w ≤ x → (weighed s cs w .word ≡ given undecided) ⊎ (weighed s cs x ≡ weighed s cs w)
+weighed-larger s cs w x more =
+    by-test (leb (effort s cs) w)
+    (λ enough. inr (within (leb-true (effort s cs) w enough)))
+    (λ short. inl (ap (λ (j : Judgement). j .word) (weighed-short s cs w (leb-false (effort s cs) w short))))
+  where
+    within : effort s cs ≤ w → weighed s cs x ≡ weighed s cs w
+    within enough = weighed-within s cs x (omega (arith, enough, more)) ∙ sym (weighed-within s cs w enough)
+
+pub judged-larger : (near : List ℕ) (t : ℕ) (v : Winding) (w x : ℕ) → w ≤ x → (judged near t v w .word ≡ given undecided) ⊎ (judged near t v x ≡ judged near t v w)
+unfolding judged judgement
+judged-larger near t v w x more = weighed-larger _ _ w x more
 
 -- ---- the first chain shown
 

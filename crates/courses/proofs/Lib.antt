@@ -1,0 +1,5 @@
+-- What looks and runs say, and the theorems of specs/.
+pub mod LookMeans
+pub mod RunMeans
+pub mod Exactly
+pub mod Table

@@ -1,0 +1,5 @@
+-- The theorems of specs/SingleMoves.antt, and the laws that they go by.
+pub mod CurrentLaws
+pub mod WordLaws
+pub mod ComesLaws
+pub mod Exactly

@@ -1,0 +1,3 @@
+-- The guards of the published model, and what each word of a move says.
+pub mod Guards
+pub mod SingleMoves

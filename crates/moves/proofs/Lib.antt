@@ -1,0 +1,5 @@
+-- Laws of steps and of the single move, for this crate's proofs and those of later crates.
+pub mod MotionLaws
+pub mod StepLaws
+pub mod MovingLaws
+pub mod Once

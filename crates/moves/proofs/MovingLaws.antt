@@ -1,0 +1,96 @@
+-- Laws of the single move as a call, one for each way out of `move_relay`: refused by 15, 14 or 11, in that order, or moved; and that an answer is known by what it tells.
+use Prim.Native.Nat.{ℕ, _≤_, _<_}
+use mathlib.Core.Path.{_≡_, refl, ap}
+use mathlib.Core.Bool.{Bool, true, false}
+use lib.Dec.{ltb}
+use borrow.Author.Tests.{lt-ltb, le-ltb, ltb-true}
+use Rattle.number.specs.Outcomes.{given, refused, unless}
+use Rattle.number.specs.Refusals.{noSuchWinding, stateBeyondBoard, brokenBoard}
+use Rattle.number.proofs.OutcomeLaws.{refused-never, refusal-equal, passed}
+use Rattle.board.specs.declared.Board.{Board}
+use Rattle.board.specs.Rules.{boardFine}
+use Rattle.state.specs.declared.State.{State}
+use Rattle.state.specs.States.{stateFine}
+use Rattle.moves.specs.declared.Motion.{Motion}
+use Rattle.moves.specs.declared.Motion.the-variants.{Drew, Dropped, Rests, Undecided, Conflict}
+use Rattle.moves.specs.declared.Answer.{Answer}
+use Rattle.moves.specs.declared.Answer.the-variants.{Says, Refused}
+use Rattle.moves.specs.declared.Moved.{Moved}
+use Rattle.moves.specs.Steps.{Move, stepOf, made, toldMotion}
+use Rattle.moves.specs.Moving.{movable, moving, toldAnswer, toldMoved}
+
+-- the last test of a row
+asked : (t : Bool) (n : ℕ) → unless t n 0 ≡ given tt → t ≡ true
+asked true n e = refl
+asked false n e = absurd (refused-never n 0 tt e)
+
+module _ (b : Board) (s : State) (r : ℕ) where
+  pub movable-broken : boardFine b ≡ false → movable b s r ≡ refused brokenBoard 0
+  unfolding movable
+  movable-broken off = rw off refl
+
+  pub movable-beyond : boardFine b ≡ true → stateFine (b .counts) s ≡ false → movable b s r ≡ refused stateBeyondBoard 0
+  unfolding movable
+  movable-beyond fine off = rw (fine, off) refl
+
+  pub movable-lacking : boardFine b ≡ true → stateFine (b .counts) s ≡ true → b .counts .relays ≤ r → movable b s r ≡ refused noSuchWinding 0
+  unfolding movable
+  movable-lacking fine fits past = rw (fine, fits, le-ltb r (b .counts .relays) past) refl
+
+  pub movable-relay : boardFine b ≡ true → stateFine (b .counts) s ≡ true → r < b .counts .relays → movable b s r ≡ given tt
+  unfolding movable
+  movable-relay fine fits below = rw (fine, fits, lt-ltb r (b .counts .relays) below) refl
+
+  -- where a relay is moved, the board breaks no rule, the state fits it and the relay is there
+  pub movable-given : movable b s r ≡ given tt → (boardFine b ≡ true) × (stateFine (b .counts) s ≡ true) × (r < b .counts .relays)
+  unfolding movable
+  movable-given taken =
+      let board = passed (boardFine b) brokenBoard 0 _ tt taken in
+      let state = passed (stateFine (b .counts) s) stateBeyondBoard 0 _ tt (board .1) in
+      (board .0, state .0, ltb-true r (b .counts .relays) (asked (ltb r (b .counts .relays)) noSuchWinding (state .1)))
+
+  pub moving-refused : (w k p : ℕ) → movable b s r ≡ refused k p → (s, refused k p) ≡ moving b s r w
+  unfolding moving
+  moving-refused w k p e = rw e refl
+
+  pub moving-moved : (w : ℕ) (m : Move) (t : State) → movable b s r ≡ given tt → m ≡ stepOf b w s r → t ≡ made s r m → (t, given m) ≡ moving b s r w
+  unfolding moving
+  moving-moved w m t e is leaves = rw (e, leaves, is) refl
+
+-- ---- the answer's cases are told apart
+
+pub told-motion-once : (x y : Motion) → toldMotion x ≡ toldMotion y → x ≡ y
+told-motion-once Drew Drew e = refl
+told-motion-once Drew Dropped e = cc
+told-motion-once Drew Rests e = cc
+told-motion-once Drew Undecided e = cc
+told-motion-once Drew Conflict e = cc
+told-motion-once Dropped Drew e = cc
+told-motion-once Dropped Dropped e = refl
+told-motion-once Dropped Rests e = cc
+told-motion-once Dropped Undecided e = cc
+told-motion-once Dropped Conflict e = cc
+told-motion-once Rests Drew e = cc
+told-motion-once Rests Dropped e = cc
+told-motion-once Rests Rests e = refl
+told-motion-once Rests Undecided e = cc
+told-motion-once Rests Conflict e = cc
+told-motion-once Undecided Drew e = cc
+told-motion-once Undecided Dropped e = cc
+told-motion-once Undecided Rests e = cc
+told-motion-once Undecided Undecided e = refl
+told-motion-once Undecided Conflict e = cc
+told-motion-once Conflict Drew e = cc
+told-motion-once Conflict Dropped e = cc
+told-motion-once Conflict Rests e = cc
+told-motion-once Conflict Undecided e = cc
+told-motion-once Conflict Conflict e = refl
+
+told-answer-once : (x y : Answer) → toldAnswer x ≡ toldAnswer y → x ≡ y
+told-answer-once (Says m) (Says k) e = ap Says (told-motion-once m k (cc))
+told-answer-once (Says m) (Refused q) e = cc
+told-answer-once (Refused r) (Says k) e = cc
+told-answer-once (Refused r) (Refused q) e = ap Refused (refusal-equal r q (cc) (cc))
+
+pub told-moved-once : (x y : Moved) → toldMoved x ≡ toldMoved y → x ≡ y
+told-moved-once x y e = λ i. record { state = e i .0; answer = told-answer-once (x .answer) (y .answer) (λ j. e j .1) i }

@@ -1,0 +1,87 @@
+-- What a relay does in a state. Rule book: "Regular: its winding is always judged, with W. Undecided: undecided. Otherwise it draws if dropped and live, drops if drawn and dead, else rests. Steel: both windings are always judged, each with W. Either undecided: undecided. Both live: conflict. Otherwise it draws if dropped and the drawing winding is live, drops if drawn and the dropping winding is live, else rests."
+--     Move                         what a move comes to: drew, dropped, rests, undecided or conflict
+--     isLive, isUndecided o        the winding was judged live, undecided
+--     isMissing o                  the relay has no such winding
+--     regularMove d x              a regular relay, drawn if d, with its winding judged as x
+--     steelMove d x y              a steel relay, drawn if d, with its drawing winding judged as x and its dropping winding as y
+--     moveBy d x y                 a relay by its first and its second winding: with a second one it is steel, else regular; what the board lacks rests
+--     wordOn near b r n w          winding n of relay r of board b, judged by the sets of neighbours `near` within the allowance w
+--     stepBy near b d r w          what relay r does, drawn if d
+--     stepOf b w s r               what relay r of board b does in state s, within the allowance w. Runs know it by its laws alone
+--     made s r m                   the state after relay r came to m: "A move changes that relay and nothing else"
+--     toldMotion                     the answer's cases in the rule book's words
+use Prim.Native.Nat.{ℕ}
+use mathlib.Core.Bool.{Bool, true, false, not, cond, _&&_, _||_}
+use mathlib.Core.List.{List}
+use Rattle.number.specs.Outcomes.{Outcome, given, refused, _>>=_}
+use Rattle.board.specs.declared.Board.{Board}
+use Rattle.board.specs.Parts.{partsOf}
+use Rattle.state.specs.declared.State.{State}
+use Rattle.state.specs.States.{isDrawn, withDrawn, withDropped}
+use Rattle.neighbours.specs.Neighbours.{neighbours}
+use Rattle.search.specs.Verdicts as verdict
+use Rattle.judge.specs.declared.Which.{Which}
+use Rattle.judge.specs.declared.Which.the-variants.{First, Second}
+use Rattle.judge.specs.RelayWindings.{windingOf}
+use Rattle.moves.specs.declared.Motion.{Motion}
+use Rattle.moves.specs.declared.Motion.the-variants as motion
+
+pub data Move : Type 0 where
+  drew dropped rests undecided conflict : Move
+
+abbrev pub isLive : Outcome verdict.Word → Bool
+isLive (given verdict.live) = true
+isLive (given verdict.dead) = false
+isLive (given verdict.undecided) = false
+isLive (refused n p) = false
+
+abbrev pub isUndecided : Outcome verdict.Word → Bool
+isUndecided (given verdict.live) = false
+isUndecided (given verdict.dead) = false
+isUndecided (given verdict.undecided) = true
+isUndecided (refused n p) = false
+
+abbrev pub isMissing : Outcome verdict.Word → Bool
+isMissing (given x) = false
+isMissing (refused n p) = true
+
+unfoldable pub regularMove : Bool → Outcome verdict.Word → Move
+regularMove d x =
+    cond (isUndecided x) undecided
+    (cond (not d && isLive x) drew
+    (cond (d && not (isLive x)) dropped
+    rests))
+
+unfoldable pub steelMove : Bool → Outcome verdict.Word → Outcome verdict.Word → Move
+steelMove d x y =
+    cond (isUndecided x || isUndecided y) undecided
+    (cond (isLive x && isLive y) conflict
+    (cond (not d && isLive x) drew
+    (cond (d && isLive y) dropped
+    rests)))
+
+unfoldable pub moveBy : Bool → Outcome verdict.Word → Outcome verdict.Word → Move
+moveBy d x y = cond (isMissing x) rests (cond (isMissing y) (regularMove d x) (steelMove d x y))
+
+unfoldable pub wordOn : List ℕ → Board → ℕ → Which → ℕ → Outcome verdict.Word
+wordOn near b r n w = windingOf n r (partsOf b) >>= λ v. verdict.judged near (b .counts .terminals) v w .word
+
+unfoldable pub stepBy : List ℕ → Board → Bool → ℕ → ℕ → Move
+stepBy near b d r w = moveBy d (wordOn near b r First w) (wordOn near b r Second w)
+
+unfoldable pub stepOf : Board → ℕ → State → ℕ → Move
+stepOf b w s r = stepBy (neighbours b s) b (isDrawn s r) r w
+
+abbrev pub made : State → ℕ → Move → State
+made s r drew = withDrawn s r
+made s r dropped = withDropped s r
+made s r rests = s
+made s r undecided = s
+made s r conflict = s
+
+abbrev pub toldMotion : Motion → Move
+toldMotion motion.Drew = drew
+toldMotion motion.Dropped = dropped
+toldMotion motion.Rests = rests
+toldMotion motion.Undecided = undecided
+toldMotion motion.Conflict = conflict

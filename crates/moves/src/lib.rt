@@ -1,0 +1,219 @@
+// Moves of a relay: what it does in a state, and the call that moves a named relay.
+ghost use mathlib.Core.Path.{_≡_};
+ghost use mathlib.Core.Bool.{_&&_, cond};
+ghost use Rattle.number.specs.Outcomes.{refused};
+ghost use Rattle.state.specs.States.{isDrawn};
+ghost use Rattle.search.specs.Verdicts.{toldFinding};
+ghost use Rattle.moves.specs.Steps.{drew, dropped, rests, isLive, isUndecided, isMissing, regularMove, steelMove, wordOn, stepBy, made, toldMotion};
+ghost use Rattle.moves.specs.Moving.{moving, toldMoved};
+use board::Board;
+use judge::Sought;
+use judge::Which;
+use number::BROKEN_BOARD;
+use number::NO_SUCH_WINDING;
+use number::Refusal;
+use number::STATE_BEYOND_BOARD;
+use search::Finding;
+use state::State;
+
+// What a move of a relay comes to.
+pub enum Motion {
+    Drew,
+    Dropped,
+    Rests,
+    Undecided,
+    Conflict,
+}
+
+// The answer to a single move: what it came to, or the refusal.
+pub enum Answer {
+    Says(Motion),
+    Refused(Refusal),
+}
+
+// The answer to a single move, with the state that it leaves.
+pub struct Moved {
+    pub state: State,
+    pub answer: Answer,
+}
+
+// Whether a winding was judged live.
+fn is_live(finding: Finding) -> bool
+    ensures { λ r. ⌜ r ≡ isLive (toldFinding finding) ⌝ }
+{
+    match finding {
+        Finding::Live => true,
+        Finding::Dead => false,
+        Finding::Undecided => false,
+        Finding::Refused(_) => false,
+    }
+}
+
+// Whether a winding was judged undecided.
+fn is_undecided(finding: Finding) -> bool
+    ensures { λ r. ⌜ r ≡ isUndecided (toldFinding finding) ⌝ }
+{
+    match finding {
+        Finding::Undecided => true,
+        Finding::Live => false,
+        Finding::Dead => false,
+        Finding::Refused(_) => false,
+    }
+}
+
+// Whether a relay has no such winding.
+fn is_missing(finding: Finding) -> bool
+    ensures { λ r. ⌜ r ≡ isMissing (toldFinding finding) ⌝ }
+{
+    match finding {
+        Finding::Refused(_) => true,
+        Finding::Live => false,
+        Finding::Dead => false,
+        Finding::Undecided => false,
+    }
+}
+
+// Whether both windings were judged live.
+fn both_live(drawing: Finding, dropping: Finding) -> bool
+    ensures { λ r. ⌜ r ≡ (isLive (toldFinding drawing) && isLive (toldFinding dropping)) ⌝ }
+{
+    if is_live(drawing) {
+        is_live(dropping)
+    } else {
+        false
+    }
+}
+
+// What a regular relay comes to, by its winding.
+fn regular(drawn: bool, winding: Finding) -> Motion
+    ensures { λ r. ⌜ toldMotion r ≡ regularMove drawn (toldFinding winding) ⌝ }
+{
+    if is_undecided(winding) {
+        return Motion::Undecided;
+    }
+    if is_live(winding) {
+        return draws(drawn);
+    }
+    drops(drawn)
+}
+
+// What a steel relay comes to, by its two windings.
+fn steel(drawn: bool, drawing: Finding, dropping: Finding) -> Motion
+    ensures { λ r. ⌜ toldMotion r ≡ steelMove drawn (toldFinding drawing) (toldFinding dropping) ⌝ }
+{
+    if is_undecided(drawing) {
+        return Motion::Undecided;
+    }
+    if is_undecided(dropping) {
+        return Motion::Undecided;
+    }
+    if both_live(drawing, dropping) {
+        return Motion::Conflict;
+    }
+    if is_live(drawing) {
+        return draws(drawn);
+    }
+    if is_live(dropping) {
+        return drops(drawn);
+    }
+    Motion::Rests
+}
+
+// What a relay comes to that is made to draw: it draws if dropped.
+fn draws(drawn: bool) -> Motion
+    ensures { λ r. ⌜ toldMotion r ≡ cond drawn rests drew ⌝ }
+{
+    if drawn {
+        Motion::Rests
+    } else {
+        Motion::Drew
+    }
+}
+
+// What a relay comes to that is made to drop: it drops if drawn.
+fn drops(drawn: bool) -> Motion
+    ensures { λ r. ⌜ toldMotion r ≡ cond drawn dropped rests ⌝ }
+{
+    if drawn {
+        Motion::Dropped
+    } else {
+        Motion::Rests
+    }
+}
+
+// That winding of a relay, judged by the sets of neighbours within the allowance.
+fn judged(near: &[u64; 64], board: Board, relay: u32, which: Which, allowance: u32) -> Finding
+    ensures { λ r. ⌜ toldFinding r ≡ wordOn (now (near .entry)) board relay which allowance ⌝ }
+{
+    let sought = judge::winding(board, relay, which);
+    let Sought::Between(ends) = sought else {
+        return Finding::Refused(Refusal {
+            number: NO_SUCH_WINDING,
+            place: 0,
+        });
+    };
+    let verdict = search::search(near, board.counts.terminals, ends, allowance);
+    verdict.finding
+}
+
+// What a relay comes to in this state, by the sets of neighbours within the allowance. What the board lacks rests.
+pub fn step(near: &[u64; 64], board: Board, state: State, relay: u32, allowance: u32) -> Motion
+    ensures { λ r. ⌜ toldMotion r ≡ stepBy (now (near .entry)) board (isDrawn state relay) relay allowance ⌝ }
+{
+    let drawn = bits::has(state.drawn, relay);
+    let first = judged(near, board, relay, Which::First, allowance);
+    let second = judged(near, board, relay, Which::Second, allowance);
+    if is_missing(first) {
+        return Motion::Rests;
+    }
+    if is_missing(second) {
+        return regular(drawn, first);
+    }
+    steel(drawn, first, second)
+}
+
+// The state after a relay came to this: drawn, dropped, or as it was.
+pub fn after(state: State, relay: u32, motion: Motion) -> State
+    ensures { λ r. ⌜ r ≡ made state relay (toldMotion motion) ⌝ }
+{
+    match motion {
+        Motion::Drew => state.draw(relay),
+        Motion::Dropped => state.drop(relay),
+        Motion::Rests => state,
+        Motion::Undecided => state,
+        Motion::Conflict => state,
+    }
+}
+
+// A refused move: the state as given. A call's place is 0.
+fn refuse(state: State, number: u32) -> Moved
+    ensures { λ r. ⌜ toldMoved r ≡ (state, refused number 0) ⌝ }
+{
+    Moved {
+        state,
+        answer: Answer::Refused(Refusal { number, place: 0 }),
+    }
+}
+
+// Moves a named relay, if it can move.
+pub fn move_relay(board: Board, state: State, relay: u32, allowance: u32) -> Moved
+    ensures { λ r. ⌜ toldMoved r ≡ moving board state relay allowance ⌝ }
+{
+    if !board::check(board) {
+        return refuse(state, BROKEN_BOARD);
+    }
+    let counts = board.counts;
+    if !state.fits(counts) {
+        return refuse(state, STATE_BEYOND_BOARD);
+    }
+    if bits::wide(counts.relays) <= relay {
+        return refuse(state, NO_SUCH_WINDING);
+    }
+    let near = neighbours::neighbours(board, state);
+    let motion = step(&near, board, state, relay, allowance);
+    let state = after(state, relay, motion);
+    Moved {
+        state,
+        answer: Answer::Says(motion),
+    }
+}

@@ -1,0 +1,39 @@
+-- A look at the relays. Rule book: "A run looks at the relays from 0 up; the first that doesn't rest decides. None: the run is idle. Undecided or conflict: it stops with that word. A move: ..."
+--     Stepper               what each relay comes to in each state. A run goes by this alone, whatever is below it
+--     Ending                the words that a run ends with
+--     Look                  what a look comes to: quiet, every relay rests; halts e r, relay r stops the run with the word e; moves m r, relay r makes the move m
+--     byteOf r m            "Each log byte is the relay number, plus 128 for a draw"
+--     decides m r next      relay r came to m; where it rests, the next relays decide
+--     lookFrom f s k r      the look at k relays from r up, in state s
+use Prim.Native.Nat.{ℕ, zero, suc, _+_}
+use Rattle.state.specs.declared.State.{State}
+use Rattle.moves.specs.Steps as step
+
+abbrev pub Stepper : Type 0
+Stepper = State → ℕ → step.Move
+
+pub data Ending : Type 0 where
+  idle spent undecided conflict : Ending
+
+pub data Look : Type 0 where
+  quiet : Look
+  halts : Ending → ℕ → Look
+  moves : step.Move → ℕ → Look
+
+abbrev pub byteOf : ℕ → step.Move → ℕ
+byteOf r step.drew = r + 128
+byteOf r step.dropped = r
+byteOf r step.rests = r
+byteOf r step.undecided = r
+byteOf r step.conflict = r
+
+abbrev pub decides : step.Move → ℕ → Look → Look
+decides step.rests r next = next
+decides step.undecided r next = halts undecided r
+decides step.conflict r next = halts conflict r
+decides step.drew r next = moves step.drew r
+decides step.dropped r next = moves step.dropped r
+
+unfoldable pub lookFrom : Stepper → State → ℕ → ℕ → Look
+lookFrom f s zero r = quiet
+lookFrom f s (suc k) r = decides (f s r) r (lookFrom f s k (suc r))

@@ -1,0 +1,92 @@
+// The course of a run on a board that breaks no rule: look, move, and look again.
+ghost use mathlib.Core.Path.{_≡_};
+ghost use Prim.Native.Nat.{_<_, _≤_};
+ghost use lib.ListN.{length};
+ghost use Rattle.moves.specs.Steps.{toldMotion};
+ghost use Rattle.runs.specs.Looks.{byteOf};
+ghost use Rattle.runs.specs.Running.{runOn, ran, toldRan};
+use board::Board;
+use crate::Ran;
+use crate::Word;
+use crate::NO_RELAY;
+use moves::Motion;
+use state::State;
+
+// Why a run stopped: the word and the relay that stopped it.
+struct Stop {
+    word: Word,
+    relay: u8,
+}
+
+// The log byte of a move: the relay number, plus 128 for a draw.
+fn byte(relay: u8, motion: Motion) -> u8
+    requires { ⌜ relay < 128 ⌝ }
+    ensures { λ r. ⌜ r ≡ byteOf relay (toldMotion motion) ⌝ }
+{
+    match motion {
+        Motion::Drew => relay + 128,
+        Motion::Dropped => relay,
+        Motion::Rests => relay,
+        Motion::Undecided => relay,
+        Motion::Conflict => relay,
+    }
+}
+
+// Looks at the relays from 0 up and moves the first that can move, until none can or the run must stop.
+pub fn follow(board: Board, state: State, allowance: u32, log: &mut [u8]) -> Ran
+    requires { ⌜ board .counts .relays ≤ 32 ⌝ }
+    ensures { λ r. ⌜ toldRan r (now (log .exit)) ≡ ran (runOn board allowance (length (now (log .entry))) state) (now (log .entry)) ⌝ }
+{
+    let relays = board.counts.relays;
+    let mut state = state;
+    let mut moves = 0;
+    let stop = 'run: loop {
+        let near = neighbours::neighbours(board, state);
+        let mut relay = 0;
+        'scan: loop {
+            if relays <= relay {
+                break 'run Stop {
+                    word: Word::Idle,
+                    relay: NO_RELAY,
+                };
+            }
+            let motion = moves::step(&near, board, state, bits::wide(relay), allowance);
+            match motion {
+                Motion::Rests => {
+                    relay += 1;
+                }
+                Motion::Undecided => {
+                    break 'run Stop {
+                        word: Word::Undecided,
+                        relay,
+                    };
+                }
+                Motion::Conflict => {
+                    break 'run Stop {
+                        word: Word::Conflict,
+                        relay,
+                    };
+                }
+                Motion::Drew | Motion::Dropped => {
+                    if log.len() <= moves {
+                        break 'run Stop {
+                            word: Word::Spent,
+                            relay,
+                        };
+                    }
+                    log[moves] = byte(relay, motion);
+                    state = moves::after(state, bits::wide(relay), motion);
+                    moves += 1;
+                    break 'scan;
+                }
+            }
+        }
+    };
+    let word = stop.word;
+    Ran {
+        word,
+        moves,
+        state,
+        relay: stop.relay,
+    }
+}

@@ -1,0 +1,64 @@
+// A run of a board over a lent log: the lowest relay that can move is moved, again and again, until the run must stop.
+ghost use mathlib.Core.Path.{_≡_};
+ghost use mathlib.Core.List.{[]};
+ghost use Rattle.runs.specs.Running.{unrun, running, toldRan};
+use board::Board;
+use number::BROKEN_BOARD;
+use number::LOG_TOO_LONG;
+use number::Refusal;
+use number::STATE_BEYOND_BOARD;
+use state::State;
+
+mod course;
+
+// The longest log that a run takes.
+pub const LONGEST_LOG: usize = 65536;
+
+// The relay of an idle or a refused run: none stopped it.
+pub const NO_RELAY: u8 = 255;
+
+// How a run ends.
+pub enum Word {
+    Idle,
+    Spent,
+    Undecided,
+    Conflict,
+    Refused(Refusal),
+}
+
+// The answer to a run: the word, the moves made, the state, and the relay that stopped it.
+pub struct Ran {
+    pub word: Word,
+    pub moves: usize,
+    pub state: State,
+    pub relay: u8,
+}
+
+// A refused run: the state as given, no moves, no relay. A call's place is 0.
+fn refuse(state: State, number: u32) -> Ran
+    ensures { λ r. ⌜ toldRan r [] ≡ unrun number 0 state [] ⌝ }
+{
+    Ran {
+        word: Word::Refused(Refusal { number, place: 0 }),
+        moves: 0,
+        state,
+        relay: NO_RELAY,
+    }
+}
+
+// Runs a board from this state, each winding within the allowance, and logs each move.
+pub fn run(board: Board, state: State, allowance: u32, log: &mut [u8]) -> Ran
+    ensures { λ r. ⌜ toldRan r (now (log .exit)) ≡ running board state allowance (now (log .entry)) ⌝ }
+{
+    if !board::check(board) {
+        return refuse(state, BROKEN_BOARD);
+    }
+    let counts = board.counts;
+    if !state.fits(counts) {
+        return refuse(state, STATE_BEYOND_BOARD);
+    }
+    if LONGEST_LOG < log.len() {
+        return refuse(state, LOG_TOO_LONG);
+    }
+    course::follow(board, state, allowance, log)
+}
