@@ -43,10 +43,15 @@ def shows(chain, a, b):
     return chain[-1] == MINUS and any({a, b} == {x, y} for x, y in zip(chain, chain[1:]))
 
 
+def beyond(counts, drawn, pushed):
+    """Whether a state has a relay or button that the board lacks."""
+    _, relays, buttons = counts
+    return any(name >= relays for name in drawn) or any(name >= buttons for name in pushed)
+
+
 def refusal(counts, parts, drawn, pushed, relay, second):
     """The number for no that judging this winding in this state gives, or None."""
-    _, relays, buttons = counts
-    if any(name >= relays for name in drawn) or any(name >= buttons for name in pushed):
+    if beyond(counts, drawn, pushed):
         return STATE_BEYOND_BOARD
     return None if winding(parts, relay, second) else NO_SUCH_WINDING
 

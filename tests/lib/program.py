@@ -6,7 +6,7 @@ import subprocess
 
 import repository
 
-TEXT_ROOM = 32_700  # the program takes texts of fewer than 32,768 bytes
+TEXT_ROOM = 65_400  # the program takes texts of fewer than 65,536 bytes
 
 
 def toolchain():

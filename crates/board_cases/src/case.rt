@@ -3,6 +3,8 @@
 use crate::file;
 use crate::handed;
 use crate::judged;
+use crate::moved;
+use crate::ran;
 use crate::text;
 use crate::text::Ending;
 use crate::text::Mark;
@@ -36,6 +38,8 @@ fn answer(ending: Ending, bytes: &[u8]) {
         Ending::Handed => handed::answer(bytes),
         Ending::Short => file::answer_short(bytes),
         Ending::Judged => judged::answer(bytes),
+        Ending::Moved => moved::answer(bytes),
+        Ending::Ran => ran::answer(bytes),
     }
 }
 

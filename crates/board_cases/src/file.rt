@@ -1,4 +1,6 @@
 // Cases that are board files: each is read, and the board it gives is written back.
+use crate::lent;
+use crate::lent::UNTOUCHED;
 use crate::print;
 use board::Board;
 use board_reader::ReadAnswer;
@@ -6,9 +8,6 @@ use board_writer::LONGEST_FILE;
 use board_writer::Written;
 ghost use Prim.Native.Nat.{_≤_};
 ghost use lib.ListN.{length};
-
-// What every byte of a buffer is before a board is written into it.
-const UNTOUCHED: u8 = 0xaa;
 
 // More bytes than any file has.
 const ROOM_TO_SPARE: usize = 1_040;
@@ -31,25 +30,13 @@ fn begins_as(out: &[u8], file: &[u8], count: usize) -> bool {
     true
 }
 
-// Whether every byte of a buffer from a place on is untouched.
-fn untouched(out: &[u8], start: usize) -> bool {
-    let mut i = start;
-    while i < out.len() {
-        if out[i] != UNTOUCHED {
-            return false;
-        }
-        i += 1;
-    }
-    true
-}
-
 // Whether a buffer holds the file up to a place, of as many bytes as were written, and nothing else.
 fn is_same(out: &[u8], file: &[u8], next: usize, written: usize) -> bool {
     if next != written {
         return false;
     }
     if begins_as(out, file, next) {
-        untouched(out, next)
+        lent::untouched(out, next)
     } else {
         false
     }
@@ -116,7 +103,7 @@ fn write_short(board: Board, length: usize) {
     let answer = write_within(board, &mut out, room);
     print::words(b"short ");
     print::written(answer);
-    if untouched(&out, 0) {
+    if lent::untouched(&out, 0) {
         print::words(b" kept");
     } else {
         print::words(b" changed");

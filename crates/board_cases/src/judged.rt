@@ -1,15 +1,14 @@
-// Cases that are judgements. The bytes are a board file, then five numbers in the file's form: the drawn relays and the
-// pushed buttons, each as a set (the sum of 2 to each), the relay, which of its windings (0: the first, any other: the
-// second), and the allowance.
+// Cases that are judgements. The numbers after the board and its state are the relay, which of its windings (0: the
+// first, any other: the second), and the allowance.
+use crate::asked;
 use crate::print;
-use board::Board;
-use board_reader::ReadAnswer;
 use judge::Which;
-use number::Number;
 use search::Finding;
 use search::PLACES;
 use search::Verdict;
-use state::State;
+
+// How many numbers follow the board.
+const NUMBERS: usize = 5;
 
 // Whether no place from this one on is used.
 fn unused_from(terminals: [u8; 64], start: usize) -> bool {
@@ -66,7 +65,7 @@ fn print_chain(terminals: [u8; 64], length: usize) {
             return;
         }
         print::words(b" ");
-        print::count(terminals[i] as usize);
+        print::byte(terminals[i]);
         i += 1;
     }
 }
@@ -92,14 +91,7 @@ fn print_verdict(verdict: Verdict) {
         Finding::Undecided => print_found(b"undecided ", verdict),
         Finding::Refused(refused) => print::refusal(refused),
     }
-    if !is_bare(verdict) {
-        print::words(b" and more");
-    }
-}
-
-// Says that what follows the board is malformed.
-fn bad_case() {
-    print::words(b"bad case");
+    print::more(is_bare(verdict));
 }
 
 // The winding of this number.
@@ -111,48 +103,14 @@ fn which_of(number: u32) -> Which {
     }
 }
 
-// Judges as the numbers from this place say, which end the case, on a board in a state.
-fn judge_in(board: Board, state: State, bytes: &[u8], start: usize) {
-    let Number::Read(relay, at_which) = number::read_number(bytes, start) else {
-        return bad_case();
-    };
-    let Number::Read(which, at_allowance) = number::read_number(bytes, at_which) else {
-        return bad_case();
-    };
-    let Number::Read(allowance, end) = number::read_number(bytes, at_allowance) else {
-        return bad_case();
-    };
-    if end != bytes.len() {
-        return bad_case();
-    }
-    print_verdict(judge::judge(board, state, relay, which_of(which), allowance));
-}
-
-// Judges as the five numbers from this place say, on a board.
-fn judge_on(board: Board, bytes: &[u8], start: usize) {
-    let Number::Read(drawn, at_pushed) = number::read_number(bytes, start) else {
-        return bad_case();
-    };
-    let Number::Read(pushed, at_relay) = number::read_number(bytes, at_pushed) else {
-        return bad_case();
-    };
-    let state = State {
-        drawn: drawn as u64,
-        pushed: pushed as u64,
-    };
-    judge_in(board, state, bytes, at_relay);
-}
-
-// Reads a board file and judges on its board as the numbers after it say.
+// Judges a winding as the case asks.
 pub fn answer(bytes: &[u8]) {
-    let board_read = board_reader::read(bytes);
-    let answer = board_read.answer;
-    match answer {
-        ReadAnswer::Refused(refused) => print::refusal_at(refused),
-        ReadAnswer::Read(next) => {
-            let board = board_read.board;
-            judge_on(board, bytes, next);
-        }
+    let asked = asked::read(bytes, NUMBERS);
+    if asked.fine {
+        let board = asked.board;
+        let values = asked.values;
+        let which = which_of(values[3]);
+        print_verdict(judge::judge(board, asked.state(), values[2], which, values[4]));
     }
     print::words(b"\n");
 }

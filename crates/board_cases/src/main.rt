@@ -1,20 +1,24 @@
 // Runs board cases through the proved libraries and prints what they answer. A case is typed as text: pairs of hex
 // digits are its bytes, `*` adds zero bytes up to a length of 65,536, `#` opens a comment up to the end of the line, and
 // the case ends with `>` (a board file, to be read and written back), `!` (a board handed in), `?` (a board file, to be
-// written into a buffer one byte too short) or `@` (a board file and what is to be judged on it). White space stands
-// between.
+// written into a buffer one byte too short), `@` (a board file and what is to be judged on it), `^` (a board file and the
+// relay to be moved) or `=` (a board file to be run). White space stands between.
+mod asked;
 mod case;
 mod file;
 mod handed;
 mod judged;
+mod lent;
+mod moved;
 mod print;
+mod ran;
 mod text;
 
 use case::Case;
 use libc::STDIN_FILENO;
 
 // The most bytes of text, and of a case: some more than the longest input.
-const TEXT_ROOM: usize = 32_768;
+const TEXT_ROOM: usize = 65_536;
 
 const CASE_ROOM: usize = 65_540;
 

@@ -4,6 +4,7 @@ use libc::STDOUT_FILENO;
 use number::Refusal;
 use state::Press;
 use state::Pressed;
+use state::State;
 
 // Prints some words.
 pub fn words(text: &[u8]) {
@@ -15,9 +16,19 @@ pub fn bad_text() {
     words(b"bad text\n");
 }
 
+// Says that what follows the board of a case is malformed.
+pub fn bad_case() {
+    words(b"bad case");
+}
+
 // Prints a count or a place.
 pub fn count(n: usize) {
     io::print_decimal(STDOUT_FILENO, n as u64);
+}
+
+// Prints a byte: a terminal, a relay or a logged move.
+pub fn byte(byte: u8) {
+    io::print_decimal(STDOUT_FILENO, byte as u64);
 }
 
 // Prints a refusal's number.
@@ -48,5 +59,20 @@ pub fn press(name: &[u8], pressed: Pressed) {
     match answer {
         Press::Done => words(b"done"),
         Press::Refused(refused) => refusal(refused),
+    }
+}
+
+// Prints the drawn relays and the pushed buttons, each set as the sum of 2 to each.
+pub fn sets(state: State) {
+    words(b" ");
+    io::print_decimal(STDOUT_FILENO, state.drawn);
+    words(b" ");
+    io::print_decimal(STDOUT_FILENO, state.pushed);
+}
+
+// Says that an answer has something beyond what is printed, unless it is bare.
+pub fn more(bare: bool) {
+    if !bare {
+        words(b" and more");
     }
 }

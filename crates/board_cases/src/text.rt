@@ -1,12 +1,14 @@
 // What each character of the text means.
 
-// How a case ends: as a board file, as a board handed in, as a board file for a buffer that is too short, or as a
-// judgement.
+// How a case ends: as a board file, as a board handed in, as a board file for a buffer that is too short, as a
+// judgement, as a single move, or as a run.
 pub enum Ending {
     File,
     Handed,
     Short,
     Judged,
+    Moved,
+    Ran,
 }
 
 // What a character is.
@@ -29,6 +31,8 @@ pub fn mark_of(character: u8) -> Mark {
         b'!' => Mark::End(Ending::Handed),
         b'?' => Mark::End(Ending::Short),
         b'@' => Mark::End(Ending::Judged),
+        b'^' => Mark::End(Ending::Moved),
+        b'=' => Mark::End(Ending::Ran),
         b'0'..=b'9' => Mark::Digit(character - 48),
         b'A'..=b'F' => Mark::Digit(character - 55),
         b'a'..=b'f' => Mark::Digit(character - 87),

@@ -94,9 +94,9 @@ module _ (b : Board) (w : ℕ) where
     run-says (suc n) s fits =
         says-look (suc n) s (look s) refl (look-means b w s fine fits)
         (λ m r e means.
-          subst (Says (suc n) s) (sym (run-moves (step.stepOf b w) (b .counts .relays) s n m r e))
-          (says-logged n s (byteOf r m) (step.made s r m) (run n (step.made s r m)) (stopped-moves s m r means)
-          (run-says n (step.made s r m) (made-fits (b .counts) s r m fits (stopped-below s m r means)))))
+        subst (Says (suc n) s) (sym (run-moves (step.stepOf b w) (b .counts .relays) s n m r e))
+        (says-logged n s (byteOf r m) (step.made s r m) (run n (step.made s r m)) (stopped-moves s m r means)
+        (run-says n (step.made s r m) (made-fits (b .counts) s r m fits (stopped-below s m r means)))))
 
   -- ---- of one run only one word can be said
 

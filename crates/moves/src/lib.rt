@@ -123,11 +123,7 @@ fn steel(drawn: bool, drawing: Finding, dropping: Finding) -> Motion
 fn draws(drawn: bool) -> Motion
     ensures { λ r. ⌜ toldMotion r ≡ cond drawn rests drew ⌝ }
 {
-    if drawn {
-        Motion::Rests
-    } else {
-        Motion::Drew
-    }
+    if drawn { Motion::Rests } else { Motion::Drew }
 }
 
 // What a relay comes to that is made to drop: it drops if drawn.

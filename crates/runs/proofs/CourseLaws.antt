@@ -38,7 +38,6 @@ pub record Scan (f : Stepper) (k : ℕ) (log₀ : List ℕ) (m₀ : ℕ) (s₀ :
   pub same-log : log₀ ≡ log
   pub same-moves : m₀ ≡ m
   pub same-state : s₀ ≡ s
-  pub within : r ≤ k
   pub look : lookFrom f s k 0 ≡ lookFrom f s (k - r) r
 
 ran-onward : (x : Run) (log : List ℕ) → length (x .bytes) ≤ length log → ran x log ≡ onward log 0 x
@@ -60,7 +59,7 @@ course-starts f k log s =
 pub scan-starts : (f : Stepper) (k : ℕ) (log : List ℕ) (m : ℕ) (s : State) → Scan f k log m s log m s 0
 scan-starts f k log m s =
     let whole : k ≡ k - 0 = omega arith in
-    record { same-log = refl; same-moves = refl; same-state = refl; within = omega arith; look = ap (λ (n : ℕ). lookFrom f s n 0) whole }
+    record { same-log = refl; same-moves = refl; same-state = refl; look = ap (λ (n : ℕ). lookFrom f s n 0) whole }
 
 onward-logged : (log : List ℕ) (m c : ℕ) (x : Run) → onward log m (logged c x) ≡ onward (set log m c) (m + 1) x
 onward-logged log m c x =
@@ -78,7 +77,7 @@ module _ (f : Stepper) (k : ℕ) (log₀ : List ℕ) (m₀ : ℕ) (s₀ : State)
   decided mv below is = scan .look ∙ look-decides f s k r mv below is
 
   pub scan-rests : r < k → step.rests ≡ f s r → Scan f k log₀ m₀ s₀ log m s (r + 1)
-  scan-rests below is = record { same-log = scan .same-log; same-moves = scan .same-moves; same-state = scan .same-state; within = omega arith; look = decided step.rests below is }
+  scan-rests below is = record { same-log = scan .same-log; same-moves = scan .same-moves; same-state = scan .same-state; look = decided step.rests below is }
 
   module _ (all : Told) (room : ℕ) (course : Course f k all room log₀ m₀ s₀) where
     here : Course f k all room log m s
@@ -114,8 +113,8 @@ module _ (f : Stepper) (k : ℕ) (log₀ : List ℕ) (m₀ : ℕ) (s₀ : State)
           long = length-set log m c ∙ here .long;
           within = omega arith;
           goes =
-            here .goes
-            ∙ ap (onward log m) (ap (λ (n : ℕ). runOf f k n s) more ∙ run-moves f k s (room - (m + 1)) mv r (moves-here mv below is move))
-            ∙ onward-logged log m (byteOf r mv) (runOf f k (room - (m + 1)) (step.made s r mv))
-            ∙ rw (byte, leaves) refl;
+              here .goes
+              ∙ ap (onward log m) (ap (λ (n : ℕ). runOf f k n s) more ∙ run-moves f k s (room - (m + 1)) mv r (moves-here mv below is move))
+              ∙ onward-logged log m (byteOf r mv) (runOf f k (room - (m + 1)) (step.made s r mv))
+              ∙ rw (byte, leaves) refl;
         }

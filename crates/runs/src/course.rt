@@ -5,10 +5,10 @@ ghost use lib.ListN.{length};
 ghost use Rattle.moves.specs.Steps.{toldMotion};
 ghost use Rattle.runs.specs.Looks.{byteOf};
 ghost use Rattle.runs.specs.Running.{runOn, ran, toldRan};
-use board::Board;
+use crate::NO_RELAY;
 use crate::Ran;
 use crate::Word;
-use crate::NO_RELAY;
+use board::Board;
 use moves::Motion;
 use state::State;
 

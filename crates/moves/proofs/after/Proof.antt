@@ -3,7 +3,6 @@ use borrow.Author.Needs.{needs}
 use Rattle.moves.proofs.after.Statement.{statement}
 use Rattle.moves.proofs.after.Tie as tie
 
-
 enum-told : tie.Need-enum-told
 enum-told c = search needs
 

@@ -31,14 +31,11 @@ slice-aggregate-words-2 c = search needs
 words-requires-2 : tie.Need-words-requires-2 Inv-loop μ-loop
 words-requires-2 c κs = search needs
 
-array-read-count : tie.Need-array-read-count Inv-loop μ-loop
-array-read-count c = search needs
+array-read-byte : tie.Need-array-read-byte Inv-loop μ-loop
+array-read-byte c = search needs
 
-cast-count : tie.Need-cast-count Inv-loop μ-loop
-cast-count c = search needs
-
-count-requires-2 : tie.Need-count-requires-2 Inv-loop μ-loop
-count-requires-2 c κs = search needs
+byte-requires : tie.Need-byte-requires Inv-loop μ-loop
+byte-requires c κs = search needs
 
 add-i : tie.Need-add-i Inv-loop μ-loop
 add-i c = search needs
@@ -65,9 +62,8 @@ print-chain-spec =
     returns
     slice-aggregate-words-2
     words-requires-2
-    array-read-count
-    cast-count
-    count-requires-2
+    array-read-byte
+    byte-requires
     add-i
     loop-less
     loop-again

@@ -3,7 +3,6 @@ use borrow.Author.Needs.{needs}
 use Rattle.runs.proofs.course.byte.Statement.{statement}
 use Rattle.runs.proofs.course.byte.Tie as tie
 
-
 enum-told : tie.Need-enum-told
 enum-told c = search needs
 

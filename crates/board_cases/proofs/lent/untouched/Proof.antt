@@ -2,14 +2,14 @@
 use borrow.Author.Needs.{needs}
 use Prim.Native.Nat.{_-_}
 use lib.ListN.{length}
-use Rattle.board_cases.proofs.file.untouched.Statement.{statement}
-use Rattle.board_cases.proofs.file.untouched.Tie as tie
+use Rattle.board_cases.proofs.lent.untouched.Statement.{statement}
+use Rattle.board_cases.proofs.lent.untouched.Tie as tie
 
 abbrev Inv-loop : tie.InvT-loop
-Inv-loop out start i₀ i = Unit {0}
+Inv-loop buffer start i₀ i = Unit {0}
 
 abbrev μ-loop : tie.MeasureT-loop
-μ-loop out start i₀ i = length out - i
+μ-loop buffer start i₀ i = length buffer - i
 
 loop-holds : tie.Need-loop-holds Inv-loop μ-loop
 loop-holds c = search needs

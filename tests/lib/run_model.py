@@ -1,0 +1,101 @@
+"""Moving a relay and running a board once more, in plain Python, after ../shared/documents/01-scope.md, "How a relay moves"
+and "Numbers for no", on top of judge_model. Its author had read the crates, so it is not the independent second program.
+Refusal 15 is left out: every board here is fine."""
+import itertools
+
+import judge_model as judge
+
+LOG_TOO_LONG = 13
+LONGEST_LOG = 65_536
+NO_RELAY = 255
+DRAW = 128
+
+
+class TooManyChains(Exception):
+    """A state has more chains than there is time for."""
+
+
+class Board:
+    """The counts T, R, B and the parts of a fine board. What its windings are in a state is worked out once."""
+
+    def __init__(self, counts, parts, most_chains):
+        self.counts, self.parts, self.most_chains, self.known = counts, parts, most_chains, {}
+        own = [[judge.winding(parts, relay, second) for second in (False, True)] for relay in range(counts[1])]
+        self.windings = [[part for part in pair if part] for pair in own]
+
+    def efforts(self, drawn, pushed):
+        """For each relay the effort of each of its windings, the first one first, and whether it is live."""
+        state = frozenset(drawn), frozenset(pushed)
+        if state not in self.known:
+            near = judge.neighbours(self.counts[0], self.parts, drawn, pushed)
+            chains = list(itertools.islice(judge.chains(near), self.most_chains + 1))
+            if len(chains) > self.most_chains:
+                raise TooManyChains
+            self.known[state] = [[effort(chains, part) for part in own] for own in self.windings]
+        return self.known[state]
+
+
+def effort(chains, winding):
+    """The effort of a winding by the list of all chains, and whether it is live."""
+    _, a, b, _ = winding
+    shown = next((place for place, chain in enumerate(chains, 1) if judge.shows(chain, a, b)), None)
+    return shown or len(chains), shown is not None
+
+
+def refusal(board, drawn, pushed, room=0, relay=None):
+    """The number for no of a run with so much room in its log, or of a move of this relay; or None."""
+    if judge.beyond(board.counts, drawn, pushed):
+        return judge.STATE_BEYOND_BOARD
+    if room > LONGEST_LOG:
+        return LOG_TOO_LONG
+    if relay is not None and relay >= board.counts[1]:
+        return judge.NO_SUCH_WINDING
+    return None
+
+
+def motion(windings, drawn, allowance):
+    """What a relay comes to, by the effort of each of its windings and whether it is live, and whether the relay is drawn."""
+    if any(count > allowance for count, _ in windings):
+        return "undecided"
+    live = [is_live for _, is_live in windings]
+    if live == [True, True]:
+        return "conflict"
+    draws, drops = live if len(live) == 2 else (live[0], not live[0])
+    if draws and not drawn:
+        return "drew"
+    if drops and drawn:
+        return "dropped"
+    return "rests"
+
+
+def after(drawn, relay, word):
+    """The drawn relays after a relay came to this."""
+    return drawn | {relay} if word == "drew" else drawn - {relay} if word == "dropped" else drawn
+
+
+def move(board, drawn, pushed, relay, allowance):
+    """The word of a single move of a relay that is there, and the drawn relays after it."""
+    word = motion(board.efforts(drawn, pushed)[relay], relay in drawn, allowance)
+    return word, after(drawn, relay, word)
+
+
+def look(board, drawn, pushed, allowance):
+    """The first relay from 0 up that does not rest, and what it comes to; idle if there is none."""
+    for relay, windings in enumerate(board.efforts(drawn, pushed)):
+        word = motion(windings, relay in drawn, allowance)
+        if word != "rests":
+            return word, relay
+    return "idle", NO_RELAY
+
+
+def run(board, drawn, pushed, allowance, room):
+    """The word of a run with so much room in its log, the log, the drawn relays after it, and the relay that stopped it."""
+    log = []
+    while True:
+        word, relay = look(board, drawn, pushed, allowance)
+        if word not in ("drew", "dropped"):
+            return word, log, drawn, relay
+        if len(log) == room:
+            return "spent", log, drawn, relay
+        log.append(relay + (DRAW if word == "drew" else 0))
+        drawn = after(drawn, relay, word)

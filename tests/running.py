@@ -1,0 +1,231 @@
+"""Compares the proved program `board_cases` with the model of moving and running in tests/lib/run_model.py on generated
+single moves and runs: relays that feed each other by their contacts, in sequence and in rings, relays that hold themselves,
+steel relays fed by buttons and contacts, and the boards of tests/judging.py; states within and beyond the board, relays
+that are there and that are not, allowances around the efforts, logs around the number of moves. Of the program's own
+answers it compares any two runs from one board and state: the one with no shorter log and no less allowance starts with
+every move of the other, and is the same if that one ended idle or in conflict. Seeded, so each run tries the same cases;
+`python3 tests/running.py SEED BOARDS` tries others, or more (it is 1 and 130 else). Needs target/bin/board_cases, which
+`rt check board_cases` builds."""
+import itertools
+import os
+import random
+import sys
+
+sys.path.insert(0, os.path.join(os.path.dirname(os.path.abspath(__file__)), "lib"))
+import board_model
+import judging
+import program
+import repository
+import run_model as model
+from judge_model import BUTTON, DRAWING, DROPPING, LOWER, MINUS, PLUS, REGULAR, UPPER
+
+LARGEST = judging.LARGEST
+MOST_CHAINS = 400  # states with more, and runs that come to one, are left out
+MANY_MOVES = 200  # a run that makes so many is taken for one that never ends
+SHOWN = 40  # the program prints so many moves of a log
+
+
+def wired(dice, relays, buttons, rows):
+    """The board of these rows, its terminals in any order. A row is a winding, as its kind and relay, and the ways that feed
+    it from plus; a way is a list of switches in series, each a kind with its relay or button."""
+    terminals, parts = 2, []
+    for kind, relay, ways in rows:
+        fed, terminals = terminals, terminals + 1
+        parts.append([kind, fed, MINUS, relay])
+        for way in ways:
+            at = PLUS
+            for switch in way[:-1]:
+                parts.append([switch[0], at, terminals] + switch[1:])
+                at, terminals = terminals, terminals + 1
+            parts.append([way[-1][0], at, fed] + way[-1][1:])
+    order = [PLUS, MINUS] + dice.sample(range(2, terminals), terminals - 2)
+    for part in parts:
+        part[1:3] = dice.sample([order[part[1]], order[part[2]]], 2)
+    dice.shuffle(parts)
+    return [terminals, relays, buttons], parts
+
+
+def some_switch(dice, relays, buttons):
+    """A contact of some relay, a button, or seldom a wire."""
+    kind = dice.choice([UPPER, LOWER, BUTTON] * 5 + [0])
+    return [kind, dice.randrange(buttons if kind == BUTTON else relays)] if kind else [0]
+
+
+def any_rows(dice):
+    """Relays of both sorts, each winding with up to three ways of up to two switches."""
+    relays, buttons, rows = dice.randint(1, 5), dice.randint(1, 3), []
+    for relay in range(relays):
+        for kind in dice.choice([[REGULAR], [REGULAR], [DRAWING, DROPPING]]):
+            ways = [[some_switch(dice, relays, buttons) for _ in range(dice.choice([1, 1, 2]))] for _ in range(dice.choice([0, 1, 1, 2, 3]))]
+            rows.append((kind, relay, ways))
+    return relays, buttons, rows
+
+
+def sequence_rows(dice):
+    """Relays in any order, the first fed by a button, each other one by a contact of the one before."""
+    relays = dice.randint(2, 8)
+    order = dice.sample(range(relays), relays)
+    feeds = [[BUTTON, 0]] + [[dice.choice([UPPER, UPPER, UPPER, LOWER]), before] for before in order]
+    return relays, 1, [(REGULAR, relay, [[feed]]) for relay, feed in zip(order, feeds)]
+
+
+def ring_rows(dice):
+    """Relays in a ring, each fed by a contact of the next, some through a button. With an odd number of lower contacts that
+    are all fed there is always one that can move."""
+    relays, rows = dice.randint(1, 4), []
+    for relay in range(relays):
+        feed = [dice.choice([UPPER, LOWER, LOWER]), (relay + 1) % relays]
+        rows.append((REGULAR, relay, [[[BUTTON, 0], feed] if dice.random() < 0.3 else [feed]]))
+    return relays, 1, rows
+
+
+def holding_rows(dice):
+    """A relay that a button draws and that its own upper contact holds, until another that a button draws cuts it."""
+    held, cutting = dice.sample([0, 1], 2)
+    return 2, 2, [(REGULAR, held, [[[BUTTON, 0]], [[UPPER, held], [LOWER, cutting]]]), (REGULAR, cutting, [[[BUTTON, 1]]])]
+
+
+def steel_rows(dice):
+    """Steel relays, each winding fed by a button or by a contact of another relay, some through a contact of their own."""
+    relays, rows = dice.randint(1, 4), []
+    for relay in range(relays):
+        for kind, own in ((DRAWING, LOWER), (DROPPING, UPPER)):
+            feed = dice.choice([[BUTTON, dice.randrange(2)], [UPPER, dice.randrange(relays)], [LOWER, dice.randrange(relays)]])
+            rows.append((kind, relay, [[feed, [own, relay]] if dice.random() < 0.5 else [feed]]))
+    return relays, 2, rows
+
+
+def board(dice):
+    """The counts T, R, B and the parts of some fine board."""
+    if dice.random() < 0.2:
+        return judging.board(dice)
+    rows = dice.choice([any_rows] * 5 + [sequence_rows] * 2 + [steel_rows] * 2 + [ring_rows, holding_rows])
+    return wired(dice, *rows(dice))
+
+
+def total(names):
+    """A set as the sum of 2 to each."""
+    return sum(2**name for name in names)
+
+
+def case(own, numbers, ending):
+    """The text of a case."""
+    data = board_model.file_of(own.counts, own.parts) + bytes(byte for number in numbers for byte in board_model.number_bytes(number))
+    return data.hex() + ending + "\n"
+
+
+def move_case(own, drawn, pushed, relay, allowance):
+    """A single move, with the line that it should print."""
+    number = model.refusal(own, drawn, pushed, relay=relay)
+    word, left = (f"refused {number}", drawn) if number else model.move(own, drawn, pushed, relay, allowance)
+    return case(own, [total(drawn), total(pushed), relay, allowance], "^"), f"moved {word} {total(left)} {total(pushed)}"
+
+
+def run_case(own, drawn, pushed, allowance, room):
+    """A run, with the line that it should print."""
+    number = model.refusal(own, drawn, pushed, room=room)
+    word, log, left, relay = (f"refused {number}", [], drawn, model.NO_RELAY) if number else model.run(own, drawn, pushed, allowance, room)
+    line = f"ran {word} {len(log)} {total(left)} {total(pushed)} {relay}:"
+    return case(own, [total(drawn), total(pushed), allowance, room], "="), " ".join([line] + [str(byte) for byte in log[:SHOWN]])
+
+
+def around(efforts):
+    """The least allowances and the largest, and those around these efforts."""
+    return sorted({0, 1, LARGEST}.union(*({effort - 1, effort, effort + 1} for effort in efforts)))
+
+
+def moves(dice, own, drawn, pushed):
+    """Single moves of some relay in a state, and of one that the board lacks."""
+    relays = own.counts[1]
+    found = [move_case(own, drawn, pushed, dice.choice([relays, relays + 1, LARGEST]), dice.choice([0, LARGEST]))]
+    if relays:
+        relay = dice.randrange(relays)
+        efforts = [] if model.refusal(own, drawn, pushed) else [effort for effort, _ in own.efforts(drawn, pushed)[relay]]
+        found += [move_case(own, drawn, pushed, relay, allowance) for allowance in around(efforts)]
+    return found
+
+
+def runs(dice, own, drawn, pushed):
+    """Runs from a state, each with its allowance and the room in its log."""
+    if model.refusal(own, drawn, pushed):
+        asked = [(0, 5), (LARGEST, model.LONGEST_LOG + 1)]
+    else:
+        made = len(model.run(own, drawn, pushed, LARGEST, MANY_MOVES)[1])
+        rooms = sorted({0, 1, 2, max(made - 1, 0), made, made + 1, SHOWN})
+        if made < MANY_MOVES and dice.random() < 0.2:
+            rooms += [model.LONGEST_LOG, model.LONGEST_LOG + 1]
+        efforts = {effort for state in own.known.values() for windings in state for effort, _ in windings}
+        tight = around(dice.sample(sorted(efforts), min(2, len(efforts))))
+        asked = [(LARGEST, room) for room in rooms] + [(allowance, dice.choice(rooms)) for allowance in tight]
+    return [(run_case(own, drawn, pushed, *each), each) for each in asked]
+
+
+def long_runs(dice):
+    """Runs that fill the longest log, and a run of 32 relays from the highest down."""
+    h3 = [3, 1, 0], [[LOWER, PLUS, 2, 0], [REGULAR, 2, MINUS, 0]]
+    ring = wired(dice, 3, 0, [(REGULAR, relay, [[[LOWER, (relay + 1) % 3]]]) for relay in range(3)])
+    most = wired(dice, 32, 1, [(REGULAR, relay, [[[UPPER, relay + 1]]]) for relay in range(31)] + [(REGULAR, 31, [[[BUTTON, 0]]])])
+    boards = [(h3, set()), (ring, set()), (most, {0})]
+    return [run_case(model.Board(*own, MOST_CHAINS), set(), pushed, LARGEST, model.LONGEST_LOG) for own, pushed in boards]
+
+
+def answers(found):
+    """What the program prints for each case; None for those of a text that it answers with more lines or fewer."""
+    told = []
+    for own in judging.batches(found):
+        lines = program.answers("".join(text for text, _ in own))
+        told += lines if len(lines) == len(own) else [None] * len(own)
+    return told
+
+
+def goes_on(less, more):
+    """Whether the second line, of a run that is no less generous, starts with every move of the first, and is the same if
+    that one ended idle or in conflict."""
+    (counts, log), (more_counts, more_log) = ([part.split() for part in line.split(":")] for line in (less, more))
+    if counts[1] in ("idle", "conflict"):
+        return more == less
+    return int(more_counts[2]) >= int(counts[2]) and more_log[: len(log)] == log
+
+
+def disagreeing(group):
+    """The runs from one board and state, each as what was asked and the line printed, that break demand 3."""
+    taken = [(asked, line) for asked, line in group if line and line.startswith("ran ") and "refused" not in line]
+    pairs = itertools.permutations(taken, 2)
+    return [(less, more) for less, more in pairs if all(a <= b for a, b in zip(less[0], more[0])) and not goes_on(less[1], more[1])]
+
+
+def met(found):
+    """Whether what must occur does."""
+    for word in ("drew", "dropped", "rests", "undecided", "conflict", "refused 11", "refused 14"):
+        yield f"some move is {word}", any(line.startswith("moved " + word) for _, line in found)
+    for word in ("idle", "spent", "undecided", "conflict", "refused 13", "refused 14"):
+        yield f"some run is {word}", any(line.startswith("ran " + word) for _, line in found)
+    made = [line.split() for _, line in found if line.startswith("ran ") and "refused" not in line]
+    yield "some run is idle after 3 moves or more", any(words[1] == "idle" and int(words[2]) >= 3 for words in made)
+    yield "in some run relay 0 is not the first to move", any(len(words) > 6 and int(words[6]) % model.DRAW for words in made)
+
+
+def compare(seed, boards):
+    dice, found, groups = random.Random(seed), [], []
+    for _ in range(boards):
+        own = model.Board(*board(dice), MOST_CHAINS)
+        for _ in range(2):
+            drawn, pushed = judging.state(dice, own.counts[1], own.counts[2])
+            try:
+                of_moves, of_runs = moves(dice, own, drawn, pushed), runs(dice, own, drawn, pushed)
+            except model.TooManyChains:
+                continue
+            groups.append((len(found) + len(of_moves), [asked for _, asked in of_runs]))
+            found += of_moves + [each for each, _ in of_runs]
+    found += long_runs(dice)
+    told = answers(found)
+    checks = [(f"{text.strip()}: wanted {want}, got {got}", want == got) for (text, want), got in zip(found, told)]
+    for start, asked in groups:
+        wrong = disagreeing(list(zip(asked, told[start:])))
+        checks.append((f"{found[start][0].strip()}: of two runs from this state the one goes on as the other did: {wrong}", not wrong))
+    return checks + list(met(found))
+
+
+if __name__ == "__main__":
+    seed, boards = (int(word) for word in sys.argv[1:3]) if len(sys.argv) > 2 else (1, 130)
+    sys.exit(repository.report(compare(seed, boards)))
