@@ -2,12 +2,12 @@
 use mathlib.Core.Path.{_≡_, refl, ap₂}
 use mathlib.Core.Bool.{true, _&&_}
 use mathlib.Core.List.{List, []}
+use Rattle.kinds.specs.Windings.{noWindings, complete, every}
 use Rattle.board.specs.declared.Counts.{Counts}
 use Rattle.board.specs.declared.Part.{Part}
 use Rattle.board.specs.declared.Board.{Board}
 use Rattle.board.specs.Parts.{partsOf, emptyBoard}
 use Rattle.board.specs.Rules.{countsFine, inRange, partsFine, boardFine}
-use Rattle.board.specs.Windings.{noWindings, complete, every}
 use Rattle.board.specs.Same.{sameBoard}
 use Rattle.bits.proofs.BoolLaws.{both-true}
 use Rattle.board.specs.Sorts.{Wound, partsFit}

@@ -1,8 +1,6 @@
 -- The laws, by subject; each function has its proof in a folder of its own.
-pub mod EveryLaws
 pub mod RuleLaws
 pub mod SameLaws
-pub mod KindLaws
 pub mod PaddedLaws
 pub mod FineLaws
 pub mod WindingLaws

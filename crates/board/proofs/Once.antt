@@ -2,20 +2,11 @@
 use Prim.Native.Nat.{ℕ}
 use mathlib.Core.Path.{_≡_, sym, _∙_}
 use mathlib.Core.Bool.{Bool}
-use Rattle.board.specs.declared.Kind.{Kind}
 use Rattle.board.specs.declared.Counts.{Counts}
 use Rattle.board.specs.declared.Board.{Board}
-use Rattle.board.specs.declared.windings.Windings.{Windings}
-use Rattle.board.specs.Parts.{kindNumber, nameOf, emptyBoard}
+use Rattle.board.specs.Parts.{emptyBoard}
 use Rattle.board.specs.Rules.{limitOf, boardFine}
 use Rattle.board.specs.Same.{sameBoard}
-use Rattle.board.specs.Windings.{noWindings, windingFree, gained, complete}
-
-pub number-once : (k : Kind) (p q : ℕ) → p ≡ kindNumber k → q ≡ kindNumber k → p ≡ q
-number-once k p q e f = e ∙ sym f
-
-pub name-once : (k : Kind) (p q : ℕ) → p ≡ nameOf k → q ≡ nameOf k → p ≡ q
-name-once k p q e f = e ∙ sym f
 
 pub limit-once : (c : Counts) (k p q : ℕ) → p ≡ limitOf c k → q ≡ limitOf c k → p ≡ q
 limit-once c k p q e f = e ∙ sym f
@@ -28,15 +19,3 @@ check-once b p q e f = e ∙ sym f
 
 pub same-once : (x y : Board) (p q : Bool) → p ≡ sameBoard x y → q ≡ sameBoard x y → p ≡ q
 same-once x y p q e f = e ∙ sym f
-
-pub none-once : (p q : Windings) → p ≡ noWindings → q ≡ noWindings → p ≡ q
-none-once p q e f = e ∙ sym f
-
-pub free-once : (w : Windings) (k : Kind) (p q : Bool) → p ≡ windingFree w k → q ≡ windingFree w k → p ≡ q
-free-once w k p q e f = e ∙ sym f
-
-pub with-once : (w : Windings) (k : Kind) (p q : Windings) → p ≡ gained w k → q ≡ gained w k → p ≡ q
-with-once w k p q e f = e ∙ sym f
-
-pub complete-once : (w : Windings) (n : ℕ) (p q : Bool) → p ≡ complete n w → q ≡ complete n w → p ≡ q
-complete-once w n p q e f = e ∙ sym f

@@ -6,13 +6,13 @@ use mathlib.Core.Bool.{Bool, true, false}
 use lib.Dec.{leb, leb·zero}
 use lib.ListN.{length, getD, take, drop}
 use borrow.Author.Tests.{le-leb, leb-true, lt-ltb, le-ltb, eq-eqb, ne-eqb}
+use Rattle.kinds.specs.declared.windings.Windings.{Windings}
+use Rattle.kinds.specs.Windings.{noWindings, windingFree, gained, complete}
 use Rattle.board.specs.declared.Counts.{Counts}
 use Rattle.board.specs.declared.Part.{Part}
 use Rattle.board.specs.declared.Board.{Board}
-use Rattle.board.specs.declared.windings.Windings.{Windings}
 use Rattle.board.specs.Parts.{blank, partsOf}
 use Rattle.board.specs.Rules.{countsFine, inRange, partFits, partFine, partsFine, nameFine, boardFine}
-use Rattle.board.specs.Windings.{noWindings, windingFree, gained, complete}
 use Rattle.lists.proofs.FirstLaws.{first-from, first-past}
 use Rattle.bits.proofs.BoolLaws.{both-true}
 

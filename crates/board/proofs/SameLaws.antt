@@ -8,15 +8,16 @@ use lib.ListN.{length, getD, take, drop}
 use lib.Seq.{take-all}
 use native.Mathlib.Omega.{arith}
 use borrow.Author.Tests.{eq-eqb, ne-eqb, eqb-true}
-use Rattle.board.specs.declared.Kind.{Kind}
+use Rattle.kinds.specs.declared.Kind.{Kind}
+use Rattle.kinds.specs.Kinds.{kindNumber, nameOf, kindOf}
 use Rattle.board.specs.declared.Counts.{Counts}
 use Rattle.board.specs.declared.Part.{Part}
 use Rattle.board.specs.declared.Board.{Board}
-use Rattle.board.specs.Parts.{kindNumber, nameOf, kindOf, partsOf, blank}
+use Rattle.board.specs.Parts.{partsOf, blank}
 use Rattle.board.specs.Same.{sameCounts, sameKind, samePart, sameParts, sameBoard}
 use Rattle.lists.proofs.FirstLaws.{first-from, first-past}
 use Rattle.bits.proofs.BoolLaws.{both-true, true-both}
-use Rattle.board.proofs.KindLaws.{kind-of-parts}
+use Rattle.kinds.proofs.KindLaws.{kind-of-parts}
 
 module _ (x y : Counts) where
   pub counts-terminals-differ : (x .terminals ≡ y .terminals → ⊥) → false ≡ sameCounts x y

@@ -1,6 +1,5 @@
 -- The definitions that the contracts cite, in reading order.
 pub mod Parts
-pub mod Windings
 pub mod Rules
 pub mod Same
 pub mod Sorts

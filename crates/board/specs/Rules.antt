@@ -12,13 +12,14 @@ use Prim.Native.Nat.{ℕ}
 use mathlib.Core.Bool.{Bool, cond, not, _&&_, _||_}
 use mathlib.Core.List.{List, [], _∷_}
 use lib.Dec.{ltb, leb, eqb}
-use Rattle.board.specs.declared.Kind.{Kind}
+use Rattle.kinds.specs.declared.Kind.{Kind}
+use Rattle.kinds.specs.declared.windings.Windings.{Windings}
+use Rattle.kinds.specs.Kinds.{kindNumber, nameOf}
+use Rattle.kinds.specs.Windings.{noWindings, windingFree, gained, complete}
 use Rattle.board.specs.declared.Part.{Part}
 use Rattle.board.specs.declared.Counts.{Counts}
 use Rattle.board.specs.declared.Board.{Board}
-use Rattle.board.specs.declared.windings.Windings.{Windings}
-use Rattle.board.specs.Parts.{kindNumber, nameOf, partsOf, mostParts}
-use Rattle.board.specs.Windings.{noWindings, windingFree, gained, complete}
+use Rattle.board.specs.Parts.{partsOf, mostParts}
 
 abbrev pub leastTerminals : ℕ
 leastTerminals = 2

@@ -4,11 +4,12 @@
 use mathlib.Core.Bool.{Bool, true, false, _&&_}
 use mathlib.Core.List.{List, [], _∷_}
 use lib.Dec.{eqb}
-use Rattle.board.specs.declared.Kind.{Kind}
+use Rattle.kinds.specs.declared.Kind.{Kind}
+use Rattle.kinds.specs.Kinds.{kindNumber, nameOf}
 use Rattle.board.specs.declared.Part.{Part}
 use Rattle.board.specs.declared.Counts.{Counts}
 use Rattle.board.specs.declared.Board.{Board}
-use Rattle.board.specs.Parts.{kindNumber, nameOf, partsOf}
+use Rattle.board.specs.Parts.{partsOf}
 
 unfoldable pub sameCounts : Counts → Counts → Bool
 sameCounts c d = eqb (c .terminals) (d .terminals) && eqb (c .relays) (d .relays) && eqb (c .buttons) (d .buttons) && eqb (c .parts) (d .parts)

@@ -3,14 +3,12 @@
 ghost use mathlib.Core.Path.{_≡_};
 ghost use Prim.Native.Nat.{_≤_};
 ghost use lib.ListN.{take};
-ghost use Rattle.board.specs.Parts.{kindNumber, nameOf, mostParts, emptyBoard};
+ghost use Rattle.kinds.specs.Windings.{noWindings};
+ghost use Rattle.board.specs.Parts.{mostParts, emptyBoard};
 ghost use Rattle.board.specs.Rules.{limitOf, nameFine, countsFine, partFine, partsFine, boardFine};
-ghost use Rattle.board.specs.Windings.{noWindings};
 ghost use Rattle.board.specs.Same.{sameCounts, samePart, sameParts, sameBoard};
-
-pub mod windings;
-
-use windings::Windings;
+use kinds::Kind;
+use kinds::windings::Windings;
 
 // The rule book's limits on a board's counts.
 pub const LEAST_TERMINALS: u8 = 2;
@@ -22,17 +20,6 @@ pub const MOST_RELAYS: u8 = 32;
 pub const MOST_BUTTONS: u8 = 32;
 
 pub const MOST_PARTS: usize = 256;
-
-// The kinds of part in the order of the rule book's table, each with its relay or button.
-pub enum Kind {
-    Wire,
-    Upper(u8),
-    Lower(u8),
-    Button(u8),
-    Regular(u8),
-    Drawing(u8),
-    Dropping(u8),
-}
 
 // A part joins the terminals a and b.
 pub struct Part {
@@ -53,38 +40,6 @@ pub struct Counts {
 pub struct Board {
     pub counts: Counts,
     pub parts: [Part; 256],
-}
-
-impl Kind {
-    // The kind's number in the rule book's table.
-    pub fn number(self) -> u32
-        ensures { λ r. ⌜ r ≡ kindNumber self ⌝ }
-    {
-        match self {
-            Kind::Wire => 0,
-            Kind::Upper(_) => 1,
-            Kind::Lower(_) => 2,
-            Kind::Button(_) => 3,
-            Kind::Regular(_) => 4,
-            Kind::Drawing(_) => 5,
-            Kind::Dropping(_) => 6,
-        }
-    }
-
-    // The relay or button that the kind carries; 0 for a wire, which carries none.
-    pub fn name(self) -> u8
-        ensures { λ r. ⌜ r ≡ nameOf self ⌝ }
-    {
-        match self {
-            Kind::Wire => 0,
-            Kind::Upper(relay) => relay,
-            Kind::Lower(relay) => relay,
-            Kind::Button(button) => button,
-            Kind::Regular(relay) => relay,
-            Kind::Drawing(relay) => relay,
-            Kind::Dropping(relay) => relay,
-        }
-    }
 }
 
 // What a name carried by a kind of this number must be below: B for a button, R for a relay.

@@ -3,9 +3,9 @@
 use crate::print;
 use board::Board;
 use board::Counts;
-use board::Kind;
 use board::Part;
 use board_writer::LONGEST_FILE;
+use kinds::Kind;
 use state::State;
 ghost use Prim.Native.Nat.{_≤_};
 

@@ -9,12 +9,12 @@ use lib.Seq.{length-take-le}
 use Rattle.number.specs.Outcomes.{Found, found, _>>=_}
 use Rattle.number.specs.Refusals.{outOfRange, windingLacking}
 use Rattle.number.specs.Numbers.{numberBytes, Bytes}
+use Rattle.kinds.specs.declared.windings.Windings.{Windings}
+use Rattle.kinds.specs.Windings.{noWindings, gained, complete}
 use Rattle.board.specs.declared.Part.{Part}
 use Rattle.board.specs.declared.Counts.{Counts}
 use Rattle.board.specs.declared.Board.{Board}
-use Rattle.board.specs.declared.windings.Windings.{Windings}
 use Rattle.board.specs.Parts.{partsOf}
-use Rattle.board.specs.Windings.{noWindings, gained, complete}
 use Rattle.board.specs.Rules.{inRange, countsFine, partFine, partsFine, boardFine}
 use Rattle.bits.proofs.BoolLaws.{both-true, true-both}
 use Rattle.board.proofs.PaddedLaws.{padded-length, padded-parts}

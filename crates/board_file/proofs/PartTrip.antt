@@ -12,15 +12,15 @@ use Rattle.number.specs.Outcomes.{Outcome, given, Found, found, _>>=_, _>>_, un
 use Rattle.number.specs.Refusals.{noSuchKind, noSuchTerminal, endsEqual, noSuchName, windingTaken}
 use Rattle.number.specs.Numbers.{numberBytes, Bytes}
 use Rattle.number.proofs.NumberLaws.{found-next}
-use Rattle.board.specs.declared.Kind.{Kind}
+use Rattle.kinds.specs.declared.Kind.{Kind}
+use Rattle.kinds.specs.declared.windings.Windings.{Windings}
+use Rattle.kinds.specs.Kinds.{kindNumber, nameOf, kindOf}
+use Rattle.kinds.specs.Windings.{windingFree}
 use Rattle.board.specs.declared.Part.{Part}
 use Rattle.board.specs.declared.Counts.{Counts}
-use Rattle.board.specs.declared.windings.Windings.{Windings}
-use Rattle.board.specs.Parts.{kindNumber, nameOf, kindOf}
-use Rattle.board.specs.Windings.{windingFree}
 use Rattle.board.specs.Rules.{inRange, terminalFine, endsFine, limitOf, nameFine, partFits, partFine}
 use Rattle.bits.proofs.BoolLaws.{both-true, true-both}
-use Rattle.board.proofs.KindLaws.{kind-of-parts, kind-number-of, kind-name-of, kind-of-wire, kind-number-most}
+use Rattle.kinds.proofs.KindLaws.{kind-of-parts, kind-number-of, kind-name-of, kind-of-wire, kind-number-most}
 use Rattle.board.proofs.RuleLaws.{InRange}
 use Rattle.board_reader.specs.Reading.{wanted, nameAt, partAt}
 use Rattle.number.proofs.OutcomeLaws.{given-same, Handed, handed, passed}

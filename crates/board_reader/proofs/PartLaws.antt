@@ -12,11 +12,11 @@ use Rattle.number.specs.Numbers.{toldNumber}
 use Rattle.number.specs.declared.Number.{Number}
 use Rattle.number.specs.declared.Number.the-variants.{Refused}
 use Rattle.number.specs.declared.Refusal.{Refusal}
+use Rattle.kinds.specs.declared.windings.Windings.{Windings}
+use Rattle.kinds.specs.Kinds.{kindOf}
+use Rattle.kinds.specs.Windings.{windingFree}
 use Rattle.board.specs.declared.Counts.{Counts}
 use Rattle.board.specs.declared.Part.{Part}
-use Rattle.board.specs.declared.windings.Windings.{Windings}
-use Rattle.board.specs.Parts.{kindOf}
-use Rattle.board.specs.Windings.{windingFree}
 use Rattle.board.specs.Rules.{inRange, terminalFine, limitOf}
 use Rattle.board_reader.specs.Reading.{wanted, nameAt, partAt, toldAnswer}
 use Rattle.board_reader.specs.Steps.{foundAt, placeOf, toldPart}

@@ -7,12 +7,12 @@ use mathlib.Core.List.{List, [], _∷_, _++_, append-nil, append-assoc}
 use lib.ListN.{length, set, replicate, length-append}
 use Rattle.number.specs.Outcomes.{Outcome, given, refused, Found, found, _>>=_}
 use Rattle.number.specs.Refusals.{windingLacking}
+use Rattle.kinds.specs.declared.windings.Windings.{Windings}
+use Rattle.kinds.specs.Windings.{noWindings, gained, complete}
 use Rattle.board.specs.declared.Counts.{Counts}
 use Rattle.board.specs.declared.Part.{Part}
 use Rattle.board.specs.declared.Board.{Board}
-use Rattle.board.specs.declared.windings.Windings.{Windings}
 use Rattle.board.specs.Parts.{blank, padded, emptyBoard}
-use Rattle.board.specs.Windings.{noWindings, gained, complete}
 use Rattle.board.proofs.PaddedLaws.{padded-set}
 use Rattle.board_reader.specs.Reading.{partAt, partsAt, boardFrom, answered, toldAnswer, toldRead}
 use Rattle.board_reader.specs.Steps.{foundAt, toldPart}

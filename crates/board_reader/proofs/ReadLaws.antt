@@ -7,10 +7,10 @@ use borrow.Author.Tests.{le-leb, lt-leb}
 use Rattle.number.specs.Outcomes.{Outcome, given, refused, Found, found}
 use Rattle.number.specs.Refusals.{inputTooLong}
 use Rattle.number.specs.declared.Refusal.{Refusal}
+use Rattle.kinds.specs.Windings.{noWindings}
 use Rattle.board.specs.declared.Counts.{Counts}
 use Rattle.board.specs.declared.Board.{Board}
 use Rattle.board.specs.Parts.{emptyBoard}
-use Rattle.board.specs.Windings.{noWindings}
 use Rattle.board_reader.specs.Reading.{countsAt, partsAt, boardFrom, boardAt, answered, reading, toldAnswer}
 use Rattle.board_reader.specs.Steps.{foundAt, toldCounts}
 use Rattle.board_reader.specs.declared.ReadAnswer.{ReadAnswer}

@@ -16,12 +16,13 @@ use lib.ListN.{length}
 use Rattle.number.specs.Outcomes.{Outcome, given, refused, Found, found, _>>=_, _>>_, unless}
 use Rattle.number.specs.Refusals.{outOfRange, noSuchKind, noSuchTerminal, endsEqual, noSuchName, windingTaken, windingLacking, inputTooLong}
 use Rattle.number.specs.Numbers.{numberAt}
+use Rattle.kinds.specs.declared.windings.Windings.{Windings}
+use Rattle.kinds.specs.Kinds.{kindOf}
+use Rattle.kinds.specs.Windings.{noWindings, windingFree, gained, complete}
 use Rattle.board.specs.declared.Part.{Part}
 use Rattle.board.specs.declared.Counts.{Counts}
 use Rattle.board.specs.declared.Board.{Board}
-use Rattle.board.specs.declared.windings.Windings.{Windings}
-use Rattle.board.specs.Parts.{kindOf, padded, emptyBoard, mostParts}
-use Rattle.board.specs.Windings.{noWindings, windingFree, gained, complete}
+use Rattle.board.specs.Parts.{padded, emptyBoard, mostParts}
 use Rattle.board.specs.Rules.{leastTerminals, mostTerminals, mostRelays, mostButtons, inRange, terminalFine, endsFine, limitOf}
 use Rattle.board_reader.specs.declared.BoardRead.{BoardRead}
 use Rattle.board_reader.specs.declared.ReadAnswer.{ReadAnswer}

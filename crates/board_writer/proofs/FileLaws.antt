@@ -13,17 +13,18 @@ use Rattle.number.specs.Outcomes.{Outcome, given, refused}
 use Rattle.number.specs.Refusals.{brokenBoard, bufferTooShort}
 use Rattle.number.specs.Numbers.{Bytes, numberBytes}
 use Rattle.number.proofs.NumberLaws.{number-bytes-one, number-bytes-length-two, number-bytes-are-bytes}
-use Rattle.board.specs.declared.Kind.{Kind}
+use Rattle.kinds.specs.declared.Kind.{Kind}
+use Rattle.kinds.specs.Kinds.{kindNumber, nameOf}
+use Rattle.kinds.specs.Windings.{noWindings}
 use Rattle.board.specs.declared.Part.{Part}
 use Rattle.board.specs.declared.Counts.{Counts}
 use Rattle.board.specs.declared.Board.{Board}
-use Rattle.board.specs.Parts.{kindNumber, nameOf, partsOf}
+use Rattle.board.specs.Parts.{partsOf}
 use Rattle.board.specs.Rules.{limitOf, nameFine, partFits, boardFine}
-use Rattle.board.specs.Windings.{noWindings}
 use Rattle.board.specs.Sorts.{partsFit}
 use Rattle.board.specs.Same.{sameBoard}
 use Rattle.bits.proofs.BoolLaws.{both-true, by-test}
-use Rattle.board.proofs.KindLaws.{kind-number-most}
+use Rattle.kinds.proofs.KindLaws.{kind-number-most}
 use Rattle.board.proofs.RuleLaws.{InRange, counts-in-range}
 use Rattle.board.proofs.WindingLaws.{fine-fit}
 use Rattle.board.proofs.SameLaws.{same-board-equal}

@@ -7,10 +7,11 @@ use lib.ListN.{length, getD, take, drop, length-append}
 use borrow.Author.Tests.{eq-eqb, ne-eqb}
 use Rattle.number.specs.Numbers.{numberBytes}
 use Rattle.number.proofs.NumberLaws.{number-bytes-length}
-use Rattle.board.specs.declared.Kind.{Kind}
+use Rattle.kinds.specs.declared.Kind.{Kind}
+use Rattle.kinds.specs.Kinds.{kindNumber, nameOf}
 use Rattle.board.specs.declared.Part.{Part}
 use Rattle.board.specs.declared.Counts.{Counts}
-use Rattle.board.specs.Parts.{kindNumber, nameOf, blank}
+use Rattle.board.specs.Parts.{blank}
 use Rattle.lists.proofs.FirstLaws.{first-from, first-past}
 use Rattle.board_writer.specs.File.{nameBytes, partBytes, partsBytes, countsBytes}
 

@@ -17,11 +17,12 @@ use Rattle.number.specs.Refusals.{brokenBoard, bufferTooShort}
 use Rattle.number.specs.Numbers.{numberBytes, numberWriting, toldWritten, largest}
 use Rattle.number.proofs.Buffers.{sets-append, sets-at-zero}
 use Rattle.number.proofs.NumberLaws.{number-written}
-use Rattle.board.specs.declared.Kind.{Kind}
+use Rattle.kinds.specs.declared.Kind.{Kind}
+use Rattle.kinds.specs.Kinds.{kindNumber, nameOf}
 use Rattle.board.specs.declared.Part.{Part}
 use Rattle.board.specs.declared.Counts.{Counts}
 use Rattle.board.specs.declared.Board.{Board}
-use Rattle.board.specs.Parts.{kindNumber, nameOf, blank, partsOf}
+use Rattle.board.specs.Parts.{blank, partsOf}
 use Rattle.board.specs.Rules.{boardFine}
 use Rattle.bits.proofs.BoolLaws.{both-true}
 use Rattle.board.proofs.RuleLaws.{InRange, counts-in-range}

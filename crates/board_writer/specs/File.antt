@@ -9,11 +9,12 @@ use mathlib.Core.Bool.{cond}
 use mathlib.Core.List.{List, [], _∷_, _++_}
 use lib.Dec.{eqb}
 use Rattle.number.specs.Numbers.{numberBytes}
-use Rattle.board.specs.declared.Kind.{Kind}
+use Rattle.kinds.specs.declared.Kind.{Kind}
+use Rattle.kinds.specs.Kinds.{kindNumber, nameOf}
 use Rattle.board.specs.declared.Part.{Part}
 use Rattle.board.specs.declared.Counts.{Counts}
 use Rattle.board.specs.declared.Board.{Board}
-use Rattle.board.specs.Parts.{kindNumber, nameOf, partsOf}
+use Rattle.board.specs.Parts.{partsOf}
 
 unfoldable pub nameBytes : Kind → List ℕ
 nameBytes k = cond (eqb (kindNumber k) 0) [] (numberBytes (nameOf k))

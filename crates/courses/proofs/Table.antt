@@ -1,9 +1,9 @@
 -- The table of specs/RunsTried.antt holds: each call is computed from the definitions.
 use mathlib.Core.Path.{refl}
 use Rattle.bits.specs.Sets.{member, including, excluding, within}
+use Rattle.kinds.specs.Windings.{every, complete}
 use Rattle.board.specs.Parts.{padded}
 use Rattle.board.specs.Rules.{inRange, countsFine, nameFine, partFits, partFine, partsFine, boardFine}
-use Rattle.board.specs.Windings.{every, complete}
 use Rattle.state.specs.States.{stateFine}
 use Rattle.neighbours.specs.Neighbours.{gathered, neighbours}
 use Rattle.chains.specs.ChainList.{isIn, free, tries, beyond, chains, crosses, someCrosses, beside, shows}

@@ -8,7 +8,7 @@ use mathlib.Core.Path.{_≡_}
 use mathlib.Core.List.{List, [], _∷_}
 use Rattle.lists.specs.Members.{All}
 use Rattle.number.specs.Outcomes.{given}
-use Rattle.board.specs.declared.Kind.the-variants.{Lower, Regular}
+use Rattle.kinds.specs.declared.Kind.the-variants.{Lower, Regular}
 use Rattle.board.specs.declared.Board.{Board}
 use Rattle.state.specs.declared.State.{State}
 use Rattle.state.specs.States.{freshState, withDrawn, withReleased}

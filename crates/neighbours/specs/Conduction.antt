@@ -2,8 +2,8 @@
 --     conducts s k      a part of kind k conducts in state s
 -- A contact has no state of its own: it follows its relay (document 002).
 use mathlib.Core.Bool.{Bool, true, not}
-use Rattle.board.specs.declared.Kind.{Kind}
-use Rattle.board.specs.declared.Kind.the-variants.{Wire, Upper, Lower, Button, Regular, Drawing, Dropping}
+use Rattle.kinds.specs.declared.Kind.{Kind}
+use Rattle.kinds.specs.declared.Kind.the-variants.{Wire, Upper, Lower, Button, Regular, Drawing, Dropping}
 use Rattle.state.specs.declared.State.{State}
 use Rattle.state.specs.States.{isDrawn, isPushed}
 

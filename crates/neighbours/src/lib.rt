@@ -3,10 +3,10 @@ ghost use mathlib.Core.Path.{_≡_};
 ghost use Rattle.neighbours.specs.Conduction.{conducts};
 ghost use Rattle.neighbours.specs.Neighbours.{joining, bridged, neighbours};
 use board::Board;
-use board::Kind;
 use board::MOST_PARTS;
 use board::MOST_TERMINALS;
 use board::Part;
+use kinds::Kind;
 use state::State;
 
 // Whether a part of this kind conducts: a line for each line of the rule book's table. A contact follows its relay.

@@ -12,12 +12,13 @@ use Rattle.bits.proofs.BoolLaws.{both-true, by-test}
 use Rattle.number.specs.Outcomes.{given, refused}
 use Rattle.number.specs.Refusals.{noSuchWinding}
 use Rattle.number.proofs.OutcomeLaws.{refused-never, given-same}
-use Rattle.board.specs.declared.Kind.{Kind}
-use Rattle.board.specs.declared.Kind.the-variants.{Wire, Upper, Lower, Button, Regular, Drawing, Dropping}
+use Rattle.kinds.specs.declared.Kind.{Kind}
+use Rattle.kinds.specs.declared.Kind.the-variants.{Wire, Upper, Lower, Button, Regular, Drawing, Dropping}
+use Rattle.kinds.specs.Kinds.{kindNumber, nameOf}
 use Rattle.board.specs.declared.Part.{Part}
 use Rattle.board.specs.declared.Counts.{Counts}
 use Rattle.board.specs.declared.Board.{Board}
-use Rattle.board.specs.Parts.{kindNumber, nameOf, partsOf}
+use Rattle.board.specs.Parts.{partsOf}
 use Rattle.board.specs.Rules.{nameFine, partFits, boardFine}
 use Rattle.board.specs.Sorts.{carries, windingsOf, isRegular, isSteel, partsFit}
 use Rattle.board.proofs.WindingLaws.{part-named}

@@ -9,8 +9,8 @@ use mathlib.Core.List.{List, [], _∷_}
 use mathlib.Core.Option.{none, some}
 use lib.ListN.{length}
 use Rattle.lists.specs.Members.{All}
-use Rattle.board.specs.declared.Kind.{Kind}
-use Rattle.board.specs.declared.Kind.the-variants.{Wire, Button, Regular, Drawing, Dropping}
+use Rattle.kinds.specs.declared.Kind.{Kind}
+use Rattle.kinds.specs.declared.Kind.the-variants.{Wire, Button, Regular, Drawing, Dropping}
 use Rattle.board.specs.declared.Part.{Part}
 use Rattle.board.specs.declared.Board.{Board}
 use Rattle.board.specs.Parts.{padded}

@@ -1,7 +1,7 @@
 -- `board_reader::parts::kind_of` meets its contract: each arm's number picks the same case of `kindOf`.
 use Rattle.board_reader.proofs.parts.kind_of.Statement.{statement}
 use Rattle.board_reader.proofs.parts.kind_of.Tie as tie
-use Rattle.board.specs.Parts.{kindOf}
+use Rattle.kinds.specs.Kinds.{kindOf}
 use borrow.Author.Tests.{ne-eqb}
 
 returns : tie.Need-returns

@@ -4,7 +4,7 @@ use Rattle.board_writer.proofs.bytes.write_part.Statement.{statement}
 use Rattle.board_writer.proofs.bytes.write_part.Tie as tie
 use mathlib.Core.Path.{sym, _∙_}
 use native.Mathlib.Omega.{arith}
-use Rattle.board.proofs.KindLaws.{kind-number-most}
+use Rattle.kinds.proofs.KindLaws.{kind-number-most}
 use Rattle.board_writer.proofs.PieceLaws.{number-room, number-put, numbers-done}
 use Rattle.board_writer.proofs.WriteLaws.{part-to-come, wire-to-come, name-to-come}
 

@@ -2,9 +2,9 @@
 use Prim.Native.Nat.{ℕ, zero, suc, _≤_}
 use native.Mathlib.Omega.{arith}
 use mathlib.Core.Path.{_≡_, refl}
-use Rattle.board.specs.declared.Kind.{Kind}
-use Rattle.board.specs.declared.Kind.the-variants.{Wire, Upper, Lower, Button, Regular, Drawing, Dropping}
-use Rattle.board.specs.Parts.{kindNumber, nameOf, kindOf}
+use Rattle.kinds.specs.declared.Kind.{Kind}
+use Rattle.kinds.specs.declared.Kind.the-variants.{Wire, Upper, Lower, Button, Regular, Drawing, Dropping}
+use Rattle.kinds.specs.Kinds.{kindNumber, nameOf, kindOf}
 
 pub kind-of-parts : (k : Kind) → kindOf (kindNumber k) (nameOf k) ≡ k
 unfolding kindOf

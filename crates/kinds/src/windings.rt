@@ -3,7 +3,7 @@ use crate::Kind;
 ghost use mathlib.Core.Path.{_≡_};
 ghost use mathlib.Core.Bool.{not, _&&_};
 ghost use Rattle.bits.specs.Sets.{member};
-ghost use Rattle.board.specs.Windings.{noWindings, windingFree, gained, wound, complete};
+ghost use Rattle.kinds.specs.Windings.{noWindings, windingFree, gained, wound, complete};
 
 // The relays that have a part of kind 4, of kind 5 and of kind 6.
 pub struct Windings {

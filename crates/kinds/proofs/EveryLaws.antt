@@ -1,4 +1,4 @@
--- Laws of `every`, a test of each number below a limit: what the loop of `Windings::complete` and the laws of windings need.
+-- Laws of `every`, a test of each number below a limit: what the loop of `Windings::complete` and the laws of windings in `board` need.
 use Prim.Native.Nat.{ℕ, zero, suc, _+_, _<_}
 use native.Mathlib.Nat.{eq-or-lt-of-le}
 use native.Mathlib.Numerals.{add-one}
@@ -6,7 +6,7 @@ use native.Mathlib.Omega.{arith}
 use mathlib.Core.Path.{_≡_, refl, ap, _∙_}
 use mathlib.Core.Bool.{Bool, true, false, and-false}
 use mathlib.Core.Logic.{⊎-elim}
-use Rattle.board.specs.Windings.{every}
+use Rattle.kinds.specs.Windings.{every}
 use Rattle.bits.proofs.BoolLaws.{both-true, true-both}
 
 pub every-none : (f : ℕ → Bool) → every 0 f ≡ true
