@@ -1,6 +1,9 @@
 // Cases that are boards handed in. The bytes are T, R, B, C (low byte, high byte), then kind, a, b and name of each
 // part; bytes that are not given are 0, so that places without a part are blank wires.
+use crate::lent::UNTOUCHED;
+use crate::moved;
 use crate::print;
+use crate::ran;
 use board::Board;
 use board::Counts;
 use board::Part;
@@ -89,10 +92,21 @@ fn press(board: Board) {
     print::press(b" beyond ", state::push(board, beyond, 0));
 }
 
-// Writes a board handed in, and pushes and releases its buttons.
+// Moves relay 0 of a board handed in and runs the board, with no allowance, and prints what came of each.
+fn move_and_run(board: Board) {
+    let mut log = [UNTOUCHED; 4];
+    let fresh = State::fresh();
+    print::words(b" ");
+    moved::print_moved(moves::move_relay(board, fresh, 0, 0));
+    print::words(b" ");
+    ran::run_with(board, fresh, 0, &mut log);
+}
+
+// Writes a board handed in, pushes and releases its buttons, moves its relay 0 and runs it.
 pub fn answer(bytes: &[u8]) {
     let board = board_of(bytes);
     write(board);
     press(board);
+    move_and_run(board);
     print::words(b"\n");
 }

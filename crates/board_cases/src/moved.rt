@@ -28,7 +28,7 @@ fn is_bare(answer: Answer) -> bool {
 }
 
 // Prints what a move came to, and the state that it left.
-fn print_moved(moved: Moved) {
+pub fn print_moved(moved: Moved) {
     print::words(b"moved ");
     let answer = moved.answer;
     match answer {

@@ -74,7 +74,7 @@ fn print_ran(ran: Ran, log: &[u8]) {
 }
 
 // Runs a board with a lent log, and prints what came of it.
-fn run_with(board: Board, state: State, allowance: u32, log: &mut [u8]) {
+pub fn run_with(board: Board, state: State, allowance: u32, log: &mut [u8]) {
     let ran = runs::run(board, state, allowance, log);
     print_ran(ran, log);
 }
