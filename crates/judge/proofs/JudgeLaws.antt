@@ -1,17 +1,17 @@
 -- Laws of judging as a call, one for each way out of `judge`: refused by 15, 14 or 11, in that order, or judged.
 use Prim.Native.Nat.{ℕ}
 use mathlib.Core.Path.{_≡_, refl, sym, ap, _∙_}
-use mathlib.Core.Bool.{true, false}
+use mathlib.Core.Bool.{true}
 use mathlib.Core.List.{List}
 use Rattle.number.specs.Outcomes.{Outcome, given, refused}
-use Rattle.number.specs.Refusals.{stateBeyondBoard, brokenBoard}
-use Rattle.number.proofs.OutcomeLaws.{passed}
+use Rattle.number.proofs.OutcomeLaws.{both-given}
 use Rattle.board.specs.declared.Board.{Board}
 use Rattle.board.specs.Parts.{partsOf}
 use Rattle.board.specs.Rules.{boardFine}
 use Rattle.board.proofs.FineLaws.{fine-range}
 use Rattle.state.specs.declared.State.{State}
-use Rattle.state.specs.States.{stateFine}
+use Rattle.state.specs.States.{stateFine, usable}
+use Rattle.state.proofs.StateLaws.{usable-fine, usable-given}
 use Rattle.neighbours.specs.Neighbours.{neighbours}
 use Rattle.search.specs.declared.Winding.{Winding}
 use Rattle.search.specs.Verdicts.{judged}
@@ -21,25 +21,20 @@ use Rattle.judge.specs.RelayWindings.{windingOf}
 use Rattle.judge.specs.Judging.{judgeable, verdictOn, judging}
 
 module _ (b : Board) (s : State) (r : ℕ) (n : Which) where
-  pub judgeable-broken : boardFine b ≡ false → judgeable b s r n ≡ refused brokenBoard 0
+  pub judgeable-unusable : (k p : ℕ) → usable b s ≡ refused k p → judgeable b s r n ≡ refused k p
   unfolding judgeable
-  judgeable-broken off = rw off refl
-
-  pub judgeable-beyond : boardFine b ≡ true → stateFine (b .counts) s ≡ false → judgeable b s r n ≡ refused stateBeyondBoard 0
-  unfolding judgeable
-  judgeable-beyond fine off = rw (fine, off) refl
+  judgeable-unusable k p unusable = rw unusable refl
 
   pub judgeable-sought : boardFine b ≡ true → stateFine (b .counts) s ≡ true → judgeable b s r n ≡ windingOf n r (partsOf b)
   unfolding judgeable
-  judgeable-sought fine fits = rw (fine, fits) refl
+  judgeable-sought fine fits = rw (usable-fine b s fine fits) refl
 
   -- where a winding is judged, the board breaks no rule and the winding is the relay's
   pub judgeable-given : (e : Winding) → judgeable b s r n ≡ given e → (boardFine b ≡ true) × (windingOf n r (partsOf b) ≡ given e)
   unfolding judgeable
   judgeable-given e taken =
-      let board = passed (boardFine b) brokenBoard 0 _ e taken in
-      let state = passed (stateFine (b .counts) s) stateBeyondBoard 0 _ e (board .1) in
-      (board .0, state .1)
+      let both = both-given (usable b s) (windingOf n r (partsOf b)) e taken in
+      (usable-given b s (both .0) .0, both .1)
 
   -- the call's verdict goes by what is judged
   pub judging-by : (w : ℕ) (o : Outcome Winding) → judgeable b s r n ≡ o → verdictOn b s w o ≡ judging b s r n w

@@ -3,13 +3,11 @@
 --     verdictOn b s w o      the verdict on it within the allowance w, or the refusal
 --     judging b s r n w      the call
 use Prim.Native.Nat.{ℕ}
-use Rattle.number.specs.Outcomes.{Outcome, given, refused, _>>=_, _>>_, unless}
-use Rattle.number.specs.Refusals.{stateBeyondBoard, brokenBoard}
+use Rattle.number.specs.Outcomes.{Outcome, given, refused, _>>=_, _>>_}
 use Rattle.board.specs.declared.Board.{Board}
 use Rattle.board.specs.Parts.{partsOf}
-use Rattle.board.specs.Rules.{boardFine}
 use Rattle.state.specs.declared.State.{State}
-use Rattle.state.specs.States.{stateFine}
+use Rattle.state.specs.States.{usable}
 use Rattle.neighbours.specs.Neighbours.{neighbours}
 use Rattle.search.specs.declared.Winding.{Winding}
 use Rattle.search.specs.Verdicts.{Judgement, judgement, unanswered}
@@ -18,8 +16,7 @@ use Rattle.judge.specs.RelayWindings.{windingOf}
 
 unfoldable pub judgeable : Board → State → ℕ → Which → Outcome Winding
 judgeable b s r n = do
-  unless (boardFine b) brokenBoard 0
-  unless (stateFine (b .counts) s) stateBeyondBoard 0
+  usable b s
   windingOf n r (partsOf b)
 
 abbrev pub verdictOn : Board → State → ℕ → Outcome Winding → Judgement

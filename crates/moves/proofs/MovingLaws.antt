@@ -1,16 +1,17 @@
 -- Laws of the single move as a call, one for each way out of `move_relay`: refused by 15, 14 or 11, in that order, or moved; and that an answer is known by what it tells.
 use Prim.Native.Nat.{ℕ, _≤_, _<_}
 use mathlib.Core.Path.{_≡_, refl, ap}
-use mathlib.Core.Bool.{Bool, true, false}
+use mathlib.Core.Bool.{true}
 use lib.Dec.{ltb}
 use borrow.Author.Tests.{lt-ltb, le-ltb, ltb-true}
-use Rattle.number.specs.Outcomes.{given, refused, unless}
-use Rattle.number.specs.Refusals.{noSuchWinding, stateBeyondBoard, brokenBoard}
-use Rattle.number.proofs.OutcomeLaws.{refused-never, refusal-equal, passed}
+use Rattle.number.specs.Outcomes.{given, refused}
+use Rattle.number.specs.Refusals.{noSuchWinding}
+use Rattle.number.proofs.OutcomeLaws.{refusal-equal, both-given, asked}
 use Rattle.board.specs.declared.Board.{Board}
 use Rattle.board.specs.Rules.{boardFine}
 use Rattle.state.specs.declared.State.{State}
-use Rattle.state.specs.States.{stateFine}
+use Rattle.state.specs.States.{stateFine, usable}
+use Rattle.state.proofs.StateLaws.{usable-given}
 use Rattle.moves.specs.declared.Motion.{Motion}
 use Rattle.moves.specs.declared.Motion.the-variants.{Drew, Dropped, Rests, Undecided, Conflict}
 use Rattle.moves.specs.declared.Answer.{Answer}
@@ -19,35 +20,26 @@ use Rattle.moves.specs.declared.Moved.{Moved}
 use Rattle.moves.specs.Steps.{Move, stepOf, made, toldMotion}
 use Rattle.moves.specs.Moving.{movable, moving, toldAnswer, toldMoved}
 
--- the last test of a row
-asked : (t : Bool) (n : ℕ) → unless t n 0 ≡ given tt → t ≡ true
-asked true n e = refl
-asked false n e = absurd (refused-never n 0 tt e)
-
 module _ (b : Board) (s : State) (r : ℕ) where
-  pub movable-broken : boardFine b ≡ false → movable b s r ≡ refused brokenBoard 0
+  pub movable-unusable : (k p : ℕ) → usable b s ≡ refused k p → movable b s r ≡ refused k p
   unfolding movable
-  movable-broken off = rw off refl
+  movable-unusable k p unusable = rw unusable refl
 
-  pub movable-beyond : boardFine b ≡ true → stateFine (b .counts) s ≡ false → movable b s r ≡ refused stateBeyondBoard 0
+  pub movable-lacking : usable b s ≡ given tt → b .counts .relays ≤ r → movable b s r ≡ refused noSuchWinding 0
   unfolding movable
-  movable-beyond fine off = rw (fine, off) refl
+  movable-lacking fine past = rw (fine, le-ltb r (b .counts .relays) past) refl
 
-  pub movable-lacking : boardFine b ≡ true → stateFine (b .counts) s ≡ true → b .counts .relays ≤ r → movable b s r ≡ refused noSuchWinding 0
+  pub movable-relay : usable b s ≡ given tt → r < b .counts .relays → movable b s r ≡ given tt
   unfolding movable
-  movable-lacking fine fits past = rw (fine, fits, le-ltb r (b .counts .relays) past) refl
-
-  pub movable-relay : boardFine b ≡ true → stateFine (b .counts) s ≡ true → r < b .counts .relays → movable b s r ≡ given tt
-  unfolding movable
-  movable-relay fine fits below = rw (fine, fits, lt-ltb r (b .counts .relays) below) refl
+  movable-relay fine below = rw (fine, lt-ltb r (b .counts .relays) below) refl
 
   -- where a relay is moved, the board breaks no rule, the state fits it and the relay is there
   pub movable-given : movable b s r ≡ given tt → (boardFine b ≡ true) × (stateFine (b .counts) s ≡ true) × (r < b .counts .relays)
   unfolding movable
   movable-given taken =
-      let board = passed (boardFine b) brokenBoard 0 _ tt taken in
-      let state = passed (stateFine (b .counts) s) stateBeyondBoard 0 _ tt (board .1) in
-      (board .0, state .0, ltb-true r (b .counts .relays) (asked (ltb r (b .counts .relays)) noSuchWinding (state .1)))
+      let both = both-given (usable b s) _ tt taken in
+      let fine = usable-given b s (both .0) in
+      (fine .0, fine .1, ltb-true r (b .counts .relays) (asked (ltb r (b .counts .relays)) noSuchWinding 0 (both .1)))
 
   pub moving-refused : (w k p : ℕ) → movable b s r ≡ refused k p → (s, refused k p) ≡ moving b s r w
   unfolding moving

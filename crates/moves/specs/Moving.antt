@@ -6,11 +6,10 @@
 use Prim.Native.Nat.{ℕ}
 use lib.Dec.{ltb}
 use Rattle.number.specs.Outcomes.{Outcome, given, refused, _>>=_, _>>_, unless}
-use Rattle.number.specs.Refusals.{noSuchWinding, stateBeyondBoard, brokenBoard}
+use Rattle.number.specs.Refusals.{noSuchWinding}
 use Rattle.board.specs.declared.Board.{Board}
-use Rattle.board.specs.Rules.{boardFine}
 use Rattle.state.specs.declared.State.{State}
-use Rattle.state.specs.States.{stateFine}
+use Rattle.state.specs.States.{usable}
 use Rattle.moves.specs.declared.Answer.{Answer}
 use Rattle.moves.specs.declared.Answer.the-variants.{Says, Refused}
 use Rattle.moves.specs.declared.Moved.{Moved}
@@ -18,8 +17,7 @@ use Rattle.moves.specs.Steps.{Move, stepOf, made, toldMotion}
 
 unfoldable pub movable : Board → State → ℕ → Outcome (Unit {0})
 movable b s r = do
-  unless (boardFine b) brokenBoard 0
-  unless (stateFine (b .counts) s) stateBeyondBoard 0
+  usable b s
   unless (ltb r (b .counts .relays)) noSuchWinding 0
 
 abbrev pub left : State → ℕ → Outcome Move → State × Outcome Move

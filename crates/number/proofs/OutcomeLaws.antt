@@ -28,3 +28,12 @@ handed (refused k p) f b h = absurd (refused-never k p b h)
 pub passed : {B : Type 0} (t : Bool) (n p : ℕ) (o : Outcome B) (b : B) → (unless t n p >> o) ≡ given b → (t ≡ true) × (o ≡ given b)
 passed true n p o b h = (refl, h)
 passed false n p o b h = absurd (refused-never n p b h)
+
+pub both-given : {B : Type 0} (o : Outcome (Unit {0})) (q : Outcome B) (b : B) → (o >> q) ≡ given b → (o ≡ given tt) × (q ≡ given b)
+both-given (given u) q b h = (refl, h)
+both-given (refused n p) q b h = absurd (refused-never n p b h)
+
+-- the last test of a row
+pub asked : (t : Bool) (n p : ℕ) → unless t n p ≡ given tt → t ≡ true
+asked true n p h = refl
+asked false n p h = absurd (refused-never n p tt h)

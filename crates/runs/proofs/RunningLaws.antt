@@ -1,45 +1,40 @@
 -- Laws of a run as a call, one for each way out of `run`: refused by 15, 14 or 13, in that order, or run; and that an answer is known by what it tells.
 use Prim.Native.Nat.{ℕ, _≤_, _<_}
 use mathlib.Core.Path.{_≡_, refl, sym, ap}
-use mathlib.Core.Bool.{true, false}
+use mathlib.Core.Bool.{true}
 use mathlib.Core.List.{List, []}
 use lib.ListN.{length}
 use borrow.Author.Tests.{le-leb, lt-leb}
 use Rattle.number.specs.Outcomes.{Outcome, given, refused}
-use Rattle.number.specs.Refusals.{logTooLong, stateBeyondBoard, brokenBoard}
-use Rattle.number.proofs.OutcomeLaws.{refusal-equal, passed}
+use Rattle.number.specs.Refusals.{logTooLong}
+use Rattle.number.proofs.OutcomeLaws.{refusal-equal, both-given}
 use Rattle.board.specs.declared.Board.{Board}
 use Rattle.board.specs.Rules.{boardFine}
 use Rattle.state.specs.declared.State.{State}
-use Rattle.state.specs.States.{stateFine}
+use Rattle.state.specs.States.{stateFine, usable}
+use Rattle.state.proofs.StateLaws.{usable-given}
 use Rattle.runs.specs.declared.Word.{Word}
 use Rattle.runs.specs.declared.Word.the-variants.{Idle, Spent, Undecided, Conflict, Refused}
 use Rattle.runs.specs.declared.Ran.{Ran}
 use Rattle.runs.specs.Running.{longestLog, runnable, unrun, ranOn, running, toldWord, toldRan}
 
 module _ (b : Board) (s : State) (log : List ℕ) where
-  pub runnable-broken : boardFine b ≡ false → runnable b s log ≡ refused brokenBoard 0
+  pub runnable-unusable : (k p : ℕ) → usable b s ≡ refused k p → runnable b s log ≡ refused k p
   unfolding runnable
-  runnable-broken off = rw off refl
+  runnable-unusable k p unusable = rw unusable refl
 
-  pub runnable-beyond : boardFine b ≡ true → stateFine (b .counts) s ≡ false → runnable b s log ≡ refused stateBeyondBoard 0
+  pub runnable-long : usable b s ≡ given tt → longestLog < length log → runnable b s log ≡ refused logTooLong 0
   unfolding runnable
-  runnable-beyond fine off = rw (fine, off) refl
+  runnable-long fine long = rw (fine, lt-leb (length log) longestLog long) refl
 
-  pub runnable-long : boardFine b ≡ true → stateFine (b .counts) s ≡ true → longestLog < length log → runnable b s log ≡ refused logTooLong 0
+  pub runnable-log : usable b s ≡ given tt → length log ≤ longestLog → runnable b s log ≡ given tt
   unfolding runnable
-  runnable-long fine fits long = rw (fine, fits, lt-leb (length log) longestLog long) refl
-
-  pub runnable-log : boardFine b ≡ true → stateFine (b .counts) s ≡ true → length log ≤ longestLog → runnable b s log ≡ given tt
-  unfolding runnable
-  runnable-log fine fits most = rw (fine, fits, le-leb (length log) longestLog most) refl
+  runnable-log fine most = rw (fine, le-leb (length log) longestLog most) refl
 
   -- where a board is run, it breaks no rule and the state fits it
   pub runnable-given : runnable b s log ≡ given tt → (boardFine b ≡ true) × (stateFine (b .counts) s ≡ true)
   unfolding runnable
-  runnable-given taken =
-      let board = passed (boardFine b) brokenBoard 0 _ tt taken in
-      (board .0, passed (stateFine (b .counts) s) stateBeyondBoard 0 _ tt (board .1) .0)
+  runnable-given taken = usable-given b s (both-given (usable b s) _ tt taken .0)
 
   -- what the call tells goes by what stands against it
   pub running-by : (w : ℕ) (o : Outcome (Unit {0})) → runnable b s log ≡ o → ranOn b s w log o ≡ running b s w log

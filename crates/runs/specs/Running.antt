@@ -13,11 +13,10 @@ use mathlib.Core.List.{List, _++_}
 use lib.Dec.{leb}
 use lib.ListN.{length, drop}
 use Rattle.number.specs.Outcomes.{Outcome, given, refused, _>>=_, _>>_, unless}
-use Rattle.number.specs.Refusals.{logTooLong, stateBeyondBoard, brokenBoard}
+use Rattle.number.specs.Refusals.{logTooLong}
 use Rattle.board.specs.declared.Board.{Board}
-use Rattle.board.specs.Rules.{boardFine}
 use Rattle.state.specs.declared.State.{State}
-use Rattle.state.specs.States.{stateFine}
+use Rattle.state.specs.States.{usable}
 use Rattle.moves.specs.Steps.{stepOf}
 use Rattle.runs.specs.declared.Word.{Word}
 use Rattle.runs.specs.declared.Word.the-variants as said
@@ -30,8 +29,7 @@ longestLog = 65536
 
 unfoldable pub runnable : Board → State → List ℕ → Outcome (Unit {0})
 runnable b s log = do
-  unless (boardFine b) brokenBoard 0
-  unless (stateFine (b .counts) s) stateBeyondBoard 0
+  usable b s
   unless (leb (length log) longestLog) logTooLong 0
 
 pub record Told : Type 0 where

@@ -9,7 +9,7 @@ use borrow.Author.Tests.{ltb-true, lt-ltb, le-ltb}
 use Rattle.bits.specs.Sets.{including, excluding, within}
 use Rattle.bits.proofs.SetLaws.{member-including-same, member-including-other, member-excluding-same, member-excluding-other, member-none, members-same, within-member, member-within, including-below, excluding-below}
 use Rattle.number.specs.declared.Refusal.{Refusal}
-use Rattle.number.proofs.OutcomeLaws.{refusal-equal}
+use Rattle.number.proofs.OutcomeLaws.{refusal-equal, passed, asked}
 use Rattle.number.specs.Outcomes.{Outcome, given, refused, unless, _>>_}
 use Rattle.number.specs.Refusals.{noSuchName, alreadySo, stateBeyondBoard, brokenBoard}
 use Rattle.board.specs.declared.Counts.{Counts}
@@ -20,7 +20,7 @@ use Rattle.state.specs.declared.State.{State}
 use Rattle.state.specs.declared.Press.{Press}
 use Rattle.state.specs.declared.Press.the-variants.{Done, Refused}
 use Rattle.state.specs.declared.Pressed.{Pressed}
-use Rattle.state.specs.States.{freshState, isDrawn, isPushed, withDrawn, withDropped, withPushed, withReleased, stateFine}
+use Rattle.state.specs.States.{freshState, isDrawn, isPushed, withDrawn, withDropped, withPushed, withReleased, stateFine, usable}
 use Rattle.state.specs.Presses.{pressable, left, pushing, releasing, toldPress, toldPressed}
 
 -- ---- a method changes its own relay or button and nothing else
@@ -132,24 +132,50 @@ module _ (c : Counts) (s : State) (n : ℕ) (fine : stateFine c s ≡ true) wher
   pub state-fits-release : stateFine c (withReleased s n) ≡ true
   state-fits-release = within-both c (withReleased s n) (both-within c s fine .0) (within-excluding (s .pushed) (c .buttons) n (both-within c s fine .1))
 
+-- ---- a board and a state that a call can use
+
+module _ (b : Board) (s : State) where
+  pub usable-broken : boardFine b ≡ false → usable b s ≡ refused brokenBoard 0
+  unfolding usable
+  usable-broken off = rw off refl
+
+  pub usable-beyond : boardFine b ≡ true → stateFine (b .counts) s ≡ false → usable b s ≡ refused stateBeyondBoard 0
+  unfolding usable
+  usable-beyond fine off = rw (fine, off) refl
+
+  pub usable-fine : boardFine b ≡ true → stateFine (b .counts) s ≡ true → usable b s ≡ given tt
+  unfolding usable
+  usable-fine fine fits = rw (fine, fits) refl
+
+  pub usable-given : usable b s ≡ given tt → (boardFine b ≡ true) × (stateFine (b .counts) s ≡ true)
+  unfolding usable
+  usable-given taken =
+      let board = passed (boardFine b) brokenBoard 0 _ tt taken in
+      (board .0, asked (stateFine (b .counts) s) stateBeyondBoard 0 (board .1))
+
 -- ---- a refused call gives back the state it was given, at place 0
 
 unless-place : (fine : Bool) (k m p : ℕ) → unless fine k 0 ≡ refused m p → p ≡ 0
 unless-place true k m p e = cc
 unless-place false k m p e = cc
 
--- what follows a test is asked only where the test holds
-then-place : (fine : Bool) (k m p : ℕ) (o : Outcome (Unit {0})) → (o ≡ refused m p → p ≡ 0) → (unless fine k 0 >> o) ≡ refused m p → p ≡ 0
-then-place true k m p o rest e = rest e
-then-place false k m p o rest e = cc
+-- of two rows of tests the second is asked only where the first holds
+row-place : (o q : Outcome (Unit {0})) (m p : ℕ) → (o ≡ refused m p → p ≡ 0) → (q ≡ refused m p → p ≡ 0) → (o >> q) ≡ refused m p → p ≡ 0
+row-place (given u) q m p first rest e = rest e
+row-place (refused k j) q m p first rest e = first e
+
+usable-place : (b : Board) (s : State) (m p : ℕ) → usable b s ≡ refused m p → p ≡ 0
+unfolding usable
+usable-place b s m p = row-place (unless (boardFine b) brokenBoard 0) _ m p (unless-place (boardFine b) brokenBoard m p) (unless-place (stateFine (b .counts) s) stateBeyondBoard m p)
 
 pressable-place : (b : Board) (s : State) (n : ℕ) (already : Bool) (m p : ℕ) → pressable b s n already ≡ refused m p → p ≡ 0
 unfolding pressable
 pressable-place b s n already m p =
-    then-place (boardFine b) brokenBoard m p _
-    (then-place (stateFine (b .counts) s) stateBeyondBoard m p _
-    (then-place (ltb n (b .counts .buttons)) noSuchName m p _
-    (unless-place (not already) alreadySo m p)))
+    row-place (usable b s) _ m p
+    (usable-place b s m p)
+    (row-place (unless (ltb n (b .counts .buttons)) noSuchName 0) _ m p
+    (unless-place (ltb n (b .counts .buttons)) noSuchName m p)
+    (unless-place (not already) alreadySo m p))
 
 left-refused : (s t u : State) (o : Outcome (Unit {0})) (m p : ℕ) → (o ≡ refused m p → p ≡ 0) → left s t o ≡ (u, refused m p) → (u ≡ s) × (p ≡ 0)
 unfolding left
@@ -190,25 +216,21 @@ module _ (c : Counts) (s : State) (r : ℕ) (relays : r ≡ c .relays) where
   state-fits-last b buttons on = simp (← relays, ← buttons, on)
 
 module _ (b : Board) (s : State) (n : ℕ) (already : Bool) where
-  pub press-broken-board : boardFine b ≡ false → refused brokenBoard 0 ≡ pressable b s n already
+  pub press-unusable : (k p : ℕ) → usable b s ≡ refused k p → refused k p ≡ pressable b s n already
   unfolding pressable
-  press-broken-board board = simp board
+  press-unusable k p unusable = rw unusable refl
 
-  pub press-state-beyond : boardFine b ≡ true → stateFine (b .counts) s ≡ false → refused stateBeyondBoard 0 ≡ pressable b s n already
+  pub press-no-such-name : usable b s ≡ given tt → b .counts .buttons ≤ n → refused noSuchName 0 ≡ pressable b s n already
   unfolding pressable
-  press-state-beyond board state = simp (board, state)
+  press-no-such-name fine beyond = simp (fine, le-ltb n (b .counts .buttons) beyond)
 
-  pub press-no-such-name : boardFine b ≡ true → stateFine (b .counts) s ≡ true → b .counts .buttons ≤ n → refused noSuchName 0 ≡ pressable b s n already
+  pub press-already-so : usable b s ≡ given tt → n < b .counts .buttons → already ≡ true → refused alreadySo 0 ≡ pressable b s n already
   unfolding pressable
-  press-no-such-name board state beyond = simp (board, state, le-ltb n (b .counts .buttons) beyond)
+  press-already-so fine below so = simp (fine, lt-ltb n (b .counts .buttons) below, so)
 
-  pub press-already-so : boardFine b ≡ true → stateFine (b .counts) s ≡ true → n < b .counts .buttons → already ≡ true → refused alreadySo 0 ≡ pressable b s n already
+  pub press-done : usable b s ≡ given tt → n < b .counts .buttons → already ≡ false → given tt ≡ pressable b s n already
   unfolding pressable
-  press-already-so board state below so = simp (board, state, lt-ltb n (b .counts .buttons) below, so)
-
-  pub press-done : boardFine b ≡ true → stateFine (b .counts) s ≡ true → n < b .counts .buttons → already ≡ false → given tt ≡ pressable b s n already
-  unfolding pressable
-  press-done board state below so = simp (board, state, lt-ltb n (b .counts .buttons) below, so)
+  press-done fine below so = simp (fine, lt-ltb n (b .counts .buttons) below, so)
 
 -- an answer a with the state that it leaves: the state t if it is done, else the state s as given
 module _ (s t : State) (a : Press) where

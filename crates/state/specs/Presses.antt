@@ -7,19 +7,17 @@ use Prim.Native.Nat.{ℕ}
 use mathlib.Core.Bool.{Bool, not}
 use lib.Dec.{ltb}
 use Rattle.number.specs.Outcomes.{Outcome, given, refused, _>>=_, _>>_, unless}
-use Rattle.number.specs.Refusals.{noSuchName, alreadySo, stateBeyondBoard, brokenBoard}
+use Rattle.number.specs.Refusals.{noSuchName, alreadySo}
 use Rattle.board.specs.declared.Board.{Board}
-use Rattle.board.specs.Rules.{boardFine}
 use Rattle.state.specs.declared.State.{State}
 use Rattle.state.specs.declared.Press.{Press}
 use Rattle.state.specs.declared.Press.the-variants.{Done, Refused}
 use Rattle.state.specs.declared.Pressed.{Pressed}
-use Rattle.state.specs.States.{isPushed, withPushed, withReleased, stateFine}
+use Rattle.state.specs.States.{isPushed, withPushed, withReleased, usable}
 
 unfoldable pub pressable : Board → State → ℕ → Bool → Outcome (Unit {0})
 pressable b s n already = do
-  unless (boardFine b) brokenBoard 0
-  unless (stateFine (b .counts) s) stateBeyondBoard 0
+  usable b s
   unless (ltb n (b .counts .buttons)) noSuchName 0
   unless (not already) alreadySo 0
 

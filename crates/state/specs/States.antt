@@ -4,10 +4,15 @@
 --     withDrawn, withDropped s r         s with relay r drawn, dropped: "a move changes that relay and nothing else"
 --     withPushed, withReleased s b       s with button b pushed, released
 --     stateFine c s                      14 does not hold: every drawn relay is below R, every pushed button below B
+--     usable b s                         what every call on a board and a state asks first: refusals 15, 14
 use Prim.Native.Nat.{ℕ}
 use mathlib.Core.Bool.{Bool, _&&_}
 use Rattle.bits.specs.Sets.{member, including, excluding, within}
+use Rattle.number.specs.Outcomes.{Outcome, _>>=_, _>>_, unless}
+use Rattle.number.specs.Refusals.{stateBeyondBoard, brokenBoard}
 use Rattle.board.specs.declared.Counts.{Counts}
+use Rattle.board.specs.declared.Board.{Board}
+use Rattle.board.specs.Rules.{boardFine}
 use Rattle.state.specs.declared.State.{State}
 
 abbrev pub freshState : State
@@ -33,3 +38,8 @@ withReleased s b = record { drawn = s .drawn; pushed = excluding (s .pushed) b }
 
 unfoldable pub stateFine : Counts → State → Bool
 stateFine c s = within (s .drawn) (c .relays) && within (s .pushed) (c .buttons)
+
+unfoldable pub usable : Board → State → Outcome (Unit {0})
+usable b s = do
+  unless (boardFine b) brokenBoard 0
+  unless (stateFine (b .counts) s) stateBeyondBoard 0

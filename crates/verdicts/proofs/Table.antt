@@ -4,7 +4,7 @@ use Rattle.bits.specs.Sets.{member, including, within}
 use Rattle.kinds.specs.Windings.{every, complete}
 use Rattle.board.specs.Parts.{padded}
 use Rattle.board.specs.Rules.{inRange, countsFine, nameFine, partFits, partFine, partsFine, boardFine}
-use Rattle.state.specs.States.{stateFine}
+use Rattle.state.specs.States.{stateFine, usable}
 use Rattle.neighbours.specs.Neighbours.{gathered, neighbours}
 use Rattle.chains.specs.ChainList.{isIn, free, tries, beyond, chains, crosses, someCrosses, beside, shows}
 use Rattle.search.specs.Verdicts.{firstShown, effort, places, weighed, judgement}
@@ -13,5 +13,5 @@ use Rattle.judge.specs.Judging.{judgeable, judging}
 use Rattle.verdicts.specs.Tried.{TriedBoards}
 
 pub tried-boards : TriedBoards
-unfolding member including within padded inRange countsFine nameFine partFits partFine partsFine boardFine every complete stateFine gathered neighbours isIn free tries beyond chains crosses someCrosses beside shows firstShown effort places weighed judgement windingOf judgeable judging
+unfolding member including within padded inRange countsFine nameFine partFits partFine partsFine boardFine every complete stateFine usable gathered neighbours isIn free tries beyond chains crosses someCrosses beside shows firstShown effort places weighed judgement windingOf judgeable judging
 tried-boards = (refl, (refl, (refl, (refl, (refl, (refl, (refl, (refl, (refl, (refl, tt))))))))))

@@ -4,8 +4,9 @@ use Rattle.judge.proofs.judge.Statement.{statement}
 use Rattle.judge.proofs.judge.Tie as tie
 use mathlib.Core.Path.{sym, _∙_}
 use borrow.Author.Tests.{not-true, not-false}
+use Rattle.state.proofs.StateLaws.{usable-broken, usable-beyond}
 use Rattle.judge.proofs.SoughtLaws.{told-nowhere, told-between}
-use Rattle.judge.proofs.JudgeLaws.{judgeable-broken, judgeable-beyond, judgeable-sought, judging-by, judging-judged}
+use Rattle.judge.proofs.JudgeLaws.{judgeable-unusable, judgeable-sought, judging-by, judging-judged}
 
 check-requires : tie.Need-check-requires
 check-requires c κs = search needs
@@ -14,7 +15,7 @@ refuse-requires : tie.Need-refuse-requires
 refuse-requires c κs = search needs
 
 returns : tie.Need-returns
-returns c = c .refuse .ensures ∙ judging-by _ _ _ _ _ _ (judgeable-broken _ _ _ _ (sym (c .before .before .check .ensures) ∙ not-true _ (c .before .if1 .taken)))
+returns c = c .refuse .ensures ∙ judging-by _ _ _ _ _ _ (judgeable-unusable _ _ _ _ _ _ (usable-broken _ _ (sym (c .before .before .check .ensures) ∙ not-true _ (c .before .if1 .taken))))
 
 fits-requires : tie.Need-fits-requires
 fits-requires c κs = search needs
@@ -23,7 +24,7 @@ refuse-requires-2 : tie.Need-refuse-requires-2
 refuse-requires-2 c κs = search needs
 
 returns-2 : tie.Need-returns-2
-returns-2 c = c .refuse2 .ensures ∙ judging-by _ _ _ _ _ _ (judgeable-beyond _ _ _ _ (sym (c .before .before .before .before .before .check .ensures) ∙ not-false _ (c .before .before .before .before .if1 .left)) (sym (c .before .before .fits2 .ensures) ∙ not-true _ (c .before .if2 .taken)))
+returns-2 c = c .refuse2 .ensures ∙ judging-by _ _ _ _ _ _ (judgeable-unusable _ _ _ _ _ _ (usable-beyond _ _ (sym (c .before .before .before .before .before .check .ensures) ∙ not-false _ (c .before .before .before .before .if1 .left)) (sym (c .before .before .fits2 .ensures) ∙ not-true _ (c .before .if2 .taken))))
 
 winding-requires : tie.Need-winding-requires
 winding-requires c κs = search needs
