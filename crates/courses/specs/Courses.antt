@@ -18,14 +18,14 @@ use Rattle.moves.specs.Steps as step
 use Rattle.guards.specs.Guards.{CanDraw, CanDrop, Stable}
 use Rattle.guards.specs.SingleMoves.{Comes}
 use Rattle.runs.specs.declared.Ran.{Ran}
-use Rattle.runs.specs.Looks.{Ending, idle, spent, undecided, conflict}
+use Rattle.runs.specs.Looks.{drawMark, Ending, idle, spent, undecided, conflict}
 use Rattle.runs.specs.Runs.{noRelay}
 use Rattle.runs.specs.Running.{toldWord}
 use Rattle.longer_runs.specs.LongerRuns.{Runs, Accepted, movesOf}
 
 pub record LowestMove (b : Board) (s : State) (c : ℕ) (t : State) : Type 0 where
   pub relay : ℕ
-  pub guarded : ((c ≡ relay + 128) × (CanDraw b s relay × (t ≡ withDrawn s relay))) ⊎ ((c ≡ relay) × (CanDrop b s relay × (t ≡ withDropped s relay)))
+  pub guarded : ((c ≡ relay + drawMark) × (CanDraw b s relay × (t ≡ withDrawn s relay))) ⊎ ((c ≡ relay) × (CanDrop b s relay × (t ≡ withDropped s relay)))
   pub lowest : (q : ℕ) → q < relay → ¬ (CanDraw b s q) × ¬ (CanDrop b s q)
 
 unfoldable pub Follows : Board → State → List ℕ → State → Type 0

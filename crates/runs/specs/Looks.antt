@@ -2,6 +2,7 @@
 --     Stepper               what each relay comes to in each state. A run goes by this alone, whatever is below it
 --     Ending                the words that a run ends with
 --     Look                  what a look comes to: quiet, every relay rests; halts e r, relay r stops the run with the word e; moves m r, relay r makes the move m
+--     drawMark              128
 --     byteOf r m            "Each log byte is the relay number, plus 128 for a draw"
 --     decides m r next      relay r came to m; where it rests, the next relays decide
 --     lookFrom f s k r      the look at k relays from r up, in state s
@@ -20,8 +21,11 @@ pub data Look : Type 0 where
   halts : Ending → ℕ → Look
   moves : step.Move → ℕ → Look
 
+abbrev pub drawMark : ℕ
+drawMark = 128
+
 abbrev pub byteOf : ℕ → step.Move → ℕ
-byteOf r step.drew = r + 128
+byteOf r step.drew = r + drawMark
 byteOf r step.dropped = r
 byteOf r step.rests = r
 byteOf r step.undecided = r

@@ -2,8 +2,9 @@
 ghost use mathlib.Core.Path.{_≡_};
 ghost use Prim.Native.Nat.{_<_, _≤_};
 ghost use lib.ListN.{length};
+ghost use Rattle.board.specs.Rules.{mostRelays};
 ghost use Rattle.moves.specs.Steps.{toldMotion};
-ghost use Rattle.runs.specs.Looks.{byteOf};
+ghost use Rattle.runs.specs.Looks.{drawMark, byteOf};
 ghost use Rattle.runs.specs.Running.{runOn, ran, toldRan};
 use crate::NO_RELAY;
 use crate::Ran;
@@ -11,6 +12,9 @@ use crate::Word;
 use board::Board;
 use moves::Motion;
 use state::State;
+
+// What the log byte of a draw has besides the relay number.
+const DRAW_MARK: u8 = 128;
 
 // Why a run stopped: the word and the relay that stopped it.
 struct Stop {
@@ -20,11 +24,11 @@ struct Stop {
 
 // The log byte of a move: the relay number, plus 128 for a draw.
 fn byte(relay: u8, motion: Motion) -> u8
-    requires { ⌜ relay < 128 ⌝ }
+    requires { ⌜ relay < drawMark ⌝ }
     ensures { λ r. ⌜ r ≡ byteOf relay (toldMotion motion) ⌝ }
 {
     match motion {
-        Motion::Drew => relay + 128,
+        Motion::Drew => relay + DRAW_MARK,
         Motion::Dropped => relay,
         Motion::Rests => relay,
         Motion::Undecided => relay,
@@ -34,7 +38,7 @@ fn byte(relay: u8, motion: Motion) -> u8
 
 // Looks at the relays from 0 up and moves the first that can move, until none can or the run must stop.
 pub fn follow(board: Board, state: State, allowance: u32, log: &mut [u8]) -> Ran
-    requires { ⌜ board .counts .relays ≤ 32 ⌝ }
+    requires { ⌜ board .counts .relays ≤ mostRelays ⌝ }
     ensures { λ r. ⌜ toldRan r (now (log .exit)) ≡ ran (runOn board allowance (length (now (log .entry))) state) (now (log .entry)) ⌝ }
 {
     let relays = board.counts.relays;
