@@ -82,14 +82,14 @@ fn write(board: Board) {
 // Pushes and releases buttons of a board handed in, and prints what came of each.
 fn press(board: Board) {
     let fresh = State::fresh();
-    let pushed = state::push(board, fresh, 0);
+    let pushed = presses::push(board, fresh, 0);
     print::press(b" push ", pushed);
     let after = pushed.state;
-    print::press(b" again ", state::push(board, after, 0));
-    print::press(b" release ", state::release(board, fresh, 0));
-    print::press(b" absent ", state::push(board, fresh, ABSENT_BUTTON));
+    print::press(b" again ", presses::push(board, after, 0));
+    print::press(b" release ", presses::release(board, fresh, 0));
+    print::press(b" absent ", presses::push(board, fresh, ABSENT_BUTTON));
     let beyond = fresh.draw(ABSENT_RELAY);
-    print::press(b" beyond ", state::push(board, beyond, 0));
+    print::press(b" beyond ", presses::push(board, beyond, 0));
 }
 
 // Moves relay 0 of a board handed in and runs the board, with no allowance, and prints what came of each.

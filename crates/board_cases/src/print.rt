@@ -2,8 +2,8 @@
 use board_writer::Written;
 use libc::STDOUT_FILENO;
 use number::Refusal;
-use state::Press;
-use state::Pressed;
+use presses::Press;
+use presses::Pressed;
 use state::State;
 
 // Prints some words.

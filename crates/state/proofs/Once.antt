@@ -3,12 +3,8 @@ use Prim.Native.Nat.{ℕ}
 use mathlib.Core.Path.{_≡_, sym, _∙_}
 use mathlib.Core.Bool.{Bool}
 use Rattle.board.specs.declared.Counts.{Counts}
-use Rattle.board.specs.declared.Board.{Board}
 use Rattle.state.specs.declared.State.{State}
-use Rattle.state.specs.declared.Pressed.{Pressed}
 use Rattle.state.specs.States.{freshState, withDrawn, withDropped, withPushed, withReleased, stateFine}
-use Rattle.state.specs.Presses.{pushing, releasing, toldPressed}
-use Rattle.state.proofs.StateLaws.{told-pressed-once}
 
 pub state-fresh-once : (t u : State) → t ≡ freshState → u ≡ freshState → t ≡ u
 state-fresh-once t u e f = e ∙ sym f
@@ -27,9 +23,3 @@ state-release-once s button t u e f = e ∙ sym f
 
 pub state-fits-once : (s : State) (c : Counts) (p q : Bool) → p ≡ stateFine c s → q ≡ stateFine c s → p ≡ q
 state-fits-once s c p q e f = e ∙ sym f
-
-pub push-once : (b : Board) (s : State) (button : ℕ) (x y : Pressed) → toldPressed x ≡ pushing b s button → toldPressed y ≡ pushing b s button → x ≡ y
-push-once b s button x y e f = told-pressed-once x y (e ∙ sym f)
-
-pub release-once : (b : Board) (s : State) (button : ℕ) (x y : Pressed) → toldPressed x ≡ releasing b s button → toldPressed y ≡ releasing b s button → x ≡ y
-release-once b s button x y e f = told-pressed-once x y (e ∙ sym f)

@@ -1,33 +1,12 @@
-// The state of a board: which relays are drawn and which buttons are pushed, its methods, and the calls that push and
-// release a button.
+// The state of a board: which relays are drawn and which buttons are pushed, and its methods.
 ghost use mathlib.Core.Path.{_≡_};
-ghost use Rattle.number.specs.Outcomes.{refused};
 ghost use Rattle.state.specs.States.{freshState, withDrawn, withDropped, withPushed, withReleased, stateFine};
-ghost use Rattle.state.specs.Presses.{pushing, releasing, pressable, left, toldPress, toldPressed};
-use board::Board;
 use board::Counts;
-use number::ALREADY_SO;
-use number::BROKEN_BOARD;
-use number::NO_SUCH_NAME;
-use number::Refusal;
-use number::STATE_BEYOND_BOARD;
 
 // The drawn relays and the pushed buttons, each a set in a word.
 pub struct State {
     pub drawn: u64,
     pub pushed: u64,
-}
-
-// What came of a push or a release.
-pub enum Press {
-    Done,
-    Refused(Refusal),
-}
-
-// The answer to a push or a release, with the state it leaves.
-pub struct Pressed {
-    pub state: State,
-    pub answer: Press,
 }
 
 impl State {
@@ -95,63 +74,4 @@ impl State {
             false
         }
     }
-}
-
-// What stands against setting a button that is, or is not, so already: 15, 14, 7 or 12, or nothing.
-fn pressable(board: Board, state: State, button: u32, already: bool) -> Press
-    ensures { λ r. ⌜ toldPress r ≡ pressable board state button already ⌝ }
-{
-    if !board::check(board) {
-        return refuse(BROKEN_BOARD);
-    }
-    let counts = board.counts;
-    if !state.fits(counts) {
-        return refuse(STATE_BEYOND_BOARD);
-    }
-    if bits::wide(counts.buttons) <= button {
-        return refuse(NO_SUCH_NAME);
-    }
-    if already {
-        return refuse(ALREADY_SO);
-    }
-    Press::Done
-}
-
-// A refusal by number; a call's place is 0.
-fn refuse(number: u32) -> Press
-    ensures { λ r. ⌜ toldPress r ≡ refused number 0 ⌝ }
-{
-    Press::Refused(Refusal { number, place: 0 })
-}
-
-// The answer with the state that it leaves: the next where it is done, else the state as given.
-fn settle(state: State, next: State, answer: Press) -> Pressed
-    ensures { λ r. ⌜ toldPressed r ≡ left state next (toldPress answer) ⌝ }
-{
-    if let Press::Done = answer {
-        Pressed {
-            state: next,
-            answer,
-        }
-    } else {
-        Pressed { state, answer }
-    }
-}
-
-// Pushes a button.
-pub fn push(board: Board, state: State, button: u32) -> Pressed
-    ensures { λ r. ⌜ toldPressed r ≡ pushing board state button ⌝ }
-{
-    let answer = pressable(board, state, button, bits::has(state.pushed, button));
-    let next = state.push(button);
-    settle(state, next, answer)
-}
-
-// Releases a button.
-pub fn release(board: Board, state: State, button: u32) -> Pressed
-    ensures { λ r. ⌜ toldPressed r ≡ releasing board state button ⌝ }
-{
-    let answer = pressable(board, state, button, !bits::has(state.pushed, button));
-    let next = state.release(button);
-    settle(state, next, answer)
 }

@@ -1,11 +1,11 @@
--- `state::release` meets its contract: `settle` is given the answer of `pressable` and the state of `withReleased`.
+-- `presses::release` meets its contract: `settle` is given the answer of `pressable` and the state of `withReleased`.
 use borrow.Author.Needs.{needs}
-use Rattle.state.proofs.release.Statement.{statement}
-use Rattle.state.proofs.release.Tie as tie
+use Rattle.presses.proofs.release.Statement.{statement}
+use Rattle.presses.proofs.release.Tie as tie
 use mathlib.Core.Path.{ap, _∙_}
 use mathlib.Core.Bool.{not}
-use Rattle.state.specs.Presses.{releasing}
-use Rattle.state.proofs.StateLaws.{left-asked}
+use Rattle.presses.specs.Presses.{releasing}
+use Rattle.presses.proofs.PressLaws.{left-asked}
 
 has-requires : tie.Need-has-requires
 has-requires c κs = search needs

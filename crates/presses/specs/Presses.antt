@@ -9,11 +9,11 @@ use lib.Dec.{ltb}
 use Rattle.number.specs.Outcomes.{Outcome, given, refused, _>>=_, _>>_, unless}
 use Rattle.number.specs.Refusals.{noSuchName, alreadySo}
 use Rattle.board.specs.declared.Board.{Board}
 use Rattle.state.specs.declared.State.{State}
-use Rattle.state.specs.declared.Press.{Press}
-use Rattle.state.specs.declared.Press.the-variants.{Done, Refused}
-use Rattle.state.specs.declared.Pressed.{Pressed}
 use Rattle.state.specs.States.{isPushed, withPushed, withReleased, usable}
+use Rattle.presses.specs.declared.Press.{Press}
+use Rattle.presses.specs.declared.Press.the-variants.{Done, Refused}
+use Rattle.presses.specs.declared.Pressed.{Pressed}
 
 unfoldable pub pressable : Board → State → ℕ → Bool → Outcome (Unit {0})
 pressable b s n already = do

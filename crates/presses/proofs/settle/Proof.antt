@@ -1,8 +1,8 @@
--- `state::settle` meets its contract: done, the state is the next; refused, it is the state as given.
+-- `presses::settle` meets its contract: done, the state is the next; refused, it is the state as given.
 use borrow.Author.Needs.{needs}
-use Rattle.state.proofs.settle.Statement.{statement}
-use Rattle.state.proofs.settle.Tie as tie
-use Rattle.state.proofs.StateLaws.{settle-done, settle-refused}
+use Rattle.presses.proofs.settle.Statement.{statement}
+use Rattle.presses.proofs.settle.Tie as tie
+use Rattle.presses.proofs.PressLaws.{settle-done, settle-refused}
 
 enum-told : tie.Need-enum-told
 enum-told c = search needs

@@ -1,10 +1,10 @@
--- `state::push` meets its contract: `settle` is given the answer of `pressable` and the state of `withPushed`.
+-- `presses::push` meets its contract: `settle` is given the answer of `pressable` and the state of `withPushed`.
 use borrow.Author.Needs.{needs}
-use Rattle.state.proofs.push.Statement.{statement}
-use Rattle.state.proofs.push.Tie as tie
+use Rattle.presses.proofs.push.Statement.{statement}
+use Rattle.presses.proofs.push.Tie as tie
 use mathlib.Core.Path.{_∙_}
-use Rattle.state.specs.Presses.{pushing}
-use Rattle.state.proofs.StateLaws.{left-asked}
+use Rattle.presses.specs.Presses.{pushing}
+use Rattle.presses.proofs.PressLaws.{left-asked}
 
 has-requires : tie.Need-has-requires
 has-requires c κs = search needs

@@ -1,11 +1,12 @@
--- `state::pressable` meets its contract: its tests are those of the definition, in that order.
+-- `presses::pressable` meets its contract: its tests are those of the definition, in that order.
 use borrow.Author.Needs.{needs}
-use Rattle.state.proofs.pressable.Statement.{statement}
-use Rattle.state.proofs.pressable.Tie as tie
+use Rattle.presses.proofs.pressable.Statement.{statement}
+use Rattle.presses.proofs.pressable.Tie as tie
 use mathlib.Core.Path.{sym, _∙_}
 use native.Mathlib.Omega.{arith}
 use borrow.Author.Tests.{not-true, not-false}
-use Rattle.state.proofs.StateLaws.{usable-broken, usable-beyond, usable-fine, press-unusable, press-no-such-name, press-already-so, press-done}
+use Rattle.state.proofs.StateLaws.{usable-broken, usable-beyond, usable-fine}
+use Rattle.presses.proofs.PressLaws.{press-unusable, press-no-such-name, press-already-so, press-done}
 
 check-requires : tie.Need-check-requires
 check-requires c κs = search needs

@@ -1,0 +1,102 @@
+-- Laws of the calls that push and release a button: what a refused call gives back, that an answer is known by what it tells, and one law for each way out of `pressable`, `settle`, `push` and `release`. Assumes nothing.
+use Prim.Native.Nat.{ℕ, _≤_, _<_}
+use mathlib.Core.Path.{_≡_, refl, sym, ap}
+use mathlib.Core.Bool.{Bool, true, false, not}
+use lib.Dec.{ltb}
+use borrow.Author.Tests.{lt-ltb, le-ltb}
+use Rattle.number.specs.declared.Refusal.{Refusal}
+use Rattle.number.specs.Outcomes.{Outcome, given, refused, unless, _>>_}
+use Rattle.number.specs.Refusals.{noSuchName, alreadySo, stateBeyondBoard, brokenBoard}
+use Rattle.number.proofs.OutcomeLaws.{refusal-equal}
+use Rattle.board.specs.declared.Board.{Board}
+use Rattle.board.specs.Rules.{boardFine}
+use Rattle.state.specs.declared.State.{State}
+use Rattle.state.specs.States.{stateFine, usable}
+use Rattle.presses.specs.declared.Press.{Press}
+use Rattle.presses.specs.declared.Press.the-variants.{Done, Refused}
+use Rattle.presses.specs.declared.Pressed.{Pressed}
+use Rattle.presses.specs.Presses.{pressable, left, pushing, releasing, toldPress, toldPressed}
+
+-- ---- a refused call gives back the state it was given, at place 0
+
+unless-place : (fine : Bool) (k m p : ℕ) → unless fine k 0 ≡ refused m p → p ≡ 0
+unless-place true k m p e = cc
+unless-place false k m p e = cc
+
+-- of two rows of tests the second is asked only where the first holds
+row-place : (o q : Outcome (Unit {0})) (m p : ℕ) → (o ≡ refused m p → p ≡ 0) → (q ≡ refused m p → p ≡ 0) → (o >> q) ≡ refused m p → p ≡ 0
+row-place (given u) q m p first rest e = rest e
+row-place (refused k j) q m p first rest e = first e
+
+usable-place : (b : Board) (s : State) (m p : ℕ) → usable b s ≡ refused m p → p ≡ 0
+unfolding usable
+usable-place b s m p = row-place (unless (boardFine b) brokenBoard 0) _ m p (unless-place (boardFine b) brokenBoard m p) (unless-place (stateFine (b .counts) s) stateBeyondBoard m p)
+
+pressable-place : (b : Board) (s : State) (n : ℕ) (already : Bool) (m p : ℕ) → pressable b s n already ≡ refused m p → p ≡ 0
+unfolding pressable
+pressable-place b s n already m p =
+    row-place (usable b s) _ m p
+    (usable-place b s m p)
+    (row-place (unless (ltb n (b .counts .buttons)) noSuchName 0) _ m p
+    (unless-place (ltb n (b .counts .buttons)) noSuchName m p)
+    (unless-place (not already) alreadySo m p))
+
+left-refused : (s t u : State) (o : Outcome (Unit {0})) (m p : ℕ) → (o ≡ refused m p → p ≡ 0) → left s t o ≡ (u, refused m p) → (u ≡ s) × (p ≡ 0)
+unfolding left
+left-refused s t u (given a) m p place e =
+    let never : given tt ≡ refused m p = λ i. e i .1 in (cc, cc)
+left-refused s t u (refused k q) m p place e =
+    (sym (λ i. e i .0), place (λ i. e i .1))
+
+pub push-refused : (b : Board) (s t : State) (n m p : ℕ) → pushing b s n ≡ (t, refused m p) → (t ≡ s) × (p ≡ 0)
+unfolding pushing
+push-refused b s t n m p = left-refused s _ t _ m p (pressable-place b s n _ m p)
+
+pub release-refused : (b : Board) (s t : State) (n m p : ℕ) → releasing b s n ≡ (t, refused m p) → (t ≡ s) × (p ≡ 0)
+unfolding releasing
+release-refused b s t n m p = left-refused s _ t _ m p (pressable-place b s n _ m p)
+
+-- ---- the answer's cases are told apart
+
+told-press-once : (x y : Press) → toldPress x ≡ toldPress y → x ≡ y
+told-press-once Done Done e = refl
+told-press-once Done (Refused q) e = cc
+told-press-once (Refused r) Done e = cc
+told-press-once (Refused r) (Refused q) e = ap Refused (refusal-equal r q (cc) (cc))
+
+pub told-pressed-once : (x y : Pressed) → toldPressed x ≡ toldPressed y → x ≡ y
+told-pressed-once x y e =
+    λ i. record { state = e i .0; answer = told-press-once (x .answer) (y .answer) (λ j. e j .1) i }
+
+-- ---- one law for each way out of `pressable`, `settle`, `push` and `release`
+
+module _ (b : Board) (s : State) (n : ℕ) (already : Bool) where
+  pub press-unusable : (k p : ℕ) → usable b s ≡ refused k p → refused k p ≡ pressable b s n already
+  unfolding pressable
+  press-unusable k p unusable = rw unusable refl
+
+  pub press-no-such-name : usable b s ≡ given tt → b .counts .buttons ≤ n → refused noSuchName 0 ≡ pressable b s n already
+  unfolding pressable
+  press-no-such-name fine beyond = simp (fine, le-ltb n (b .counts .buttons) beyond)
+
+  pub press-already-so : usable b s ≡ given tt → n < b .counts .buttons → already ≡ true → refused alreadySo 0 ≡ pressable b s n already
+  unfolding pressable
+  press-already-so fine below so = simp (fine, lt-ltb n (b .counts .buttons) below, so)
+
+  pub press-done : usable b s ≡ given tt → n < b .counts .buttons → already ≡ false → given tt ≡ pressable b s n already
+  unfolding pressable
+  press-done fine below so = simp (fine, lt-ltb n (b .counts .buttons) below, so)
+
+-- an answer a with the state that it leaves: the state t if it is done, else the state s as given
+module _ (s t : State) (a : Press) where
+  pub settle-done : a ≡ Done → toldPressed (record { state = t; answer = a }) ≡ left s t (toldPress a)
+  unfolding left
+  settle-done done = rw done
+
+  pub settle-refused : (r : Refusal) → a ≡ Refused r → toldPressed (record { state = s; answer = a }) ≡ left s t (toldPress a)
+  unfolding left
+  settle-refused r is = rw is
+
+-- an outcome o that was asked for with the test p and the state u that was made, where the definition has the test q and the state t
+pub left-asked : (b : Board) (s t u : State) (n : ℕ) (o : Outcome (Unit {0})) (p q : Bool) → u ≡ t → o ≡ pressable b s n p → p ≡ q → left s u o ≡ left s t (pressable b s n q)
+left-asked b s t u n o p q made told same = rw (made, told, same)
