@@ -6,8 +6,8 @@ use mathlib.Core.Bool.{Bool, true, false}
 use lib.Dec.{leb, leb·zero}
 use lib.ListN.{length, getD, take, drop}
 use borrow.Author.Tests.{le-leb, leb-true, lt-ltb, le-ltb, eq-eqb, ne-eqb}
-use Rattle.kinds.specs.declared.windings.Windings.{Windings}
-use Rattle.kinds.specs.Windings.{noWindings, windingFree, gained, complete}
+use Rattle.windings.specs.declared.Windings.{Windings}
+use Rattle.windings.specs.Windings.{noWindings, windingFree, gained, complete}
 use Rattle.board.specs.declared.Counts.{Counts}
 use Rattle.board.specs.declared.Part.{Part}
 use Rattle.board.specs.declared.Board.{Board}

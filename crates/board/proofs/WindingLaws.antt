@@ -13,14 +13,14 @@ use Rattle.bits.specs.Sets.{member, including}
 use Rattle.bits.proofs.SetLaws.{member-including-same, member-including-other, member-none}
 use Rattle.kinds.specs.declared.Kind.{Kind}
 use Rattle.kinds.specs.declared.Kind.the-variants.{Wire, Upper, Lower, Button, Regular, Drawing, Dropping}
-use Rattle.kinds.specs.declared.windings.Windings.{Windings}
-use Rattle.kinds.specs.Windings.{noWindings, windingFree, gained, wound, complete}
+use Rattle.windings.specs.declared.Windings.{Windings}
+use Rattle.windings.specs.Windings.{noWindings, windingFree, gained, wound, complete}
 use Rattle.board.specs.declared.Part.{Part}
 use Rattle.board.specs.declared.Counts.{Counts}
 use Rattle.board.specs.Rules.{terminalFine, endsFine, nameFine, partFits, partFine, partsFine}
 use Rattle.board.specs.Sorts.{carries, windingsOf, Wound, partsFit}
 use Rattle.bits.proofs.BoolLaws.{both-true, true-both, by-test}
-use Rattle.kinds.proofs.EveryLaws.{every-below, below-every}
+use Rattle.windings.proofs.EveryLaws.{every-below, below-every}
 
 -- ---- a test as a number
 

@@ -13,9 +13,9 @@ use mathlib.Core.Bool.{Bool, cond, not, _&&_, _||_}
 use mathlib.Core.List.{List, [], _∷_}
 use lib.Dec.{ltb, leb, eqb}
 use Rattle.kinds.specs.declared.Kind.{Kind}
-use Rattle.kinds.specs.declared.windings.Windings.{Windings}
+use Rattle.windings.specs.declared.Windings.{Windings}
 use Rattle.kinds.specs.Kinds.{kindNumber, nameOf}
-use Rattle.kinds.specs.Windings.{noWindings, windingFree, gained, complete}
+use Rattle.windings.specs.Windings.{noWindings, windingFree, gained, complete}
 use Rattle.board.specs.declared.Part.{Part}
 use Rattle.board.specs.declared.Counts.{Counts}
 use Rattle.board.specs.declared.Board.{Board}

@@ -3,12 +3,12 @@
 ghost use mathlib.Core.Path.{_≡_};
 ghost use Prim.Native.Nat.{_≤_};
 ghost use lib.ListN.{take};
-ghost use Rattle.kinds.specs.Windings.{noWindings};
+ghost use Rattle.windings.specs.Windings.{noWindings};
 ghost use Rattle.board.specs.Parts.{mostParts, emptyBoard};
 ghost use Rattle.board.specs.Rules.{limitOf, nameFine, countsFine, partFine, partsFine, boardFine};
 ghost use Rattle.board.specs.Same.{sameCounts, samePart, sameParts, sameBoard};
 use kinds::Kind;
-use kinds::windings::Windings;
+use windings::Windings;
 
 // The rule book's limits on a board's counts.
 pub const LEAST_TERMINALS: u8 = 2;

@@ -9,8 +9,8 @@ use lib.Seq.{length-take-le}
 use Rattle.number.specs.Outcomes.{Found, found, _>>=_}
 use Rattle.number.specs.Refusals.{outOfRange, windingLacking}
 use Rattle.number.specs.Numbers.{numberBytes, Bytes}
-use Rattle.kinds.specs.declared.windings.Windings.{Windings}
-use Rattle.kinds.specs.Windings.{noWindings, gained, complete}
+use Rattle.windings.specs.declared.Windings.{Windings}
+use Rattle.windings.specs.Windings.{noWindings, gained, complete}
 use Rattle.board.specs.declared.Part.{Part}
 use Rattle.board.specs.declared.Counts.{Counts}
 use Rattle.board.specs.declared.Board.{Board}

@@ -13,9 +13,9 @@ use Rattle.number.specs.Refusals.{noSuchKind, noSuchTerminal, endsEqual, noSuch
 use Rattle.number.specs.Numbers.{numberBytes, Bytes}
 use Rattle.number.proofs.NumberLaws.{found-next}
 use Rattle.kinds.specs.declared.Kind.{Kind}
-use Rattle.kinds.specs.declared.windings.Windings.{Windings}
+use Rattle.windings.specs.declared.Windings.{Windings}
 use Rattle.kinds.specs.Kinds.{kindNumber, nameOf, kindOf}
-use Rattle.kinds.specs.Windings.{windingFree}
+use Rattle.windings.specs.Windings.{windingFree}
 use Rattle.board.specs.declared.Part.{Part}
 use Rattle.board.specs.declared.Counts.{Counts}
 use Rattle.board.specs.Rules.{inRange, terminalFine, endsFine, limitOf, nameFine, partFits, partFine}

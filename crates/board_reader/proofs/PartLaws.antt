@@ -12,9 +12,9 @@ use Rattle.number.specs.Numbers.{toldNumber}
 use Rattle.number.specs.declared.Number.{Number}
 use Rattle.number.specs.declared.Number.the-variants.{Refused}
 use Rattle.number.specs.declared.Refusal.{Refusal}
-use Rattle.kinds.specs.declared.windings.Windings.{Windings}
+use Rattle.windings.specs.declared.Windings.{Windings}
 use Rattle.kinds.specs.Kinds.{kindOf}
-use Rattle.kinds.specs.Windings.{windingFree}
+use Rattle.windings.specs.Windings.{windingFree}
 use Rattle.board.specs.declared.Counts.{Counts}
 use Rattle.board.specs.declared.Part.{Part}
 use Rattle.board.specs.Rules.{inRange, terminalFine, limitOf}

@@ -7,8 +7,8 @@ use mathlib.Core.List.{List, [], _∷_, _++_, append-nil, append-assoc}
 use lib.ListN.{length, set, replicate, length-append}
 use Rattle.number.specs.Outcomes.{Outcome, given, refused, Found, found, _>>=_}
 use Rattle.number.specs.Refusals.{windingLacking}
-use Rattle.kinds.specs.declared.windings.Windings.{Windings}
-use Rattle.kinds.specs.Windings.{noWindings, gained, complete}
+use Rattle.windings.specs.declared.Windings.{Windings}
+use Rattle.windings.specs.Windings.{noWindings, gained, complete}
 use Rattle.board.specs.declared.Counts.{Counts}
 use Rattle.board.specs.declared.Part.{Part}
 use Rattle.board.specs.declared.Board.{Board}

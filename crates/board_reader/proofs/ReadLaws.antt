@@ -7,7 +7,7 @@ use borrow.Author.Tests.{le-leb, lt-leb}
 use Rattle.number.specs.Outcomes.{Outcome, given, refused, Found, found}
 use Rattle.number.specs.Refusals.{inputTooLong}
 use Rattle.number.specs.declared.Refusal.{Refusal}
-use Rattle.kinds.specs.Windings.{noWindings}
+use Rattle.windings.specs.Windings.{noWindings}
 use Rattle.board.specs.declared.Counts.{Counts}
 use Rattle.board.specs.declared.Board.{Board}
 use Rattle.board.specs.Parts.{emptyBoard}

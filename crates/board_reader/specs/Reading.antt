@@ -16,9 +16,9 @@ use lib.ListN.{length}
 use Rattle.number.specs.Outcomes.{Outcome, given, refused, Found, found, _>>=_, _>>_, unless}
 use Rattle.number.specs.Refusals.{outOfRange, noSuchKind, noSuchTerminal, endsEqual, noSuchName, windingTaken, windingLacking, inputTooLong}
 use Rattle.number.specs.Numbers.{numberAt}
-use Rattle.kinds.specs.declared.windings.Windings.{Windings}
+use Rattle.windings.specs.declared.Windings.{Windings}
 use Rattle.kinds.specs.Kinds.{kindOf}
-use Rattle.kinds.specs.Windings.{noWindings, windingFree, gained, complete}
+use Rattle.windings.specs.Windings.{noWindings, windingFree, gained, complete}
 use Rattle.board.specs.declared.Part.{Part}
 use Rattle.board.specs.declared.Counts.{Counts}
 use Rattle.board.specs.declared.Board.{Board}

@@ -15,7 +15,7 @@ use Rattle.number.specs.Numbers.{Bytes, numberBytes}
 use Rattle.number.proofs.NumberLaws.{number-bytes-one, number-bytes-length-two, number-bytes-are-bytes}
 use Rattle.kinds.specs.declared.Kind.{Kind}
 use Rattle.kinds.specs.Kinds.{kindNumber, nameOf}
-use Rattle.kinds.specs.Windings.{noWindings}
+use Rattle.windings.specs.Windings.{noWindings}
 use Rattle.board.specs.declared.Part.{Part}
 use Rattle.board.specs.declared.Counts.{Counts}
 use Rattle.board.specs.declared.Board.{Board}

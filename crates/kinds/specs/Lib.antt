@@ -1,3 +1,2 @@
--- The definitions that the contracts cite, in reading order.
+-- The definitions that the contracts cite.
 pub mod Kinds
-pub mod Windings

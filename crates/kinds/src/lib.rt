@@ -1,9 +1,6 @@
-// What a kind of part is, with its number and the relay or button that it carries; and in `windings`, which windings the
-// parts so far gave each relay.
+// What a kind of part is, with its number and the relay or button that it carries.
 ghost use mathlib.Core.Path.{_≡_};
 ghost use Rattle.kinds.specs.Kinds.{kindNumber, nameOf};
-
-pub mod windings;
 
 // The kinds of part in the order of the rule book's table, each with its relay or button.
 pub enum Kind {

@@ -1,7 +1,7 @@
 -- The table of specs/Tried.antt holds: each call is computed from the definitions.
 use mathlib.Core.Path.{refl}
 use Rattle.bits.specs.Sets.{member, including, within}
-use Rattle.kinds.specs.Windings.{every, complete}
+use Rattle.windings.specs.Windings.{every, complete}
 use Rattle.board.specs.Parts.{padded}
 use Rattle.board.specs.Rules.{inRange, countsFine, nameFine, partFits, partFine, partsFine, boardFine}
 use Rattle.state.specs.States.{stateFine, usable}

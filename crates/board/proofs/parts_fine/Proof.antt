@@ -7,7 +7,7 @@ use Prim.Native.Nat.{_≤_, _-_}
 use mathlib.Core.Path.{_≡_, refl, sym, ap, _∙_}
 use borrow.Author.Tests.{not-true, not-false}
 use lib.ListN.{length, take, drop}
-use Rattle.kinds.specs.Windings.{noWindings}
+use Rattle.windings.specs.Windings.{noWindings}
 use Rattle.board.specs.Rules.{partsFine}
 use Rattle.board.proofs.RuleLaws.{parts-walk-off, parts-walk-on, parts-walk-end}
 

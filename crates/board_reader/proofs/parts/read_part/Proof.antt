@@ -5,7 +5,7 @@ use Rattle.board_reader.proofs.parts.read_part.Tie as tie
 use native.Mathlib.Omega.{arith}
 use mathlib.Core.Path.{sym, ap, _∙_}
 use borrow.Author.Tests.{not-true, not-false}
-use Rattle.kinds.specs.Windings.{windingFree}
+use Rattle.windings.specs.Windings.{windingFree}
 use Rattle.board_reader.proofs.FieldLaws.{told-found, told-refused}
 use Rattle.board_reader.proofs.PartLaws.{part-as, no-part-told, place-refused, kind-refused, a-refused, b-refused, ends-equal, name-refused, winding-refused, part-found, terminal-below, name-below}
 use mathlib.Core.Path.{refl}

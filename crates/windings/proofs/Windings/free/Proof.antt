@@ -1,7 +1,7 @@
--- `kinds::windings::Windings::free` meets its contract: in each arm the kind is known, and each call is a test of `windingFree`.
+-- `windings::Windings::free` meets its contract: in each arm the kind is known, and each call is a test of `windingFree`.
 use borrow.Author.Needs.{needs}
-use Rattle.kinds.proofs.windings.Windings.free.Statement.{statement}
-use Rattle.kinds.proofs.windings.Windings.free.Tie as tie
+use Rattle.windings.proofs.Windings.free.Statement.{statement}
+use Rattle.windings.proofs.Windings.free.Tie as tie
 use mathlib.Core.Path.{sym, _∙_}
 
 enum-known-kind : tie.Need-enum-known-kind

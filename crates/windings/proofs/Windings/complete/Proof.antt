@@ -1,14 +1,14 @@
--- `kinds::windings::Windings::complete` meets its contract. The invariant: every relay passed is wound.
-use Rattle.kinds.proofs.windings.Windings.complete.Statement.{statement}
-use Rattle.kinds.proofs.windings.Windings.complete.Tie as tie
+-- `windings::Windings::complete` meets its contract. The invariant: every relay passed is wound.
+use Rattle.windings.proofs.Windings.complete.Statement.{statement}
+use Rattle.windings.proofs.Windings.complete.Tie as tie
 use borrow.Author.Needs.{needs}
 use native.Mathlib.Omega.{arith}
 use Prim.Native.Nat.{_<_, _≤_, _-_}
 use mathlib.Core.Path.{_≡_, sym, _∙_}
 use mathlib.Core.Bool.{true, false}
 use borrow.Author.Tests.{not-true, not-false}
-use Rattle.kinds.specs.Windings.{wound, every, complete}
-use Rattle.kinds.proofs.EveryLaws.{every-none, every-more, every-fails}
+use Rattle.windings.specs.Windings.{wound, every, complete}
+use Rattle.windings.proofs.EveryLaws.{every-none, every-more, every-fails}
 
 abbrev Inv-loop : tie.InvT-loop
 Inv-loop self relays end relay₀ relay = (end ≡ relays) × (end < 256) × (relay ≤ end) × (every relay (wound self) ≡ true)

@@ -6,7 +6,7 @@ use native.Mathlib.Omega.{arith}
 use mathlib.Core.Path.{_≡_, refl, ap, _∙_}
 use mathlib.Core.Bool.{Bool, true, false, and-false}
 use mathlib.Core.Logic.{⊎-elim}
-use Rattle.kinds.specs.Windings.{every}
+use Rattle.windings.specs.Windings.{every}
 use Rattle.bits.proofs.BoolLaws.{both-true, true-both}
 
 pub every-none : (f : ℕ → Bool) → every 0 f ≡ true

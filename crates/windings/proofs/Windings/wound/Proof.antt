@@ -1,7 +1,7 @@
--- `kinds::windings::Windings::wound` meets its contract: each call of `has` is a test of `wound`.
+-- `windings::Windings::wound` meets its contract: each call of `has` is a test of `wound`.
 use borrow.Author.Needs.{needs}
-use Rattle.kinds.proofs.windings.Windings.wound.Statement.{statement}
-use Rattle.kinds.proofs.windings.Windings.wound.Tie as tie
+use Rattle.windings.proofs.Windings.wound.Statement.{statement}
+use Rattle.windings.proofs.Windings.wound.Tie as tie
 use mathlib.Core.Path.{sym, _∙_}
 
 has-requires : tie.Need-has-requires

@@ -8,9 +8,9 @@
 use Prim.Native.Nat.{ℕ, zero, suc}
 use mathlib.Core.Bool.{Bool, true, not, _&&_, _||_}
 use Rattle.bits.specs.Sets.{member, including}
 use Rattle.kinds.specs.declared.Kind.{Kind}
 use Rattle.kinds.specs.declared.Kind.the-variants.{Wire, Upper, Lower, Button, Regular, Drawing, Dropping}
-use Rattle.kinds.specs.declared.windings.Windings.{Windings}
+use Rattle.windings.specs.declared.Windings.{Windings}
 
 abbrev pub noWindings : Windings
 noWindings = record { regular = 0; drawing = 0; dropping = 0 }

@@ -1,9 +1,9 @@
 // Which windings the parts so far gave each relay: what refusals 8 and 9 go by.
-use crate::Kind;
 ghost use mathlib.Core.Path.{_≡_};
 ghost use mathlib.Core.Bool.{not, _&&_};
 ghost use Rattle.bits.specs.Sets.{member};
-ghost use Rattle.kinds.specs.Windings.{noWindings, windingFree, gained, wound, complete};
+ghost use Rattle.windings.specs.Windings.{noWindings, windingFree, gained, wound, complete};
+use kinds::Kind;
 
 // The relays that have a part of kind 4, of kind 5 and of kind 6.
 pub struct Windings {

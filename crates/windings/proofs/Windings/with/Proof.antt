@@ -1,7 +1,7 @@
--- `kinds::windings::Windings::with` meets its contract: in each arm the kind is known, and the set that gains the relay is what `bits::with` gives.
+-- `windings::Windings::with` meets its contract: in each arm the kind is known, and the set that gains the relay is what `bits::with` gives.
 use borrow.Author.Needs.{needs}
-use Rattle.kinds.proofs.windings.Windings.with.Statement.{statement}
-use Rattle.kinds.proofs.windings.Windings.with.Tie as tie
+use Rattle.windings.proofs.Windings.with.Statement.{statement}
+use Rattle.windings.proofs.Windings.with.Tie as tie
 
 enum-known-kind : tie.Need-enum-known-kind
 enum-known-kind c = search needs

@@ -1,7 +1,7 @@
--- `kinds::windings::in_neither` meets its contract: a relay in the first set is in one of them, else the second decides.
+-- `windings::in_neither` meets its contract: a relay in the first set is in one of them, else the second decides.
 use borrow.Author.Needs.{needs}
-use Rattle.kinds.proofs.windings.in_neither.Statement.{statement}
-use Rattle.kinds.proofs.windings.in_neither.Tie as tie
+use Rattle.windings.proofs.in_neither.Statement.{statement}
+use Rattle.windings.proofs.in_neither.Tie as tie
 use mathlib.Core.Path.{_≡_}
 use mathlib.Core.Bool.{true, false}
 use Rattle.bits.specs.Sets.{member}
