@@ -55,7 +55,8 @@ fn read_row(bytes: &[u8], start: usize, wanted: usize) -> Row
     }
 }
 
-// What a case asks by so many numbers; where nothing can be asked, the refusal or that the case is bad is printed.
+// What a case asks by so many numbers; where there is nothing to ask, prints why: the reader's refusal, or that the case is
+// bad.
 pub fn read(bytes: &[u8], wanted: usize) -> Asked
     requires { ⌜ wanted ≤ 5 ⌝ }
 {

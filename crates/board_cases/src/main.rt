@@ -17,9 +17,10 @@ mod text;
 use case::Case;
 use libc::STDIN_FILENO;
 
-// The most bytes of text, and of a case: some more than the longest input.
+// A text is shorter than this.
 const TEXT_ROOM: usize = 65_536;
 
+// The most bytes of a case: some more than the longest input.
 const CASE_ROOM: usize = 65_540;
 
 // Takes the text's characters one after the other; each case is answered where it ends.

@@ -30,7 +30,7 @@ fn print_word(word: Word) {
     }
 }
 
-// Prints the logged bytes of the moves made, of the first 40 at most.
+// Prints the logged bytes of the moves made, no more of them than are shown.
 fn print_moves(log: &[u8], moves: usize) {
     let mut i = 0;
     while i < moves {

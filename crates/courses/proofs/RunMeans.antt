@@ -25,9 +25,9 @@ module _ (b : Board) (w : ℕ) where
   unguarded : (s : State) (r : ℕ) → Resting b w s r → (q : ℕ) → q < r → ¬ (CanDraw b s q) × ¬ (CanDrop b s q)
   unguarded s r rest q below = rest q below .1 .1
 
-  stopped-moves : (s : State) (m : step.Move) (r : ℕ) → LookMeans b w s (moves m r) → LowestMove b s (byteOf r m) (step.made s r m)
-  stopped-moves s step.drew r stopped = record { relay = r; guarded = inl (refl, (stopped .1 .1 .1 .1, refl)); lowest = unguarded s r (stopped .1 .0) }
-  stopped-moves s step.dropped r stopped = record { relay = r; guarded = inr (refl, (stopped .1 .1 .1 .1, refl)); lowest = unguarded s r (stopped .1 .0) }
+  stopped-moves : (s : State) (m : step.Move) (r : ℕ) → LookMeans b w s (moves m r) → LowestMove b w s (byteOf r m) (step.made s r m)
+  stopped-moves s step.drew r stopped = record { relay = r; made = inl (refl, (stopped, refl)); guarded = inl (stopped .1 .1 .1 .1); lowest = unguarded s r (stopped .1 .0) }
+  stopped-moves s step.dropped r stopped = record { relay = r; made = inr (refl, (stopped, refl)); guarded = inr (stopped .1 .1 .1 .1); lowest = unguarded s r (stopped .1 .0) }
   stopped-moves s step.rests r never = absurd never
   stopped-moves s step.undecided r never = absurd never
   stopped-moves s step.conflict r never = absurd never
@@ -43,7 +43,7 @@ module _ (b : Board) (w : ℕ) where
 
   -- what the run x from state s says, with room for n moves
   pub record Says (n : ℕ) (s : State) (x : Run) : Type 0 where
-    pub follows : Follows b s (x .bytes) (x .state)
+    pub follows : Follows b w s (x .bytes) (x .state)
     pub ended : Ended b w n (length (x .bytes)) (x .state) (x .relay) (x .word)
 
   says-ends : (n : ℕ) (s : State) (e : Ending) (r : ℕ) → Ended b w n 0 s r e → Says n s (ends e s r)
@@ -70,7 +70,7 @@ module _ (b : Board) (w : ℕ) where
   ended-more n k s r undecided h = h
   ended-more n k s r conflict h = h
 
-  says-logged : (n : ℕ) (s : State) (c : ℕ) (t : State) (x : Run) → LowestMove b s c t → Says n t x → Says (suc n) s (logged c x)
+  says-logged : (n : ℕ) (s : State) (c : ℕ) (t : State) (x : Run) → LowestMove b w s c t → Says n t x → Says (suc n) s (logged c x)
   unfolding Follows
   says-logged n s c t x move on = record { follows = (t, (move, on .follows)); ended = ended-more n (length (x .bytes)) (x .state) (x .relay) (x .word) (on .ended) }
 

@@ -18,4 +18,4 @@ use Rattle.courses.specs.RunsTried.{TriedRuns}
 
 pub tried-runs : TriedRuns
 unfolding member including excluding within padded inRange countsFine nameFine partFits partFine partsFine boardFine every complete stateFine usable gathered neighbours isIn free tries beyond chains crosses someCrosses beside shows firstShown effort places weighed judgement judged windingOf regularMove steelMove moveBy wordOn stepBy stepOf movable moving lookFrom runOf runnable ran running
-tried-runs = ((refl, (refl, (refl, (refl, tt)))), (refl, (refl, (refl, (refl, (refl, (refl, (refl, tt))))))))
+tried-runs = ((refl, (refl, (refl, (refl, tt)))), (refl, (refl, (refl, (refl, (refl, (refl, (refl, (refl, (refl, (refl, tt)))))))))))

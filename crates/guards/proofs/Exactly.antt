@@ -1,4 +1,4 @@
--- The theorems of specs/SingleMoves.antt: what a relay comes to says what it is said to say, by the relay's sort, and no relay comes to two words; so each word is said exactly then, by a step and by the call.
+-- The theorems of specs/SingleMoves.antt: of what a relay comes to `Comes` holds, by the relay's sort, and it holds of no two words; so each word is said exactly then, by a step and by the call.
 use Prim.Native.Nat.{ℕ, _<_}
 use mathlib.Core.Path.{_≡_, refl, sym, ap, subst, _∙_}
 use mathlib.Core.Logic.{⊎-elim}
@@ -50,7 +50,7 @@ module _ (b : Board) (w : ℕ) (s : State) (r : ℕ) (fine : boardFine b ≡ tru
       (move-steel (isDrawn s r) (given (first .word)) (given (second .word)) refl refl)
       (steel-comes b w s r below steel (isDrawn s r) (first .word) (second .word) refl (first .says) (second .says))
 
--- what a relay comes to says what it is said to say
+-- of what a relay comes to `Comes` holds
 pub step-means : (b : Board) (w : ℕ) (s : State) (r : ℕ) → boardFine b ≡ true → stateFine (b .counts) s ≡ true → r < b .counts .relays → Comes b w s r (stepOf b w s r)
 step-means b w s r fine fits below = ⊎-elim (regular-means b w s r fine fits below) (steel-means b w s r fine fits below) (fine-relays-wound b fine r below)
 

@@ -1,2 +1,2 @@
-// The moves of a relay in the words of documents 000 and 002: their guards for drawing and dropping, and the theorem that
-// the calls `moves::step` and `moves::move_relay` go by them. This crate has no functions: its definitions are in specs/, its theorems in proofs/.
+// Theorems only: the guards for drawing and dropping a relay in the words of documents 000 and 002, and that a step of a relay
+// (`stepOf`) and the call `moves::move_relay` go by them. There is no code here; specs/ has the statements, proofs/ the theorems.

@@ -1,4 +1,4 @@
--- The rule book's "Numbers for no": a name for each line of its table that a call can give today.
+-- The rule book's "Numbers for no": a name for each line of its table.
 use Prim.Native.Nat.{ℕ}
 
 -- 1: input ends inside or before a wanted number; place: input length

@@ -8,7 +8,7 @@ ghost use lib.Seq.{sets};
 ghost use Rattle.number.specs.Outcomes.{Outcome};
 ghost use Rattle.number.specs.Numbers.{longest, form, encode, numberAt, numberBytes, numberWriting, toldNumber, toldWritten};
 
-// The rule book's numbers for no, one for each line of its table that a call can give today.
+// The rule book's numbers for no, one for each line of its table.
 pub const INPUT_ENDS: u32 = 1;
 
 pub const BAD_FORM: u32 = 2;

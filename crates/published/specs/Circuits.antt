@@ -5,7 +5,7 @@
 --     AvailablePath b s from to p      p is in "availablePaths(from, to, n)": "available(p, n) ∧ p(1) = from ∧ p(len p) = to"
 --     PathContainsConnection p x y     "∃ i ∈ {1 .. len p - 1} ∧ (p(i), p(i + 1)) = (c1, c2)"
 --     CurrentCarrying b s x y          "∃ p : Path • p ∈ availablePaths(pos, neg, n) ∧ PathContainsConnection(p, con)"
---     WindingCarries b s x y           one of the connections of a winding between x and y is current carrying: what the paper's guards for drawing and dropping ask of a relay
+--     WindingCarries b s x y           one of the connections of a winding between x and y is current carrying
 -- Agreement, of a board that breaks no rule (`proofs/Agreement.antt`):
 --     PathsAreChains                   the available paths from pos to neg are exactly our chains that end at 1
 --     LiveIsCarrying                   a winding is live, by our chains, exactly if one of its connections is current carrying

@@ -36,7 +36,8 @@ fn byte(relay: u8, motion: Motion) -> u8
     }
 }
 
-// Looks at the relays from 0 up and moves the first that can move, until none can or the run must stop.
+// Looks at the relays from 0 up; the first that does not rest decides: a move is made and logged and it looks again, and
+// anything else stops the run.
 pub fn follow(board: Board, state: State, allowance: u32, log: &mut [u8]) -> Ran
     requires { ⌜ board .counts .relays ≤ mostRelays ⌝ }
     ensures { λ r. ⌜ toldRan r (now (log .exit)) ≡ ran (runOn board allowance (length (now (log .entry))) state) (now (log .entry)) ⌝ }

@@ -1,4 +1,5 @@
-// A run of a board over a lent log: the lowest relay that can move is moved, again and again, until the run must stop.
+// A run of a board over a lent log: the relays are looked at from 0 up, the first that can move is moved, and so on until
+// all rest, one is undecided or in conflict, or a move finds the log full.
 ghost use mathlib.Core.Path.{_≡_};
 ghost use mathlib.Core.List.{[]};
 ghost use Rattle.runs.specs.Running.{unrun, running, toldRan};
@@ -12,7 +13,7 @@ use state::State;
 mod course;
 
 // The longest log that a run takes.
-pub const LONGEST_LOG: usize = 65536;
+pub const LONGEST_LOG: usize = 65_536;
 
 // The relay of an idle or a refused run: none stopped it.
 pub const NO_RELAY: u8 = 255;

@@ -35,7 +35,7 @@ impl Windings {
         }
     }
 
-    // Whether a part of this kind may come now: its relay has this winding not yet, and is not of the other sort (8).
+    // Whether a part of this kind may come now: its relay does not have this winding yet, and is not of the other sort (8).
     pub fn free(self, kind: Kind) -> bool
         ensures { λ r. ⌜ r ≡ windingFree self kind ⌝ }
     {
