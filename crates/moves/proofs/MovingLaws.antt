@@ -10,7 +10,7 @@ use Rattle.number.proofs.OutcomeLaws.{refusal-equal, both-given, asked}
 use Rattle.board.specs.declared.Board.{Board}
 use Rattle.board.specs.Rules.{boardFine}
 use Rattle.state.specs.declared.State.{State}
-use Rattle.state.specs.States.{stateFine, usable}
+use Rattle.state.specs.States.{stateFine, usable, left}
 use Rattle.state.proofs.StateLaws.{usable-given}
 use Rattle.moves.specs.declared.Motion.{Motion}
 use Rattle.moves.specs.declared.Motion.the-variants.{Drew, Dropped, Rests, Undecided, Conflict}
@@ -42,11 +42,11 @@ module _ (b : Board) (s : State) (r : ℕ) where
       (fine .0, fine .1, ltb-true r (b .counts .relays) (asked (ltb r (b .counts .relays)) noSuchWinding 0 (both .1)))
 
   pub moving-refused : (w k p : ℕ) → movable b s r ≡ refused k p → (s, refused k p) ≡ moving b s r w
-  unfolding moving
+  unfolding moving left
   moving-refused w k p e = rw e refl
 
   pub moving-moved : (w : ℕ) (m : Move) (t : State) → movable b s r ≡ given tt → m ≡ stepOf b w s r → t ≡ made s r m → (t, given m) ≡ moving b s r w
-  unfolding moving
+  unfolding moving left
   moving-moved w m t e is leaves = rw (e, leaves, is) refl
 
 -- ---- the answer's cases are told apart

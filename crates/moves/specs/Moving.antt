@@ -1,6 +1,5 @@
 -- A single move of a named relay, as a call. Rule book, calls: "15, 14, 13, 11, 7, 12, 16, those that apply"; "A single move of a named relay answers drew, dropped, rests, undecided or conflict, and changes the state only for the first two"; "A refused call returns the number, place 0 and the state it was given".
 --     movable b s r        what stands against moving relay r of board b in state s: refusals 15, 14, 11
---     left s r o           the state afterwards beside what the call came to; a refusal leaves the state as given
 --     moving b s r w       the call
 --     toldAnswer, toldMoved    the answer's cases in the rule book's words and numbers
 use Prim.Native.Nat.{ℕ}
@@ -9,7 +8,7 @@ use Rattle.number.specs.Outcomes.{Outcome, given, refused, _>>=_, _>>_, unless}
 use Rattle.number.specs.Refusals.{noSuchWinding}
 use Rattle.board.specs.declared.Board.{Board}
 use Rattle.state.specs.declared.State.{State}
-use Rattle.state.specs.States.{usable}
+use Rattle.state.specs.States.{usable, left}
 use Rattle.moves.specs.declared.Answer.{Answer}
 use Rattle.moves.specs.declared.Answer.the-variants.{Says, Refused}
 use Rattle.moves.specs.declared.Moved.{Moved}
@@ -20,12 +19,8 @@ movable b s r = do
   usable b s
   unless (ltb r (b .counts .relays)) noSuchWinding 0
 
-abbrev pub left : State → ℕ → Outcome Move → State × Outcome Move
-left s r (given m) = (made s r m, given m)
-left s r (refused n p) = (s, refused n p)
-
 unfoldable pub moving : Board → State → ℕ → ℕ → State × Outcome Move
-moving b s r w = left s r (movable b s r >> given (stepOf b w s r))
+moving b s r w = left s (made s r) (movable b s r >> given (stepOf b w s r))
 
 abbrev pub toldAnswer : Answer → Outcome Move
 toldAnswer (Says m) = given (toldMotion m)

@@ -11,11 +11,11 @@ use Rattle.number.proofs.OutcomeLaws.{refusal-equal}
 use Rattle.board.specs.declared.Board.{Board}
 use Rattle.board.specs.Rules.{boardFine}
 use Rattle.state.specs.declared.State.{State}
-use Rattle.state.specs.States.{stateFine, usable}
+use Rattle.state.specs.States.{stateFine, usable, left}
 use Rattle.presses.specs.declared.Press.{Press}
 use Rattle.presses.specs.declared.Press.the-variants.{Done, Refused}
 use Rattle.presses.specs.declared.Pressed.{Pressed}
-use Rattle.presses.specs.Presses.{pressable, left, pushing, releasing, toldPress, toldPressed}
+use Rattle.presses.specs.Presses.{pressable, pushing, releasing, toldPress, toldPressed}
 
 -- ---- a refused call gives back the state it was given, at place 0
 
@@ -41,11 +41,11 @@ pressable-place b s n already m p =
     (unless-place (ltb n (b .counts .buttons)) noSuchName m p)
     (unless-place (not already) alreadySo m p))
 
-left-refused : (s t u : State) (o : Outcome (Unit {0})) (m p : ℕ) → (o ≡ refused m p → p ≡ 0) → left s t o ≡ (u, refused m p) → (u ≡ s) × (p ≡ 0)
+left-refused : (s : State) (f : Unit {0} → State) (u : State) (o : Outcome (Unit {0})) (m p : ℕ) → (o ≡ refused m p → p ≡ 0) → left s f o ≡ (u, refused m p) → (u ≡ s) × (p ≡ 0)
 unfolding left
-left-refused s t u (given a) m p place e =
-    let never : given tt ≡ refused m p = λ i. e i .1 in (cc, cc)
-left-refused s t u (refused k q) m p place e =
+left-refused s f u (given a) m p place e =
+    let never : given a ≡ refused m p = λ i. e i .1 in (cc, cc)
+left-refused s f u (refused k q) m p place e =
     (sym (λ i. e i .0), place (λ i. e i .1))
 
 pub push-refused : (b : Board) (s t : State) (n m p : ℕ) → pushing b s n ≡ (t, refused m p) → (t ≡ s) × (p ≡ 0)
@@ -89,14 +89,14 @@ module _ (b : Board) (s : State) (n : ℕ) (already : Bool) where
 
 -- an answer a with the state that it leaves: the state t if it is done, else the state s as given
 module _ (s t : State) (a : Press) where
-  pub settle-done : a ≡ Done → toldPressed (record { state = t; answer = a }) ≡ left s t (toldPress a)
+  pub settle-done : a ≡ Done → toldPressed (record { state = t; answer = a }) ≡ left s (λ u. t) (toldPress a)
   unfolding left
   settle-done done = rw done
 
-  pub settle-refused : (r : Refusal) → a ≡ Refused r → toldPressed (record { state = s; answer = a }) ≡ left s t (toldPress a)
+  pub settle-refused : (r : Refusal) → a ≡ Refused r → toldPressed (record { state = s; answer = a }) ≡ left s (λ u. t) (toldPress a)
   unfolding left
   settle-refused r is = rw is
 
 -- an outcome o that was asked for with the test p and the state u that was made, where the definition has the test q and the state t
-pub left-asked : (b : Board) (s t u : State) (n : ℕ) (o : Outcome (Unit {0})) (p q : Bool) → u ≡ t → o ≡ pressable b s n p → p ≡ q → left s u o ≡ left s t (pressable b s n q)
+pub left-asked : (b : Board) (s t u : State) (n : ℕ) (o : Outcome (Unit {0})) (p q : Bool) → u ≡ t → o ≡ pressable b s n p → p ≡ q → left s (λ v. u) o ≡ left s (λ v. t) (pressable b s n q)
 left-asked b s t u n o p q made told same = rw (made, told, same)

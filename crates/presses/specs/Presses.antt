@@ -1,6 +1,5 @@
 -- Pushing and releasing a button. Rule book, calls: "15, 14, 13, 11, 7, 12, 16, those that apply"; "a refused call returns the number, place 0 and the state it was given".
 --     pressable b s n p      what stands against setting button n of board b in state s, where p says that it is so already: refusals 15, 14, 7, 12
---     left s t o             the state afterwards and what the call came to: t where it is done, else the state s as given and the refusal
 --     pushing, releasing     the two calls
 --     toldPress, toldPressed    the answer's cases in the rule book's numbers
 use Prim.Native.Nat.{ℕ}
@@ -10,7 +9,7 @@ use Rattle.number.specs.Outcomes.{Outcome, given, refused, _>>=_, _>>_, unless}
 use Rattle.number.specs.Refusals.{noSuchName, alreadySo}
 use Rattle.board.specs.declared.Board.{Board}
 use Rattle.state.specs.declared.State.{State}
-use Rattle.state.specs.States.{isPushed, withPushed, withReleased, usable}
+use Rattle.state.specs.States.{isPushed, withPushed, withReleased, usable, left}
 use Rattle.presses.specs.declared.Press.{Press}
 use Rattle.presses.specs.declared.Press.the-variants.{Done, Refused}
 use Rattle.presses.specs.declared.Pressed.{Pressed}
@@ -21,15 +20,11 @@ pressable b s n already = do
   unless (ltb n (b .counts .buttons)) noSuchName 0
   unless (not already) alreadySo 0
 
-unfoldable pub left : State → State → Outcome (Unit {0}) → State × Outcome (Unit {0})
-left s t (given u) = (t, given tt)
-left s t (refused n p) = (s, refused n p)
-
 unfoldable pub pushing : Board → State → ℕ → State × Outcome (Unit {0})
-pushing b s n = left s (withPushed s n) (pressable b s n (isPushed s n))
+pushing b s n = left s (λ u. withPushed s n) (pressable b s n (isPushed s n))
 
 unfoldable pub releasing : Board → State → ℕ → State × Outcome (Unit {0})
-releasing b s n = left s (withReleased s n) (pressable b s n (not (isPushed s n)))
+releasing b s n = left s (λ u. withReleased s n) (pressable b s n (not (isPushed s n)))
 
 abbrev pub toldPress : Press → Outcome (Unit {0})
 toldPress Done = given tt

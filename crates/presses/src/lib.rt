@@ -1,7 +1,8 @@
 // Pushing and releasing a button, on any board and state handed in: refusals 15, 14, 7 and 12, then the state's method.
 ghost use mathlib.Core.Path.{_≡_};
 ghost use Rattle.number.specs.Outcomes.{refused};
-ghost use Rattle.presses.specs.Presses.{pushing, releasing, pressable, left, toldPress, toldPressed};
+ghost use Rattle.state.specs.States.{left};
+ghost use Rattle.presses.specs.Presses.{pushing, releasing, pressable, toldPress, toldPressed};
 use board::Board;
 use number::ALREADY_SO;
 use number::BROKEN_BOARD;
@@ -51,7 +52,7 @@ fn refuse(number: u32) -> Press
 
 // The answer with the state that it leaves: the next where it is done, else the state as given.
 fn settle(state: State, next: State, answer: Press) -> Pressed
-    ensures { λ r. ⌜ toldPressed r ≡ left state next (toldPress answer) ⌝ }
+    ensures { λ r. ⌜ toldPressed r ≡ left state (λ u. next) (toldPress answer) ⌝ }
 {
     if let Press::Done = answer {
         Pressed {

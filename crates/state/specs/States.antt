@@ -5,10 +5,11 @@
 --     withPushed, withReleased s b       s with button b pushed, released
 --     stateFine c s                      14 does not hold: every drawn relay is below R, every pushed button below B
 --     usable b s                         what every call on a board and a state asks first: refusals 15, 14
+--     left s f o                         the state that a call leaves beside what it came to: f a where it gives a; "a refused call returns the number, place 0 and the state it was given"
 use Prim.Native.Nat.{ℕ}
 use mathlib.Core.Bool.{Bool, _&&_}
 use Rattle.bits.specs.Sets.{member, including, excluding, within}
-use Rattle.number.specs.Outcomes.{Outcome, _>>=_, _>>_, unless}
+use Rattle.number.specs.Outcomes.{Outcome, given, refused, _>>=_, _>>_, unless}
 use Rattle.number.specs.Refusals.{stateBeyondBoard, brokenBoard}
 use Rattle.board.specs.declared.Counts.{Counts}
 use Rattle.board.specs.declared.Board.{Board}
@@ -43,3 +44,7 @@ unfoldable pub usable : Board → State → Outcome (Unit {0})
 usable b s = do
   unless (boardFine b) brokenBoard 0
   unless (stateFine (b .counts) s) stateBeyondBoard 0
+
+unfoldable pub left : {A : Type 0} → State → (A → State) → Outcome A → State × Outcome A
+left s f (given a) = (f a, given a)
+left s f (refused n p) = (s, refused n p)
