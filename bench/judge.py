@@ -63,7 +63,7 @@ def compare(rust, terminals):
     """The line of one search by the plain search, how many times the proved program did it, and whether all lines are the same."""
     (line,), _ = timed([rust], rust_text(terminals, 1))
     times = max(1, min(CHAINS // int(line.split()[1]), program.TEXT_ROOM // len(case(terminals))))
-    told, _ = timed(program.command(), case(terminals) * times)
+    told, _ = timed(program.command("board_cases"), case(terminals) * times)
     return line, times, told == ["judged " + line] * times
 
 
@@ -71,25 +71,31 @@ def speeds(rust, terminals, effort, times):
     """Chains a second of the proved program and of the plain search."""
     rust_times = CHAINS // effort
     return (
-        speed(program.command(), case(terminals) * times, "", times * effort),
+        speed(program.command("board_cases"), case(terminals) * times, "", times * effort),
         speed([rust], rust_text(terminals, rust_times), rust_text(terminals, 0), rust_times * effort),
     )
 
 
-native, agree = platform.machine() == "x86_64", True
-with tempfile.TemporaryDirectory() as folder:
-    rust = os.path.join(folder, "ladder")
-    subprocess.run(["rustc", "-O", "-o", rust, repository.path("bench", "ladder.rs")], check=True)
-    if not native:
-        print(f"The ratio was not measured here: this machine is {platform.machine()}, and the program runs under the emulator.")
-    print("| terminals | verdict and effort | times | efforts |" + (" `judge`, chains a second | plain Rust | Rust / `judge` |" if native else ""))
-    print("|---|---|---|---|" + ("---|---|---|" if native else ""))
-    for terminals in SIZES:
-        line, times, same = compare(rust, terminals)
-        agree = agree and same
-        row = f"| {terminals} | {line} | {times} | {'agree' if same else 'DIFFER'} |"
-        if native:
-            own, plain = speeds(rust, terminals, int(line.split()[1]), times)
-            row += f" {own:,.0f} | {plain:,.0f} | {plain / own:.2f} |"
-        print(row, flush=True)
-sys.exit(0 if agree else 1)
+def main():
+    """Prints the table; whether all efforts agree."""
+    native, agree = platform.machine() == "x86_64", True
+    with tempfile.TemporaryDirectory() as folder:
+        rust = os.path.join(folder, "ladder")
+        subprocess.run(["rustc", "-O", "-o", rust, repository.path("bench", "ladder.rs")], check=True)
+        if not native:
+            print(f"The ratio was not measured here: this machine is {platform.machine()}, and the program runs under the emulator.")
+        print("| terminals | verdict and effort | times | efforts |" + (" `judge`, chains a second | plain Rust | Rust / `judge` |" if native else ""))
+        print("|---|---|---|---|" + ("---|---|---|" if native else ""))
+        for terminals in SIZES:
+            line, times, same = compare(rust, terminals)
+            agree = agree and same
+            row = f"| {terminals} | {line} | {times} | {'agree' if same else 'DIFFER'} |"
+            if native:
+                own, plain = speeds(rust, terminals, int(line.split()[1]), times)
+                row += f" {own:,.0f} | {plain:,.0f} | {plain / own:.2f} |"
+            print(row, flush=True)
+    return agree
+
+
+if __name__ == "__main__":
+    sys.exit(0 if main() else 1)

@@ -120,15 +120,20 @@ def judgements(dice, counts, parts):
     return [(case(*asked, allowance), "judged " + model.verdict(effort, chain, allowance)) for allowance in allowances]
 
 
-def deep_judgements():
-    """Searches that nest deeply, with the line that each should print: a path through all 64 terminals, and a path whose
+def deep_boards():
+    """Boards on which a search nests deeply: a path through all 64 terminals, whose last part is the winding; and a path whose
     terminals are all joined to minus and to terminal 2 as well. Those are tried first, so that the search is three tries
-    deep at each terminal of the path. The winding hangs on its end, and is dead."""
+    deep at each terminal of the path; the winding hangs on its end, and is dead."""
     path = [[0, 0, 2]] + [[0, n, n + 1] for n in range(2, 63)] + [[4, 63, 1, 0]]
     deep = [[0, 0, 3]] + [[0, n, n + 1] for n in range(3, 62)] + [[0, n, low] for n in range(3, 63) for low in (1, 2)] + [[4, 62, 63, 0]]
+    return [([64, 1, 0], path), ([64, 1, 0], deep)]
+
+
+def deep_judgements():
+    """Searches that nest deeply, with the line that each should print."""
     found = []
-    for parts in (path, deep):
-        asked = [64, 1, 0], parts, set(), set(), 0, 0
+    for counts, parts in deep_boards():
+        asked = counts, parts, set(), set(), 0, 0
         effort, chain = model.effort(*asked, MOST_CHAINS)
         found.append((case(*asked, LARGEST), "judged " + model.verdict(effort, chain, LARGEST)))
     return found

@@ -1,4 +1,5 @@
-"""Starting the proved program `board_cases`, which `rt check board_cases` builds. Used by the comparisons and the measurements."""
+"""Starting a proved program by its name, as `rt` starts it: `rt check NAME` builds it as target/bin/NAME. Used by the comparisons and
+the measurements."""
 import os
 import platform
 import shutil
@@ -6,7 +7,8 @@ import subprocess
 
 import repository
 
-TEXT_ROOM = 65_400  # the program takes texts of fewer than 65,536 bytes
+TEXT_ROOM = 65_400  # `board_cases` takes texts of fewer than 65,536 bytes
+SESSION_END = b".\n"  # of many sessions, the line after those of each
 
 
 def toolchain():
@@ -22,17 +24,32 @@ def emulator():
     return found if os.access(found, os.X_OK) else None
 
 
-def command(stack=None):
+def path(name):
+    """Where the program is."""
+    return repository.path("target", "bin", name)
+
+
+def command(name, stack=None):
     """How `rt` starts the program: by the kit's loader, under the emulator where there is one. With a stack of so many
     bytes, if a size is given."""
     tools = toolchain()
-    start = [os.path.join(tools, "lib", "ld-linux-x86-64.so.2"), "--library-path", os.path.join(tools, "lib"), repository.path("target", "bin", "board_cases")]
+    start = [os.path.join(tools, "lib", "ld-linux-x86-64.so.2"), "--library-path", os.path.join(tools, "lib"), path(name)]
     if emulator():
         return [emulator()] + (["-s", str(stack)] if stack else []) + start
     return ["sh", "-c", 'ulimit -s "$0" && exec "$@"', str(stack // 1024)] + start if stack else start
 
 
 def answers(text, stack=None):
-    """The lines that the program prints for a text of cases."""
-    told = subprocess.run(command(stack), input=text.encode(), capture_output=True).stdout.decode()
+    """The lines that `board_cases` prints for a text of cases."""
+    told = subprocess.run(command("board_cases", stack), input=text.encode(), capture_output=True).stdout.decode()
     return told.split("\n")[:-1]
+
+
+def many(start, sessions):
+    """What a program, started so, prints for each of many sessions, given to it one after the other, each after its length in
+    four bytes. None for all of them where that is not one answer for each, or it complains."""
+    stream = b"".join(len(session).to_bytes(4, "little") + session for session in sessions)
+    told = subprocess.run(start, input=stream, capture_output=True)
+    found = told.stdout.split(SESSION_END)
+    fine = told.returncode == 0 and not told.stderr and len(found) == len(sessions) + 1 and not found[-1]
+    return found[:-1] if fine else [None] * len(sessions)

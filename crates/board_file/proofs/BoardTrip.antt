@@ -1,12 +1,12 @@
--- The round trip of counts, of parts one after the other, and of a whole board, on the definitions: bytes that stand at a place read back, and what was read stands there by its bytes and breaks no rule.
+-- The round trip of counts, of parts one after the other, and of a whole board, on the definitions: bytes that stand at a place read back, and what was read breaks no rule and stands there by its bytes.
 use Prim.Native.Nat.{ℕ, zero, suc, _+_, _≤_}
 use native.Mathlib.Omega.{arith}
-use mathlib.Core.Path.{_≡_, refl, sym, ap, subst, _∙_}
+use mathlib.Core.Path.{_≡_, refl, sym, ap, _∙_}
 use mathlib.Core.Bool.{true}
 use mathlib.Core.List.{List, [], _∷_, _++_}
 use lib.ListN.{length}
 use lib.Seq.{length-take-le}
-use Rattle.number.specs.Outcomes.{Found, found, _>>=_}
+use Rattle.number.specs.Outcomes.{Found, found}
 use Rattle.number.specs.Refusals.{outOfRange, windingLacking}
 use Rattle.number.specs.Numbers.{numberBytes, Bytes}
 use Rattle.windings.specs.declared.Windings.{Windings}
@@ -17,15 +17,15 @@ use Rattle.board.specs.declared.Board.{Board}
 use Rattle.board.specs.Parts.{partsOf}
 use Rattle.board.specs.Rules.{inRange, countsFine, partFine, partsFine, boardFine}
 use Rattle.bits.proofs.BoolLaws.{both-true, true-both}
-use Rattle.board.proofs.PaddedLaws.{padded-length, padded-parts}
+use Rattle.board.proofs.PaddedLaws.{padded-parts}
 use Rattle.board.proofs.RuleLaws.{InRange, counts-in-range}
 use Rattle.board_reader.specs.Reading.{wanted, countsAt, partAt, partsAt, boardOf, boardFrom, boardAt}
-use Rattle.number.proofs.OutcomeLaws.{given-same, handed, passed}
 use Rattle.board_reader.proofs.FieldLaws.{range-within}
 use Rattle.board_reader.proofs.CountsLaws.{CountsFound, counts-found, counts-found-fine, counts-read}
 use Rattle.board_writer.specs.File.{countsBytes, partBytes, partsBytes, boardBytes}
 use Rattle.board_file.proofs.StandLaws.{Stands, stands-none, stands-append, stands-first, stands-second, wanted-reads, wanted-stands}
 use Rattle.board_file.proofs.PartTrip.{part-reads, PartRead, part-read}
+use Rattle.board_file.proofs.GivesLaws.{Gives, gives-then, gives-after, gives-unless}
 
 -- counts
 count-reads : (low high : ℕ) (s : List ℕ) (at next v : ℕ) → high ≤ 256 → low ≤ v → v ≤ high → Stands s at next (numberBytes v) → wanted (inRange low high) outOfRange s at ≡ found v next
@@ -67,36 +67,23 @@ parts-reads c (p ∷ ps) w s at next range fine here =
     let rest = parts-reads c ps (gained w (p .kind)) s mid next range (both .1) (stands-second s at next (partBytes p) (partsBytes ps) here) in
     rw (first, rest)
 
-record PartsRead (c : Counts) (n : ℕ) (w : Windings) (s : List ℕ) (at next : ℕ) (ps : List Part) : Type 0 where
-  counted : length ps ≡ n
-  stands : Stands s at next (partsBytes ps)
-  fine : partsFine c w ps ≡ true
+record PartsRead (c : Counts) (n : ℕ) (w : Windings) (s : List ℕ) (at : ℕ) (ps : Found (List Part)) : Type 0 where
+  counted : length (ps .value) ≡ n
+  fine : partsFine c w (ps .value) ≡ true
+  stands : Bytes s → Stands s at (ps .next) (partsBytes (ps .value))
 
-parts-none : (c : Counts) (w : Windings) (s : List ℕ) (at : ℕ) → complete (c .relays) w ≡ true → PartsRead c 0 w s at at []
-unfolding partsFine partsBytes
-parts-none c w s at fine = record { counted = refl; stands = stands-none s at; fine = fine }
-
-parts-one : (c : Counts) (n : ℕ) (w : Windings) (s : List ℕ) (at mid next : ℕ) (p : Part) (ps : List Part) → PartRead c w s at mid p → PartsRead c n (gained w (p .kind)) s mid next ps → PartsRead c (suc n) w s at next (p ∷ ps)
-unfolding partsFine partsBytes
-parts-one c n w s at mid next p ps first rest =
+parts-read : (c : Counts) (n : ℕ) (w : Windings) (s : List ℕ) (at : ℕ) → Gives (PartsRead c n w s at) (partsAt c n w s at)
+unfolding partsAt partsFine partsBytes
+parts-read c zero w s at = gives-unless _ (complete (c .relays) w) windingLacking at _ (λ full. record { counted = refl; fine = full; stands = λ bytes. stands-none s at })
+parts-read c (suc n) w s at =
+    gives-then (PartRead c w s at) _ (partAt c w s at) _ (part-read c w s at) (λ p first.
+    let w′ = gained w (p .value .kind) in
+    gives-then (PartsRead c n w′ s (p .next)) _ (partsAt c n w′ s (p .next)) _ (parts-read c n w′ s (p .next)) (λ ps rest.
     record {
       counted = ap suc (rest .counted);
-      stands = stands-append s at mid next (partBytes p) (partsBytes ps) (first .stands) (rest .stands);
       fine = true-both (first .fine) (rest .fine);
-    }
-
-parts-read : (c : Counts) (n : ℕ) (w : Windings) (s : List ℕ) (at next : ℕ) (ps : List Part) → Bytes s → partsAt c n w s at ≡ found ps next → PartsRead c n w s at next ps
-unfolding partsAt
-parts-read c zero w s at next ps bytes h =
-    let fine = passed (complete (c .relays) w) windingLacking at (found [] at) (record { value = ps; next = next }) h in
-    subst (λ (f : Found (List Part)). PartsRead c 0 w s at (f .next) (f .value)) (given-same _ _ (fine .1)) (parts-none c w s at (fine .0))
-parts-read c (suc n) w s at next ps bytes h =
-    let p = handed (partAt c w s at) (λ (p : Found Part). partsAt c n (gained w (p .value .kind)) s (p .next) >>= λ (f : Found (List Part)). found (p .value ∷ f .value) (f .next)) (record { value = ps; next = next }) h in
-    let rest = handed (partsAt c n (gained w (p .value .value .kind)) s (p .value .next)) (λ (f : Found (List Part)). found (p .value .value ∷ f .value) (f .next)) (record { value = ps; next = next }) (p .then) in
-    subst (λ (f : Found (List Part)). PartsRead c (suc n) w s at (f .next) (f .value)) (given-same _ _ (rest .then))
-    (parts-one c n w s at (p .value .next) (rest .value .next) (p .value .value) (rest .value .value)
-    (part-read c w (p .value .value) s at (p .value .next) bytes (p .first))
-    (parts-read c n (gained w (p .value .value .kind)) s (p .value .next) (rest .value .next) (rest .value .value) bytes (rest .first)))
+      stands = λ bytes. stands-append s at (p .next) (ps .next) _ _ (first .stands bytes) (rest .stands bytes);
+    }))
 
 -- a board. An array of parts has 256 places, which a list does not say by itself
 pub board-reads : (b : Board) (s : List ℕ) (next : ℕ) → length (b .parts) ≡ 256 → boardFine b ≡ true → Stands s 0 next (boardBytes b) → boardAt s ≡ found (boardOf (b .counts) (partsOf b)) next
@@ -111,30 +98,23 @@ board-reads b s next places fine here =
     let all : partsAt (b .counts) (b .counts .parts) noWindings s mid ≡ found (partsOf b) next = ap (λ (n : ℕ). partsAt (b .counts) n noWindings s mid) (sym counted) ∙ parts in
     rw (counts, all)
 
-pub record BoardRead (s : List ℕ) (next : ℕ) (b : Board) : Type 0 where
-  pub stands : Stands s 0 next (boardBytes b)
+pub record BoardRead (s : List ℕ) (b : Board) (next : ℕ) : Type 0 where
   pub fine : boardFine b ≡ true
-  pub places : length (b .parts) ≡ 256
+  pub stands : Bytes s → Stands s 0 next (boardBytes b)
 
-board-made : (c : Counts) (ps : List Part) (s : List ℕ) (mid next : ℕ) → countsFine c ≡ true → Stands s 0 mid (countsBytes c) → PartsRead c (c .parts) noWindings s mid next ps → BoardRead s next (boardOf c ps)
+board-made : (c : Counts) (s : List ℕ) (mid : ℕ) (ps : Found (List Part)) → CountsFound s c mid → PartsRead c (c .parts) noWindings s mid ps → BoardRead s (boardOf c (ps .value)) (ps .next)
 unfolding boardFine boardBytes
-board-made c ps s mid next range first rest =
-    let same : partsOf (boardOf c ps) ≡ ps = padded-parts c ps (sym (rest .counted)) in
-    let most = counts-in-range c range .most-parts in
+board-made c s mid ps first rest =
+    let same = padded-parts c (ps .value) (sym (rest .counted)) in
     record {
-      stands = rw same (stands-append s 0 mid next (countsBytes c) (partsBytes ps) first (rest .stands));
-      fine = true-both range (rw same (rest .fine));
-      places = padded-length ps (omega (arith, rest .counted));
+      fine = true-both (counts-found-fine s c mid first) (rw same (rest .fine));
+      stands = λ bytes. rw same (stands-append s 0 mid (ps .next) _ _ (counts-stand c s mid bytes first) (rest .stands bytes));
     }
 
-pub board-read : (s : List ℕ) (next : ℕ) (b : Board) → Bytes s → boardAt s ≡ found b next → BoardRead s next b
+pub board-read : (s : List ℕ) → Gives (λ (b : Found Board). BoardRead s (b .value) (b .next)) (boardAt s)
 unfolding boardAt boardFrom
-board-read s next b bytes h =
-    let c = handed (countsAt s) (λ (c : Found Counts). partsAt (c .value) (c .value .parts) noWindings s (c .next) >>= λ (ps : Found (List Part)). found (boardOf (c .value) (ps .value)) (ps .next)) (record { value = b; next = next }) h in
-    let ps = handed (partsAt (c .value .value) (c .value .value .parts) noWindings s (c .value .next)) (λ (ps : Found (List Part)). found (boardOf (c .value .value) (ps .value)) (ps .next)) (record { value = b; next = next }) (c .then) in
-    let read = counts-found s (c .value .value) (c .value .next) (c .first) in
-    subst (λ (f : Found Board). BoardRead s (f .next) (f .value)) (given-same _ _ (ps .then))
-    (board-made (c .value .value) (ps .value .value) s (c .value .next) (ps .value .next)
-    (counts-found-fine s (c .value .value) (c .value .next) read)
-    (counts-stand (c .value .value) s (c .value .next) bytes read)
-    (parts-read (c .value .value) (c .value .value .parts) noWindings s (c .value .next) (ps .value .next) (ps .value .value) bytes (ps .first)))
+board-read s =
+    gives-after _ (countsAt s) _ (λ c counts.
+    let parts = parts-read (c .value) (c .value .parts) noWindings s (c .next) in
+    gives-then (PartsRead (c .value) (c .value .parts) noWindings s (c .next)) _ (partsAt (c .value) (c .value .parts) noWindings s (c .next)) _ parts (λ ps rest.
+    board-made (c .value) s (c .next) ps (counts-found s (c .value) (c .next) counts) rest))

@@ -1,15 +1,13 @@
 -- The two round-trip theorems over the calls, from the round trip of a board on the definitions.
 use Prim.Native.Nat.{ℕ, _≤_}
 use native.Mathlib.Omega.{arith}
-use mathlib.Core.Path.{_≡_, refl, sym, ap, _∙_}
+use mathlib.Core.Path.{_≡_, refl, sym, ap, subst, _∙_}
 use mathlib.Core.Bool.{true}
 use mathlib.Core.List.{List, [], _++_, append-nil}
-use lib.Dec.{leb}
 use lib.ListN.{length, take, drop}
 use lib.Seq.{take-at, drop-at, length-take-le}
 use borrow.Author.Tests.{le-leb}
-use Rattle.number.specs.Outcomes.{Outcome, given, refused, Found, found}
-use Rattle.number.specs.Refusals.{inputTooLong}
+use Rattle.number.specs.Outcomes.{Outcome, given}
 use Rattle.board.specs.declared.Board.{Board}
 use Rattle.board.specs.Parts.{partsOf}
 use Rattle.board.specs.Rules.{boardFine, countsFine}
@@ -18,15 +16,16 @@ use Rattle.bits.proofs.BoolLaws.{both-true}
 use Rattle.board.proofs.PaddedLaws.{padded-parts}
 use Rattle.board.proofs.RuleLaws.{counts-in-range}
 use Rattle.board.proofs.SameLaws.{equal-same-board}
-use Rattle.board_reader.specs.Reading.{boardOf, boardAt, answered, reading}
-use Rattle.number.proofs.OutcomeLaws.{refused-never, given-same, passed}
+use Rattle.board_reader.specs.Reading.{boardOf, answered, reading}
 use Rattle.board_writer.specs.File.{boardBytes}
 use Rattle.board_writer.specs.Writing.{writing}
 use Rattle.board_writer.proofs.WriteLaws.{writing-with-room}
 use Rattle.board_writer.proofs.FileLaws.{board-file-bound, WasWritten, writing-given}
 use Rattle.board_file.specs.RoundTrip.{WriteThenRead, ReadThenWrite}
 use Rattle.board_file.proofs.StandLaws.{Stands}
-use Rattle.board_file.proofs.BoardTrip.{board-reads, board-read}
+use Rattle.board_file.proofs.GivesLaws.{Gives}
+use Rattle.board_file.proofs.BoardTrip.{board-reads, BoardRead}
+use Rattle.board_file.proofs.ReadFine.{read-fine}
 
 -- bytes stand at the start of an input that begins with them
 begins : (bytes rest : List ℕ) (n : ℕ) → n ≡ length bytes → Stands (bytes ++ rest) 0 n bytes
@@ -54,19 +53,6 @@ write-then-read b out out′ n w r places wrote told read =
     let back = read ∙ ap reading bytes ∙ reads-back b [] n places (written .fine) (written .count) few in
     (ap (λ (a : Board × Outcome ℕ). a .1) back, ap (λ (a : Board × Outcome ℕ). sameBoard b (a .0)) back ∙ same-again b places (written .fine))
 
--- an accepted read is a board that the definition found
-answer-given : (o : Outcome (Found Board)) (b : Board) (n : ℕ) → answered o ≡ (b, given n) → o ≡ found b n
-unfolding answered
-answer-given (given f) b n h =
-    let board : f .value ≡ b = ap (λ (a : Board × Outcome ℕ). a .0) h in
-    let next : f .next ≡ n = given-same (f .next) n (ap (λ (a : Board × Outcome ℕ). a .1) h) in
-    λ i. found (board i) (next i)
-answer-given (refused k p) b n h = absurd (refused-never k p n (ap (λ (a : Board × Outcome ℕ). a .1) h))
-
-reading-given : (s : List ℕ) (b : Board) (n : ℕ) → reading s ≡ (b, given n) → boardAt s ≡ found b n
-unfolding reading
-reading-given s b n h = passed (leb (length s) 65536) inputTooLong 0 (boardAt s) (record { value = b; next = n }) (answer-given _ b n h) .1
-
 -- a fine board is written where it has room
 writes : (b : Board) (out : List ℕ) (n : ℕ) → boardFine b ≡ true → n ≡ length (boardBytes b) → n ≤ length out → writing b out ≡ (given n, boardBytes b ++ drop n out)
 writes b out n fine long room =
@@ -75,9 +61,8 @@ writes b out n fine long room =
 pub read-then-write : ReadThenWrite
 read-then-write s out out′ n r w bytes read told wrote =
     let b = r .board in
-    let found-there = reading-given s b n (sym read ∙ ap (λ (o : Outcome ℕ). (b, o)) told) in
-    let was = board-read s n b bytes found-there in
-    let long : n ≡ length (boardBytes b) = omega (arith, was .stands .ends) in (
+    let was : BoardRead s b n = subst (λ (a : Board × Outcome ℕ). Gives (BoardRead s (a .0)) (a .1)) (sym read ∙ ap (λ (o : Outcome ℕ). (b, o)) told) (read-fine s) in
+    let long : n ≡ length (boardBytes b) = omega (arith, was .stands bytes .ends) in (
       was .fine,
       λ room.
           (let answer = wrote ∙ writes b out n (was .fine) long room in (
@@ -85,6 +70,6 @@ read-then-write s out out′ n r w bytes read told wrote =
             ap (λ (a : Outcome ℕ × List ℕ). take n (a .1)) answer
                 ∙ take-at (boardBytes b) (drop n out) n (sym long)
                 ∙ sym (take-at (boardBytes b) (drop n s) n (sym long))
-                ∙ ap (take n) (sym (was .stands .there)),
+                ∙ ap (take n) (sym (was .stands bytes .there)),
           )),
     )

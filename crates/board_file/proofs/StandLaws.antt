@@ -5,7 +5,7 @@ use mathlib.Core.Path.{_≡_, refl, sym, ap, _∙_}
 use mathlib.Core.Bool.{Bool, true}
 use mathlib.Core.List.{List, [], _++_, append-assoc}
 use lib.ListN.{length, drop, length-append}
-use Rattle.number.specs.Outcomes.{found}
+use Rattle.number.specs.Outcomes.{given, Found, found}
 use Rattle.number.specs.Numbers.{numberAt, numberBytes, largest, Bytes}
 use Rattle.number.proofs.Buffers.{drop-past}
 use Rattle.number.proofs.NumberLaws.{read-written, written-read}
@@ -40,13 +40,13 @@ module _ (s : List ℕ) (at next : ℕ) (xs ys : List ℕ) (both : Stands s at n
 pub number-reads : (s : List ℕ) (at next v : ℕ) → v ≤ largest → Stands s at next (numberBytes v) → numberAt s at ≡ found v next
 number-reads s at next v small here = read-written s at v (drop next s) small (here .there) ∙ ap (found v) (sym (here .ends))
 
-pub number-stands : (s : List ℕ) (at next v : ℕ) → Bytes s → numberAt s at ≡ found v next → Stands s at next (numberBytes v)
-number-stands s at next v bytes h =
-    let read = written-read s at v next bytes h in
+pub number-stands : (s : List ℕ) (at : ℕ) (v : Found ℕ) → numberAt s at ≡ given v → Bytes s → Stands s at (v .next) (numberBytes (v .value))
+number-stands s at v h bytes =
+    let read = written-read s at (v .value) (v .next) bytes h in
     record { there = read .bytes; ends = read .next }
 
 pub wanted-reads : (ok : ℕ → Bool) (n : ℕ) (s : List ℕ) (at next v : ℕ) → v ≤ largest → ok v ≡ true → Stands s at next (numberBytes v) → wanted ok n s at ≡ found v next
 wanted-reads ok n s at next v small fine here = wanted-passes ok n s at v next (number-reads s at next v small here) fine
 
 pub wanted-stands : (ok : ℕ → Bool) (n : ℕ) (s : List ℕ) (at next v : ℕ) → Bytes s → wanted ok n s at ≡ found v next → Stands s at next (numberBytes v)
-wanted-stands ok n s at next v bytes h = number-stands s at next v bytes (wanted-found ok n s at v next h .1)
+wanted-stands ok n s at next v bytes h = number-stands s at (record { value = v; next = next }) (wanted-found ok n s at v next h .1) bytes

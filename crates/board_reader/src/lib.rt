@@ -11,7 +11,7 @@ use board::Board;
 use number::Refusal;
 
 // The longest input that is read.
-const LONGEST_INPUT: usize = 65_536;
+pub const LONGEST_INPUT: usize = 65_536;
 
 // What reading came to: the place just after what was read, or the refusal.
 pub enum ReadAnswer {

@@ -2,4 +2,3 @@
 pub mod LookMeans
 pub mod RunMeans
 pub mod Exactly
-pub mod Table

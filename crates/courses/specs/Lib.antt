@@ -1,3 +1,2 @@
 -- The statements, in reading order.
 pub mod Courses
-pub mod RunsTried

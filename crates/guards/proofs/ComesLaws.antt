@@ -20,7 +20,7 @@ use Rattle.guards.specs.SingleMoves.{NeedsMore, Comes}
 use Rattle.guards.proofs.WordLaws.{Within, WordSays}
 
 module _ (b : Board) (w : ℕ) (s : State) (r : ℕ) where
-  drawn-apart : isDrawn s r ≡ true → isDrawn s r ≡ false → ⊥
+  pub drawn-apart : isDrawn s r ≡ true → isDrawn s r ≡ false → ⊥
   drawn-apart on off = false≢true (sym off ∙ on)
 
   within-both : Within b w s r First → Within b w s r Second → ¬ (NeedsMore b w s r)
@@ -33,7 +33,7 @@ module _ (b : Board) (w : ℕ) (s : State) (r : ℕ) where
   -- ---- a regular relay
 
   module _ (below : r < b .counts .relays) (regular : isRegular r (partsOf b)) where
-    regular-one : ¬ (BothCurrents b s r)
+    pub regular-one : ¬ (BothCurrents b s r)
     regular-one both = omega (arith, regular .0, both .1 .0 .0)
 
     regular-draw : CanDraw b s r → CanDrawRegular b s r

@@ -1,5 +1,6 @@
--- The theorems of specs/SingleMoves.antt, and the laws that they go by.
+-- The theorems of specs/SingleMoves.antt and specs/ByChains.antt, and the laws that they go by.
 pub mod CurrentLaws
 pub mod WordLaws
 pub mod ComesLaws
 pub mod Exactly
+pub mod ChainMoves

@@ -2,6 +2,7 @@
 -- Every crate that reads or writes numbers cites these, and nothing of the definitions' text. They are the laws of FormLaws at the rule book's longest form.
 -- Assumes nothing.
 use mathlib.Core.Path.{_≡_, refl, sym, ap, _∙_}
+use mathlib.Core.Logic.{_⊎_, inl, inr}
 use mathlib.Core.Bool.{Bool, true, false, cond}
 use mathlib.Core.List.{List, [], _∷_, _++_}
 use Prim.Native.Nat.{ℕ, _+_, _-_, _^_, _≤_, _<_}
@@ -64,6 +65,21 @@ placed-found len at Bad v n e = absurd (never-refused badForm at v n e)
 placed-as : (len at v m : ℕ) → v ≤ largest → placed len at (Got v m) ≡ found v (at + m)
 unfolding placed
 placed-as len at v m h = rw (le-leb v largest h)
+
+-- a number is refused by 1 at the input's end or by 2 at its place, and by nothing else
+placed-refused : (len at : ℕ) (f : Form) (n p : ℕ) → placed len at f ≡ refused n p → ((n ≡ inputEnds) × (p ≡ len)) ⊎ ((n ≡ badForm) × (p ≡ at))
+unfolding placed
+placed-refused len at (Got v m) n p e = by (leb v largest) e
+  where
+    by : (t : Bool) → cond t (found v (at + m)) (refused badForm at) ≡ refused n p → ((n ≡ inputEnds) × (p ≡ len)) ⊎ ((n ≡ badForm) × (p ≡ at))
+    by true e = absurd (never-refused n p v (at + m) (sym e))
+    by false e = inr (cc, cc)
+placed-refused len at Ends n p e = inl (cc, cc)
+placed-refused len at Bad n p e = inr (cc, cc)
+
+pub number-refusal : (s : List ℕ) (at n p : ℕ) → numberAt s at ≡ refused n p → ((n ≡ inputEnds) × (p ≡ length s)) ⊎ ((n ≡ badForm) × (p ≡ at))
+unfolding numberAt
+number-refusal s at = placed-refused (length s) at (form longest (drop at s))
 
 number-placed : (s : List ℕ) (at v n : ℕ) → numberAt s at ≡ found v n → Placed at (form longest (drop at s)) v n
 unfolding numberAt

@@ -48,7 +48,7 @@ unrun-log r n p s log e = λ i. record { word = e i .word; moves = e i .moves; s
 
 -- ---- the answer's cases are told apart
 
-told-word-once : (x y : Word) → toldWord x ≡ toldWord y → x ≡ y
+pub told-word-once : (x y : Word) → toldWord x ≡ toldWord y → x ≡ y
 told-word-once Idle Idle e = refl
 told-word-once Idle Spent e = cc
 told-word-once Idle Undecided e = cc

@@ -1,5 +1,5 @@
 -- The theorems of specs/Exactness.antt: the list holds exactly the rule book's chains, and a verdict says of them exactly what it should.
-use Prim.Native.Nat.{ℕ, _+_, _<_, _≤_}
+use Prim.Native.Nat.{ℕ, _<_, _≤_}
 use native.Mathlib.Omega.{arith}
 use mathlib.Core.Path.{_≡_, refl, sym, ap, subst, _∙_}
 use mathlib.Core.Logic.{_⊎_, inl, inr}

@@ -2,4 +2,3 @@
 pub mod Exact
 pub mod Allowed
 pub mod Elevens
-pub mod Table

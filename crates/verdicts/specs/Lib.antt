@@ -2,4 +2,3 @@
 pub mod Exactness
 pub mod Allowances
 pub mod Eleven
-pub mod Tried

@@ -1,0 +1,108 @@
+-- What each call tells, by what stands against it; and what it leaves where that is a refusal.
+use Prim.Native.Nat.{ℕ}
+use mathlib.Core.Path.{_≡_, refl, sym, ap, _∙_}
+use mathlib.Core.Bool.{Bool, true, false, cond}
+use mathlib.Core.List.{List, [], _∷_}
+use mathlib.Core.Option.{Option, none, some}
+use lib.Dec.{leb}
+use lib.ListN.{length}
+use Rattle.number.specs.Outcomes.{Outcome, given, refused, _>>_}
+use Rattle.number.specs.Refusals.{bufferTooShort}
+use Rattle.number.proofs.OutcomeLaws.{refused-never}
+use Rattle.board.specs.declared.Board.{Board}
+use Rattle.state.specs.declared.State.{State}
+use Rattle.state.specs.States.{left}
+use Rattle.board_writer.specs.declared.Written.{Written}
+use Rattle.board_writer.specs.declared.Written.the-variants.{Bytes, Refused}
+use Rattle.board_writer.specs.Writing.{toldWritten, bytesWritten}
+use Rattle.search.specs.declared.Winding.{Winding}
+use Rattle.search.specs.Verdicts.{settled, unsettled, firstShown, effort, weighed, judgement, unanswered, places}
+use Rattle.judge.specs.Judging.{verdictOn}
+use Rattle.moves.specs.Steps.{Move}
+use Rattle.runs.specs.Runs.{noRelay}
+use Rattle.runs.specs.Running.{unrun, ran, ranOn}
+use Rattle.lines.specs.Lines.{longestLine}
+use Rattle.session.specs.Carried.{Carried, Coming, line, none, nextOf}
+use Rattle.session.specs.HandingOut.{handedBy, handing}
+use Rattle.demands.specs.EveryCallComesBack.{against, firstNo, lineLines}
+
+-- ---- what a call leaves beside what it came to
+module _ {A : Type 0} (s : State) (f : A → State) where
+  pub left-outcome : (o : Outcome A) → left s f o .1 ≡ o
+  unfolding left
+  left-outcome (given a) = refl
+  left-outcome (refused n p) = refl
+
+  pub left-refused : (o : Outcome A) (n p : ℕ) → left s f o .1 ≡ refused n p → left s f o .0 ≡ s
+  unfolding left
+  left-refused (given a) n p e = absurd (refused-never n p a (sym e))
+  left-refused (refused m q) n p e = refl
+
+pub against-then : (o : Outcome (Unit {0})) (m : Move) → against (o >> given m) ≡ o
+against-then (given u) m = refl
+against-then (refused n p) m = refl
+
+pub nothing-written : (w : Written) (n p : ℕ) → toldWritten w ≡ refused n p → bytesWritten w ≡ 0
+nothing-written (Bytes k) n p e = absurd (refused-never n p k (sym e))
+nothing-written (Refused r) n p e = refl
+
+-- ---- judging
+settled-given : (e : ℕ) (c : Option (List ℕ)) → against (settled e c .word) ≡ given tt
+settled-given e (some c) = refl
+settled-given e none = refl
+
+weighed-given : (t : List ℕ → Bool) (cs : List (List ℕ)) (w : ℕ) → against (weighed t cs w .word) ≡ given tt
+unfolding weighed
+weighed-given t cs w = by (leb (effort t cs) w)
+  where
+    by : (within : Bool) → against ((cond within (settled (effort t cs) (firstShown t cs)) (unsettled w)) .word) ≡ given tt
+    by true = settled-given (effort t cs) (firstShown t cs)
+    by false = refl
+
+judged-given : (b : Board) (s : State) (w : ℕ) (v : Winding) → against (verdictOn b s w (given v) .word) ≡ given tt
+unfolding judgement
+judged-given b s w v = weighed-given _ _ w
+
+module _ (b : Board) (s : State) (w : ℕ) where
+  pub verdict-against : (o : Outcome Winding) → against (verdictOn b s w o .word) ≡ against o
+  verdict-against (given v) = judged-given b s w v
+  verdict-against (refused n p) = refl
+
+  pub verdict-refused : (o : Outcome Winding) (n p : ℕ) → verdictOn b s w o .word ≡ refused n p → verdictOn b s w o ≡ unanswered n p
+  verdict-refused (given v) n p e = absurd (refused-never n p tt (sym (ap against e) ∙ judged-given b s w v))
+  verdict-refused (refused m q) n p e = λ i. record { word = e i; effort = 0; length = 0; places = places [] }
+
+  -- ---- running
+  module _ (log : List ℕ) where
+    pub ran-against : (o : Outcome (Unit {0})) → against (ranOn b s w log o .word) ≡ o
+    unfolding ran
+    ran-against (given u) = refl
+    ran-against (refused n p) = refl
+
+    pub ran-refused : (o : Outcome (Unit {0})) (n p : ℕ) → ranOn b s w log o .word ≡ refused n p → ranOn b s w log o ≡ unrun n p s log
+    unfolding ran
+    ran-refused (given u) n p e = absurd (refused-never n p _ (sym e))
+    ran-refused (refused m q) n p e = λ i. record { word = e i; moves = 0; state = s; relay = noRelay; log = log }
+
+-- ---- handing out a line
+module _ (z : Carried) (s out : List ℕ) where
+  handed-given : (x : Carried × Coming) → against (handedBy x out .answer) ≡ given tt
+  unfolding handedBy
+  handed-given (y, line l) = refl
+  handed-given (y, none) = refl
+
+  pub handing-against : against (handing z s out .answer) ≡ firstNo (lineLines out)
+  unfolding handing firstNo
+  handing-against = by (leb longestLine (length out))
+    where
+      by : (t : Bool) → against ((cond t (handedBy (nextOf z s) out) (record { session = z; answer = refused bufferTooShort 0; out = out })) .answer) ≡ firstNo ((t, bufferTooShort) ∷ [])
+      by true = handed-given (nextOf z s)
+      by false = refl
+
+  pub handing-refused : (n p : ℕ) → handing z s out .answer ≡ refused n p → (handing z s out .session ≡ z) × (handing z s out .out ≡ out)
+  unfolding handing
+  handing-refused n p = by (leb longestLine (length out))
+    where
+      by : (t : Bool) → (let x = cond t (handedBy (nextOf z s) out) (record { session = z; answer = refused bufferTooShort 0; out = out }) in x .answer ≡ refused n p → (x .session ≡ z) × (x .out ≡ out))
+      by true e = absurd (refused-never n p tt (sym (ap against e) ∙ handed-given (nextOf z s)))
+      by false e = (refl, refl)

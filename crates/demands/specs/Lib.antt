@@ -1,0 +1,6 @@
+-- The statements, in reading order.
+pub mod EveryCallComesBack
+pub mod AsTheModelSays
+pub mod LargerNeverChanges
+pub mod Starred
+pub mod OneAnswer

@@ -1,0 +1,168 @@
+-- The rule book's "Boards to try" as one table: the starred ones, and the others that compute quickly. The rest are run and compared.
+--     h0 .. h6, pair            the boards; `pair` is one of ours, on which two relays can move at once
+--     h0File, h2Session         H0 as a file, H2 as a session, byte by byte as the rule book prints them
+--     h2Lines, h0Line           what H2 and H0 print, character by character
+--     Row                       a call and the answer that the rule book states for it:
+--       reads s b o               `read` of the bytes s: the board, and the place just after it or the refusal
+--       judges b s k w j          `judge` of winding k of relay 0 of board b in state s within the allowance w
+--       moves b s w t m           `move_relay` of relay 0: the word m, and the state t
+--       runs b s w log e m t r l  `run` over the lent log: the word e, m moves, the state t, the relay r, and the log l afterwards
+--       prints s x                a session and all that it prints
+--     Holds x                   the row's call comes to its answer
+--     starred, Starred          the table; every row of it holds
+use Prim.Native.Nat.{ℕ}
+use mathlib.Core.Path.{_≡_}
+use mathlib.Core.List.{List, [], _∷_, _++_}
+use mathlib.Core.Option.{none, some}
+use lib.ListN.{length, replicate}
+use Rattle.lists.specs.Members.{All}
+use Rattle.number.specs.Outcomes.{Outcome, given, refused}
+use Rattle.number.specs.Refusals.{inputEnds, badForm, outOfRange}
+use Rattle.kinds.specs.declared.Kind.{Kind}
+use Rattle.kinds.specs.declared.Kind.the-variants.{Wire, Lower, Button, Regular, Drawing, Dropping}
+use Rattle.board.specs.declared.Part.{Part}
+use Rattle.board.specs.declared.Board.{Board}
+use Rattle.board.specs.Parts.{padded, emptyBoard}
+use Rattle.state.specs.declared.State.{State}
+use Rattle.state.specs.States.{freshState, withDrawn, withPushed, withReleased}
+use Rattle.board_reader.specs.Reading.{reading}
+use Rattle.search.specs.Verdicts.{Judgement, settled, unsettled}
+use Rattle.judge.specs.declared.Which.{Which}
+use Rattle.judge.specs.declared.Which.the-variants.{First, Second}
+use Rattle.judge.specs.Judging.{judging}
+use Rattle.moves.specs.Steps as step
+use Rattle.moves.specs.Moving.{moving}
+use Rattle.runs.specs.Looks.{Ending, idle, spent, undecided, conflict}
+use Rattle.runs.specs.Runs.{noRelay}
+use Rattle.runs.specs.Running.{running}
+use Rattle.session.specs.Sessions.{sessionText}
+
+abbrev pub part : Kind → ℕ → ℕ → Part
+part k x y = record { a = x; b = y; kind = k }
+
+abbrev pub board : ℕ → ℕ → ℕ → List Part → Board
+board t r b ps = record { counts = record { terminals = t; relays = r; buttons = b; parts = length ps }; parts = padded ps }
+
+-- `02 00 00 00`
+abbrev pub h0File : List ℕ
+h0File = 2 ∷ 0 ∷ 0 ∷ 0 ∷ []
+
+abbrev pub h0 : Board
+h0 = board 2 0 0 []
+
+-- T 3, button 0 on 0-2, regular winding on 2-1
+abbrev pub h1 : Board
+h1 = board 3 1 1 (part (Button 0) 0 2 ∷ part (Regular 0) 2 1 ∷ [])
+
+-- `03 01 01 03 03 00 02 00 01 00 02 00 04 02 01 00 64 01 00`
+abbrev pub h2Session : List ℕ
+h2Session = 3 ∷ 1 ∷ 1 ∷ 3 ∷ 3 ∷ 0 ∷ 2 ∷ 0 ∷ 1 ∷ 0 ∷ 2 ∷ 0 ∷ 4 ∷ 2 ∷ 1 ∷ 0 ∷ 100 ∷ 1 ∷ 0 ∷ []
+
+-- "0 idle 0 0", "1 idle 1 1", "2 idle 0 1", each with a line end
+abbrev pub h2Lines : List ℕ
+h2Lines =
+    48 ∷ 32 ∷ 105 ∷ 100 ∷ 108 ∷ 101 ∷ 32 ∷ 48 ∷ 32 ∷ 48 ∷ 10 ∷
+    49 ∷ 32 ∷ 105 ∷ 100 ∷ 108 ∷ 101 ∷ 32 ∷ 49 ∷ 32 ∷ 49 ∷ 10 ∷
+    50 ∷ 32 ∷ 105 ∷ 100 ∷ 108 ∷ 101 ∷ 32 ∷ 48 ∷ 32 ∷ 49 ∷ 10 ∷
+    []
+
+abbrev pub h0Line : List ℕ
+h0Line = 48 ∷ 32 ∷ 105 ∷ 100 ∷ 108 ∷ 101 ∷ 32 ∷ 48 ∷ 32 ∷ 48 ∷ 10 ∷ []
+
+-- T 3, lower contact of relay 0 on 0-2, its winding on 2-1
+abbrev pub h3 : Board
+h3 = board 3 1 0 (part (Lower 0) 0 2 ∷ part (Regular 0) 2 1 ∷ [])
+
+-- T 5, wires 0-2, 2-3, 4-2, winding 3-4
+abbrev pub h4 : Board
+h4 = board 5 1 0 (part Wire 0 2 ∷ part Wire 2 3 ∷ part Wire 4 2 ∷ part (Regular 0) 3 4 ∷ [])
+
+-- with a wire 2-1 more
+abbrev pub h4wired : Board
+h4wired = board 5 1 0 (part Wire 0 2 ∷ part Wire 2 3 ∷ part Wire 4 2 ∷ part (Regular 0) 3 4 ∷ part Wire 2 1 ∷ [])
+
+-- T 4, buttons 0 on 0-2 and 1 on 0-3, drawing winding 2-1, dropping winding 3-1
+abbrev pub h5 : Board
+h5 = board 4 1 2 (part (Button 0) 0 2 ∷ part (Button 1) 0 3 ∷ part (Drawing 0) 2 1 ∷ part (Dropping 0) 3 1 ∷ [])
+
+-- T 3, wires 0-2 and 2-1, winding 2-1
+abbrev pub h6 : Board
+h6 = board 3 1 0 (part Wire 0 2 ∷ part Wire 2 1 ∷ part (Regular 0) 2 1 ∷ [])
+
+-- T 3, wire 0-2, windings of relays 1 and 0 on 2-1
+abbrev pub pair : Board
+pair = board 3 2 0 (part Wire 0 2 ∷ part (Regular 1) 2 1 ∷ part (Regular 0) 2 1 ∷ [])
+
+abbrev pub pushed0 : State
+pushed0 = withPushed freshState 0
+
+abbrev pub pushedBoth : State
+pushedBoth = withPushed pushed0 1
+
+abbrev pub drawn0 : State → State
+drawn0 s = withDrawn s 0
+
+abbrev pub live : ℕ → List ℕ → Judgement
+live e c = settled e (some c)
+
+abbrev pub dead : ℕ → Judgement
+dead e = settled e none
+
+-- a lent log of so many bytes, each 7
+abbrev pub lent : ℕ → List ℕ
+lent n = replicate n 7
+
+pub data Row : Type 0 where
+  reads : List ℕ → Board → Outcome ℕ → Row
+  judges : Board → State → Which → ℕ → Judgement → Row
+  moves : Board → State → ℕ → State → step.Move → Row
+  runs : Board → State → ℕ → List ℕ → Ending → ℕ → State → ℕ → List ℕ → Row
+  prints : List ℕ → List ℕ → Row
+
+abbrev pub Holds : Row → Type 0
+Holds (reads s b o) = reading s ≡ (b, o)
+Holds (judges b s k w j) = judging b s 0 k w ≡ j
+Holds (moves b s w t m) = moving b s 0 w ≡ (t, given m)
+Holds (runs b s w log e m t r l) = running b s w log ≡ record { word = given e; moves = m; state = t; relay = r; log = l }
+Holds (prints s x) = sessionText s ≡ x
+
+abbrev pub starred : List Row
+starred =
+    reads h0File h0 (given 4)
+    ∷ runs h0 freshState 100 (lent 2) idle 0 freshState noRelay (lent 2)
+    ∷ runs h0 freshState 100 [] idle 0 freshState noRelay []
+    ∷ reads [] emptyBoard (refused inputEnds 0)
+    ∷ reads (1 ∷ 0 ∷ 0 ∷ 0 ∷ []) emptyBoard (refused outOfRange 0)
+    ∷ reads (65 ∷ 0 ∷ 0 ∷ 0 ∷ []) emptyBoard (refused outOfRange 0)
+    ∷ reads (64 ∷ 0 ∷ 0 ∷ 0 ∷ []) (board 64 0 0 []) (given 4)
+    ∷ judges h1 freshState First 100 (dead 1)
+    ∷ judges h1 pushed0 First 100 (live 3 (0 ∷ 2 ∷ 1 ∷ []))
+    ∷ judges h1 pushed0 First 2 (unsettled 2)
+    ∷ prints h2Session h2Lines
+    ∷ runs h3 freshState 100 (lent 5) spent 5 (drawn0 freshState) 0 (128 ∷ 0 ∷ 128 ∷ 0 ∷ 128 ∷ [])
+    ∷ runs h3 freshState 100 [] spent 0 freshState 0 []
+    ∷ judges h4 freshState First 100 (dead 6)
+    ∷ judges h4 freshState First 5 (unsettled 5)
+    ∷ judges h4wired freshState First 100 (dead 7)
+    ∷ judges h5 pushedBoth First 100 (live 3 (0 ∷ 2 ∷ 1 ∷ []))
+    ∷ judges h5 pushedBoth Second 100 (live 5 (0 ∷ 3 ∷ 1 ∷ []))
+    ∷ judges h5 pushedBoth Second 4 (unsettled 4)
+    ∷ moves h5 pushedBoth 100 pushedBoth step.conflict
+    ∷ moves h5 pushedBoth 4 pushedBoth step.undecided
+    ∷ moves h5 pushed0 100 (drawn0 pushed0) step.drew
+    ∷ moves h5 (drawn0 freshState) 100 (drawn0 freshState) step.rests
+    ∷ runs h5 pushedBoth 100 (lent 2) conflict 0 pushedBoth 0 (lent 2)
+    ∷ runs h5 pushedBoth 4 (lent 2) undecided 0 pushedBoth 0 (lent 2)
+    ∷ runs h5 pushed0 100 (lent 2) idle 1 (drawn0 pushed0) noRelay (128 ∷ 7 ∷ [])
+    ∷ runs h5 pushed0 100 (lent 1) idle 1 (drawn0 pushed0) noRelay (128 ∷ [])
+    ∷ runs h5 (withReleased (drawn0 pushed0) 0) 100 (lent 2) idle 0 (drawn0 freshState) noRelay (lent 2)
+    ∷ judges h6 freshState First 100 (live 3 (0 ∷ 2 ∷ 1 ∷ []))
+    ∷ runs pair freshState 100 (lent 3) idle 2 (withDrawn (drawn0 freshState) 1) noRelay (128 ∷ 129 ∷ 7 ∷ [])
+    ∷ reads (128 ∷ 0 ∷ []) emptyBoard (refused badForm 0)
+    ∷ reads (128 ∷ 128 ∷ []) emptyBoard (refused inputEnds 2)
+    ∷ reads (128 ∷ 128 ∷ 128 ∷ []) emptyBoard (refused badForm 0)
+    ∷ prints (h0File ++ (255 ∷ 255 ∷ 127 ∷ [])) h0Line
+    ∷ []
+
+abbrev pub Starred : Type 0
+Starred = All Holds starred

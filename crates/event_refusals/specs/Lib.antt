@@ -1,0 +1,3 @@
+-- The statements.
+pub mod EventRefusals
+pub mod LinesDrawn

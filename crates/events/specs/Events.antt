@@ -1,0 +1,52 @@
+-- One event of a session. Rule book: "then events to the end: 2 x button + 1 pushes, 2 x button releases"; "One line for the first run (event 0), then one for each event"; "An event refused by 12 prints its number, `refused` and 12; nothing is run"; "After spent, undecided or conflict the next event acts on the state left."
+--     eventAt b s at         the event at a place of the input: a number (1, 2) that names a button of the board (7)
+--     pressing b t v         the event v pushes or releases its button in state t
+--     sessionLog             "a log of 4,096"
+--     Shown                  a line, and the state after what it tells
+--     tells e r              event e tells what a run answers: its word, its moves and the drawn relays
+--     ranLine b w e t        event e tells of a run from state t
+--     pressedLine b w e x    event e tells of the push or release x: of the run from the state that it leaves, or of its refusal
+--     eventLine b w e t v    event e, which is v, in state t
+--     toldShown              the code's line in the rule book's words
+use Prim.Native.Nat.{ℕ, _/_, _%_}
+use mathlib.Core.Bool.{cond}
+use mathlib.Core.List.{List}
+use lib.Dec.{ltb, eqb}
+use lib.ListN.{replicate}
+use Rattle.number.specs.Outcomes.{Outcome, given, refused, Found}
+use Rattle.number.specs.Refusals.{noSuchName}
+use Rattle.board.specs.declared.Board.{Board}
+use Rattle.state.specs.declared.State.{State}
+use Rattle.presses.specs.Presses.{pushing, releasing}
+use Rattle.board_reader.specs.Reading.{wanted}
+use Rattle.runs.specs.Running.{Told, running}
+use Rattle.lines.specs.Lines.{Line, event, toldLine}
+use Rattle.events.specs.declared.Shown as code
+
+unfoldable pub eventAt : Board → List ℕ → ℕ → Outcome (Found ℕ)
+eventAt b s at = wanted (λ v. ltb (v / 2) (b .counts .buttons)) noSuchName s at
+
+unfoldable pub pressing : Board → State → ℕ → State × Outcome (Unit {0})
+pressing b t v = cond (eqb (v % 2) 1) (pushing b t (v / 2)) (releasing b t (v / 2))
+
+abbrev pub sessionLog : List ℕ
+sessionLog = replicate 4096 0
+
+abbrev pub Shown : Type 0
+Shown = Line × State
+
+abbrev pub tells : ℕ → Told → Shown
+tells e r = (event e (r .word) (r .moves) (r .state .drawn), r .state)
+
+unfoldable pub ranLine : Board → ℕ → ℕ → State → Shown
+ranLine b w e t = tells e (running b t w sessionLog)
+
+unfoldable pub pressedLine : Board → ℕ → ℕ → State × Outcome (Unit {0}) → Shown
+pressedLine b w e (t, given u) = ranLine b w e t
+pressedLine b w e (t, refused n p) = (event e (refused n p) 0 (t .drawn), t)
+
+unfoldable pub eventLine : Board → ℕ → ℕ → State → ℕ → Shown
+eventLine b w e t v = pressedLine b w e (pressing b t v)
+
+abbrev pub toldShown : code.Shown → Shown
+toldShown r = (toldLine (r .line), r .state)

@@ -1,0 +1,61 @@
+-- The lines that are handed out one after the other are the session's lines, for every input.
+--     Begun s z               z is what `begin` answers on the input s
+--     Called z s out r out′   `next_line` on the session z, the input s and the lent buffer `out` answers r and leaves out′
+--     Hands s z t y           a call on z hands out the text t, and leaves the session y to carry on
+--     HandsOut s z ts z′      calls from z on hand out the texts ts, one after the other, and leave the session z′
+--     Tells ts r out′         r hands out the first of the texts ts; where there is none, it says so
+--     SoFar s z ts            the texts ts are the first of the session's lines, and whatever buffer with room is lent next, what comes is the next of them
+--     LinesHandedOut          whatever calls have handed out from the beginning on, it is so
+--     AllHandedOut            and once a call says that there is none, they are all of the session's lines
+use Prim.Native.Nat.{ℕ, _≤_}
+use mathlib.Core.Path.{_≡_}
+use mathlib.Core.List.{List, [], _∷_, _++_}
+use lib.ListN.{length, take}
+use Rattle.lines.specs.Lines.{longestLine}
+use Rattle.session.specs.declared.Session.{Session}
+use Rattle.session.specs.declared.Handed.{Handed}
+use Rattle.session.specs.declared.HandOut.the-variants.{Line, Over}
+use Rattle.session.specs.Sessions.{sessionLines, lineTexts}
+use Rattle.session.specs.Carried.{opening, toldSession}
+use Rattle.session.specs.HandingOut.{handing, toldHanded}
+
+abbrev pub Begun : List ℕ → Session → Type 0
+Begun s z = toldSession z ≡ opening s
+
+abbrev pub Called : Session → List ℕ → List ℕ → Handed → List ℕ → Type 0
+Called z s out r out′ = toldHanded r out′ ≡ handing (toldSession z) s out
+
+pub record Hands (s : List ℕ) (z : Session) (t : List ℕ) (y : Session) : Type 0 where
+  pub out : List ℕ
+  pub out′ : List ℕ
+  pub answer : Handed
+  pub bytes : ℕ
+  pub called : Called z s out answer out′
+  pub line : answer .answer ≡ Line bytes
+  pub text : take bytes out′ ≡ t
+  pub after : answer .session ≡ y
+
+abbrev pub HandsOut : List ℕ → Session → List (List ℕ) → Session → Type 0
+HandsOut s z [] z′ = z ≡ z′
+HandsOut s z (t ∷ ts) z′ = (y : Session) × (Hands s z t y × HandsOut s y ts z′)
+
+abbrev pub Tells : List (List ℕ) → Handed → List ℕ → Type 0
+Tells [] r out′ = r .answer ≡ Over
+Tells (t ∷ ts) r out′ = (r .answer ≡ Line (length t)) × (take (length t) out′ ≡ t)
+
+pub record SoFar (s : List ℕ) (z : Session) (ts : List (List ℕ)) : Type 0 where
+  pub rest : List (List ℕ)
+  pub all : lineTexts (sessionLines s) ≡ ts ++ rest
+  pub next : (out out′ : List ℕ) (r : Handed) → longestLine ≤ length out → Called z s out r out′ → Tells rest r out′
+
+abbrev pub LinesHandedOut : Type 0
+LinesHandedOut = (s : List ℕ) (z z′ : Session) (ts : List (List ℕ)) → Begun s z → HandsOut s z ts z′ → SoFar s z′ ts
+
+abbrev pub AllHandedOut : Type 0
+AllHandedOut =
+    (s : List ℕ) (z z′ : Session) (ts : List (List ℕ)) (out out′ : List ℕ) (r : Handed)
+    → Begun s z
+    → HandsOut s z ts z′
+    → Called z′ s out r out′
+    → r .answer ≡ Over
+    → ts ≡ lineTexts (sessionLines s)

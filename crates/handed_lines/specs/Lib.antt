@@ -1,0 +1,2 @@
+-- The statements, in reading order.
+pub mod HandedLines

@@ -1,0 +1,47 @@
+-- The lines of a session. Rule book, "The session program": "One line for the first run (event 0), then one for each event: event number, word, moves, and the sum of 2 to the relay number over drawn relays. An event refused by 12 prints its number, `refused` and 12"; "A bad file or event prints `refused`, number, place, and ends".
+--     event e w m d          the line of event e: the word w of its run or what refused it, m moves, and the drawn relays as the word d of bits, which is that sum
+--     closing n p            the line that ends a session: refused by n at place p
+--     lineText               a line as text, with its line end
+--     longestLine            the room that a line's buffer must have
+--     lineWriting l out      what writing the line l into the buffer `out` answers, and the buffer afterwards: "Written bytes begin the buffer; the rest stays"
+--     toldLine, toldLength   a line and an answer in the rule book's words and numbers
+use Prim.Native.Nat.{ℕ}
+use mathlib.Core.Bool.{cond}
+use mathlib.Core.List.{List, _++_}
+use lib.Dec.{leb}
+use lib.ListN.{length, drop}
+use Rattle.number.specs.Outcomes.{Outcome, given, refused}
+use Rattle.number.specs.Refusals.{bufferTooShort}
+use Rattle.runs.specs.Looks.{Ending}
+use Rattle.runs.specs.Running.{toldWord}
+use Rattle.lines.specs.declared.Line as code
+use Rattle.lines.specs.declared.Line.the-variants.{Event, Closing}
+use Rattle.lines.specs.declared.LineWritten.{LineWritten}
+use Rattle.lines.specs.declared.LineWritten.the-variants.{Length, Refused}
+use Rattle.lines.specs.Texts.{decimal, spaced, ended, refusedText, wordText}
+
+pub data Line : Type 0 where
+  event : ℕ → Outcome Ending → ℕ → ℕ → Line
+  closing : ℕ → ℕ → Line
+
+unfoldable pub lineText : Line → List ℕ
+lineText (event e (given w) m d) = spaced (decimal e) ++ spaced (wordText (given w)) ++ spaced (decimal m) ++ ended (decimal d)
+lineText (event e (refused n p) m d) = spaced (decimal e) ++ spaced (wordText (refused n p)) ++ ended (decimal n)
+lineText (closing n p) = spaced refusedText ++ spaced (decimal n) ++ ended (decimal p)
+
+abbrev pub longestLine : ℕ
+longestLine = 73
+
+unfoldable pub lineWriting : Line → List ℕ → Outcome ℕ × List ℕ
+lineWriting l out =
+    cond (leb longestLine (length out))
+    (given (length (lineText l)), lineText l ++ drop (length (lineText l)) out)
+    (refused bufferTooShort 0, out)
+
+abbrev pub toldLine : code.Line → Line
+toldLine (Event e w m d) = event e (toldWord w) m d
+toldLine (Closing r) = closing (r .number) (r .place)
+
+abbrev pub toldLength : LineWritten → Outcome ℕ
+toldLength (Length n) = given n
+toldLength (Refused r) = refused (r .number) (r .place)

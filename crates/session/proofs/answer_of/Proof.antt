@@ -1,0 +1,22 @@
+-- `session::answer_of` meets its contract: a length is a line of that length, a refusal stays one.
+use borrow.Author.Needs.{needs}
+use Rattle.session.proofs.answer_of.Statement.{statement}
+use Rattle.session.proofs.answer_of.Tie as tie
+use mathlib.Core.Path.{ap, sym}
+use Rattle.lines.specs.Lines.{toldLength}
+use Rattle.session.specs.HandingOut.{writtenAnswer}
+
+enum-known-written : tie.Need-enum-known-written
+enum-known-written c = search needs
+
+enum-known-written-2 : tie.Need-enum-known-written-2
+enum-known-written-2 c = search needs
+
+returns : tie.Need-returns
+returns c = ap (λ x. writtenAnswer (toldLength x)) (sym (c .before .written .given .1))
+
+returns-2 : tie.Need-returns-2
+returns-2 c = ap (λ x. writtenAnswer (toldLength x)) (sym (c .before .written2 .given .1))
+
+pub answer-of-spec : {M : Type 1} → statement M
+answer-of-spec = tie.close (tie.spec enum-known-written enum-known-written-2 returns returns-2)

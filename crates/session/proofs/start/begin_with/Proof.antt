@@ -1,0 +1,35 @@
+-- `session::start::begin_with` meets its contract: a number is the allowance, a refusal ends the session.
+use borrow.Author.Needs.{needs}
+use Rattle.session.proofs.start.begin_with.Statement.{statement}
+use Rattle.session.proofs.start.begin_with.Tie as tie
+use mathlib.Core.Path.{_∙_}
+use Rattle.session.proofs.StartLaws.{opened-read, opened-unread}
+
+enum-known-allowance : tie.Need-enum-known-allowance
+enum-known-allowance c = search needs
+
+fresh-requires : tie.Need-fresh-requires
+fresh-requires c κs = search needs
+
+enum-known-allowance-2 : tie.Need-enum-known-allowance-2
+enum-known-allowance-2 c = search needs
+
+refuse-requires : tie.Need-refuse-requires
+refuse-requires c κs = search needs
+
+returns : tie.Need-returns
+returns c = opened-read _ (c .before .before .before .before .args .allowance) _ _ _ (c .before .before .allowance .given .1) (c .fresh .ensures)
+
+returns-2 : tie.Need-returns-2
+returns-2 c = c .refuse .ensures ∙ opened-unread _ (c .before .before .before .before .args .allowance) _ (c .before .before .allowance2 .given .1)
+
+pub begin-with-spec : {M : Type 1} → statement M
+begin-with-spec =
+    tie.close
+    (tie.spec
+    enum-known-allowance
+    fresh-requires
+    enum-known-allowance-2
+    refuse-requires
+    returns
+    returns-2)

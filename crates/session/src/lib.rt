@@ -1,0 +1,103 @@
+// A session: a board, the allowance and events. `begin` reads what stands before the events, and each `next_line` hands out
+// one line of the session into a lent buffer.
+ghost use mathlib.Core.Path.{_≡_};
+ghost use Rattle.session.specs.Carried.{opening, toldSession};
+ghost use Rattle.lines.specs.Lines.{toldLength};
+ghost use Rattle.session.specs.HandingOut.{handing, writtenAnswer, toldAnswer, toldHanded};
+use board::Board;
+use board_reader::ReadAnswer;
+use lines::LONGEST_LINE;
+use lines::LineWritten;
+use next::Coming;
+use number::BUFFER_TOO_SHORT;
+use number::Refusal;
+use state::State;
+
+mod next;
+mod start;
+
+// What the next line is: that of the first run, that of an event, that of a refusal, or none.
+pub enum Stage {
+    First,
+    Events,
+    Refused(Refusal),
+    Over,
+}
+
+// What a session carries from line to line: its board and allowance, the state, the number of the next event, the place of
+// the next event in the input, and the stage.
+pub struct Session {
+    pub board: Board,
+    pub allowance: u32,
+    pub state: State,
+    pub event: usize,
+    pub place: usize,
+    pub stage: Stage,
+}
+
+// What a call for the next line came to: the line's length in the buffer, that there is none, or the refusal.
+pub enum HandOut {
+    Line(usize),
+    Over,
+    Refused(Refusal),
+}
+
+// The answer to a call for the next line, with the session to carry on.
+pub struct Handed {
+    pub session: Session,
+    pub answer: HandOut,
+}
+
+// Reads the board and the allowance, and begins the session in a fresh state.
+pub fn begin(s: &[u8]) -> Session
+    ensures { λ r. ⌜ toldSession r ≡ opening (now (s .entry)) ⌝ }
+{
+    let read = board_reader::read(s);
+    let answer = read.answer;
+    match answer {
+        ReadAnswer::Read(at) => {
+            let board = read.board;
+            start::begin_with(board, number::read_number(s, at))
+        }
+        ReadAnswer::Refused(refusal) => start::refuse(refusal),
+    }
+}
+
+// What writing the next line came to.
+fn answer_of(written: LineWritten) -> HandOut
+    ensures { λ r. ⌜ toldAnswer r ≡ writtenAnswer (toldLength written) ⌝ }
+{
+    match written {
+        LineWritten::Length(length) => HandOut::Line(length),
+        LineWritten::Refused(refusal) => HandOut::Refused(refusal),
+    }
+}
+
+// Hands out the session's next line into a buffer: 16 if the longest line has no room there.
+pub fn next_line(session: Session, s: &[u8], out: &mut [u8]) -> Handed
+    ensures { λ r. ⌜ toldHanded r (now (out .exit)) ≡ handing (toldSession session) (now (s .entry)) (now (out .entry)) ⌝ }
+{
+    if out.len() < LONGEST_LINE {
+        return Handed {
+            session,
+            answer: HandOut::Refused(Refusal {
+                number: BUFFER_TOO_SHORT,
+                place: 0,
+            }),
+        };
+    }
+    let next = next::advance(session, s);
+    let session = next.session;
+    let coming = next.coming;
+    match coming {
+        Coming::Line(line) => {
+            let written = lines::write_line(line, out);
+            let answer = answer_of(written);
+            Handed { session, answer }
+        }
+        Coming::Over => Handed {
+            session,
+            answer: HandOut::Over,
+        },
+    }
+}

@@ -1,0 +1,43 @@
+// How a session starts: with a board and an allowance, or with a refusal.
+ghost use mathlib.Core.Path.{_≡_};
+ghost use Rattle.number.specs.Outcomes.{refused};
+ghost use Rattle.number.specs.Numbers.{toldNumber};
+ghost use Rattle.session.specs.Sessions.{withAllowance};
+ghost use Rattle.session.specs.Carried.{opened, toldSession};
+use crate::Session;
+use crate::Stage;
+use board::Board;
+use number::Number;
+use number::Refusal;
+use state::State;
+
+// The session of a bad file: its one line is the refusal.
+pub fn refuse(refusal: Refusal) -> Session
+    ensures { λ r. ⌜ toldSession r ≡ opened (refused (refusal .number) (refusal .place)) ⌝ }
+{
+    Session {
+        board: board::empty(),
+        allowance: 0,
+        state: State::fresh(),
+        event: 0,
+        place: 0,
+        stage: Stage::Refused(refusal),
+    }
+}
+
+// The session of a board and of what reading its allowance came to.
+pub fn begin_with(board: Board, allowance: Number) -> Session
+    ensures { λ r. ⌜ toldSession r ≡ opened (withAllowance board (toldNumber allowance)) ⌝ }
+{
+    match allowance {
+        Number::Read(allowance, place) => Session {
+            board,
+            allowance,
+            state: State::fresh(),
+            event: 0,
+            place,
+            stage: Stage::First,
+        },
+        Number::Refused(refusal) => refuse(refusal),
+    }
+}

@@ -1,0 +1,82 @@
+//! The program as a process: its two modes, its usage and its exit status.
+
+use std::fs::File;
+use std::io::{Seek, Write};
+use std::path::PathBuf;
+use std::process::{Command, Output, Stdio};
+
+const H2: &[u8] = &[3, 1, 1, 3, 3, 0, 2, 0, 1, 0, 2, 0, 4, 2, 1, 0, 100, 1, 0];
+const H2_LINES: &str = "0 idle 0 0\n1 idle 1 1\n2 idle 0 1\n";
+
+fn program() -> Command {
+    Command::new(env!("CARGO_BIN_EXE_second"))
+}
+
+fn play(arguments: &[&str], input: &[u8]) -> Output {
+    let mut command = program();
+    command.args(arguments).stdin(Stdio::piped());
+    command.stdout(Stdio::piped()).stderr(Stdio::piped());
+    let mut child = command.spawn().unwrap();
+    child.stdin.take().unwrap().write_all(input).unwrap();
+    child.wait_with_output().unwrap()
+}
+
+fn lines(output: &Output) -> &str {
+    std::str::from_utf8(&output.stdout).unwrap()
+}
+
+#[test]
+fn one_session() {
+    let output = play(&[], H2);
+    assert_eq!(output.status.code(), Some(0));
+    assert_eq!(lines(&output), H2_LINES);
+    assert!(output.stderr.is_empty());
+}
+
+#[test]
+fn many_sessions_and_a_stream_cut_short() {
+    let stream = [&[19, 0, 0, 0], H2, &[0; 4], &[1, 0, 0, 0, 65]].concat();
+    let whole = format!("{H2_LINES}.\nrefused 1 0\n.\n");
+    let output = play(&["--many"], &stream);
+    assert_eq!(output.status.code(), Some(0));
+    assert_eq!(lines(&output), format!("{whole}refused 3 0\n.\n"));
+    let output = play(&["--many"], &stream[..stream.len() - 1]);
+    assert_eq!(output.status.code(), Some(1));
+    assert_eq!(lines(&output), whole);
+    assert!(!output.stderr.is_empty());
+}
+
+#[test]
+fn other_arguments_get_the_usage() {
+    for arguments in [&["--few"][..], &["--many", "--many"], &[""]] {
+        let output = program().args(arguments).output().unwrap();
+        assert_eq!(output.status.code(), Some(2));
+        assert!(output.stdout.is_empty());
+        assert!(output.stderr.starts_with(b"usage: "));
+    }
+}
+
+#[test]
+fn an_input_that_cannot_be_read_is_no_empty_input() {
+    let directory = File::open(env!("CARGO_MANIFEST_DIR")).unwrap();
+    let path = PathBuf::from(env!("CARGO_TARGET_TMPDIR")).join("write-only");
+    let write_only = File::create(path).unwrap();
+    for input in [directory, write_only] {
+        let output = program().stdin(input).output().unwrap();
+        assert_eq!(output.status.code(), Some(1));
+        assert!(output.stdout.is_empty());
+        assert!(!output.stderr.is_empty());
+    }
+}
+
+#[test]
+fn no_more_is_read_than_is_needed() {
+    let path = PathBuf::from(env!("CARGO_TARGET_TMPDIR")).join("too-long");
+    std::fs::write(&path, [0; 70_000]).unwrap();
+    let mut input = File::open(path).unwrap();
+    let shared = input.try_clone().unwrap();
+    let output = program().stdin(shared).output().unwrap();
+    assert_eq!(lines(&output), "refused 10 0\n");
+    assert_eq!(output.status.code(), Some(0));
+    assert_eq!(input.stream_position().unwrap(), 65_537);
+}

@@ -1,0 +1,48 @@
+"""The rule book's "Boards to try" as sessions, each with the lines that it must print: worked out by hand from
+../shared/documents/01-scope.md."""
+
+H1 = "03 01 01 02  03 00 02 00  04 02 01 00"
+H2 = "03 01 01 03  03 00 02 00  01 00 02 00  04 02 01 00"
+H3 = "03 01 00 02  02 00 02 00  04 02 01 00"
+H4 = "05 01 00 04  00 00 02  00 02 03  00 04 02  04 03 04 00"
+H4_AND_WIRE = "05 01 00 05  00 00 02  00 02 03  00 04 02  04 03 04 00  00 02 01"
+H5 = "04 01 02 04  03 00 02 00  03 00 03 01  05 02 01 00  06 03 01 00"
+H6 = "03 01 00 03  00 00 02  00 02 01  04 02 01 00"
+
+TYPED = [
+    ("H0", "02 00 00 00  00", ["0 idle 0 0"]),
+    ("H0 without an allowance", "02 00 00 00", ["refused 1 4"]),
+    ("the empty input", "", ["refused 1 0"]),
+    ("T 1", "01 00 00 00  00", ["refused 3 0"]),
+    ("T 65", "41 00 00 00  00", ["refused 3 0"]),
+    ("T 64", "40 00 00 00  00", ["0 idle 0 0"]),
+    ("H1 unpushed, W 1", H1 + "01", ["0 idle 0 0"]),
+    ("H1 unpushed, W 0", H1 + "00", ["0 undecided 0 0"]),
+    ("H1 pushed, W 3", H1 + "03  01", ["0 idle 0 0", "1 idle 1 1"]),
+    ("H1 pushed, W 2", H1 + "02  01", ["0 idle 0 0", "1 undecided 0 0"]),
+    ("H1 pushed twice", H1 + "64  01 01 00 00", ["0 idle 0 0", "1 idle 1 1", "2 refused 12", "3 idle 1 0", "4 refused 12"]),
+    ("H1, a button that is not there", H1 + "64  01 03 00", ["0 idle 0 0", "1 idle 1 1", "refused 7 14"]),
+    ("H1, a cut event", H1 + "64  01 80", ["0 idle 0 0", "1 idle 1 1", "refused 1 15"]),
+    ("H1, an event that is not shortest", H1 + "64  01 80 00", ["0 idle 0 0", "1 idle 1 1", "refused 2 14"]),
+    ("H2", H2 + "64  01 00", ["0 idle 0 0", "1 idle 1 1", "2 idle 0 1"]),
+    ("H3", H3 + "64", ["0 spent 4096 0"]),
+    ("H4, W 6", H4 + "06", ["0 idle 0 0"]),
+    ("H4, W 5", H4 + "05", ["0 undecided 0 0"]),
+    ("H4 with a wire 2-1 more, W 7", H4_AND_WIRE + "07", ["0 idle 0 0"]),
+    ("H4 with a wire 2-1 more, W 6", H4_AND_WIRE + "06", ["0 undecided 0 0"]),
+    ("H5", H5 + "64  01 00 03 01 02", ["0 idle 0 0", "1 idle 1 1", "2 idle 0 1", "3 idle 1 0", "4 conflict 0 0", "5 idle 1 1"]),
+    ("H5 both pushed, W 5", H5 + "05  01 03", ["0 idle 0 0", "1 idle 1 1", "2 conflict 0 1"]),
+    ("H5 both pushed, W 4", H5 + "04  01 03", ["0 idle 0 0", "1 idle 1 1", "2 undecided 0 1"]),
+    ("H6, W 3", H6 + "03", ["0 idle 1 1"]),
+    ("H6, W 2", H6 + "02", ["0 undecided 0 0"]),
+    ("80 00", "80 00", ["refused 2 0"]),
+    ("80 80", "80 80", ["refused 1 2"]),
+    ("80 80 80", "80 80 80", ["refused 2 0"]),
+    ("ff ff 7f as W", "02 00 00 00  ff ff 7f", ["0 idle 0 0"]),
+    ("80 80 80 as W", "02 00 00 00  80 80 80", ["refused 2 4"]),
+]
+
+
+def sessions():
+    """Each session's name, its bytes and what it must print."""
+    return [(name, bytes.fromhex(typed), "".join(line + "\n" for line in lines).encode()) for name, typed, lines in TYPED]

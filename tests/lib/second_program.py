@@ -1,0 +1,30 @@
+"""The second program, in plain Rust under second/: building it, its unit tests, and what it prints. What cargo makes goes to
+target/second."""
+import os
+import subprocess
+
+import program
+import repository
+
+BUILT = repository.path("target", "second")
+
+
+def cargo(task):
+    """How cargo comes through a task on the second program."""
+    options = ["--release", "--offline", "--quiet", "--manifest-path", repository.path("second", "Cargo.toml")]
+    return subprocess.run(["cargo", task] + options, env=dict(os.environ, CARGO_TARGET_DIR=BUILT), capture_output=True, text=True)
+
+
+def command(*options):
+    """How the second program is started."""
+    return [os.path.join(BUILT, "release", "second")] + list(options)
+
+
+def answers(sessions):
+    """What it prints for each of many sessions."""
+    return program.many(command("--many"), sessions)
+
+
+def answer(session):
+    """What it prints for one session."""
+    return subprocess.run(command(), input=session, capture_output=True).stdout

@@ -1,0 +1,142 @@
+"""Fine boards for the comparison of whole sessions in tests/sessions.py, each as its counts T, R, B and its parts: relays that
+feed each other, relays that buzz, relays that count, steel relays in conflict, every kind of part, many parallel parts, the
+most of everything, and boards with many chains. Built with the generators of tests/running.py and tests/judging.py."""
+import judging
+import running
+from judge_model import BUTTON, DRAWING, DROPPING, LOWER, MINUS, PLUS, REGULAR, UPPER
+
+WIRE = 0
+MOST_TERMINALS, MOST_RELAYS, MOST_BUTTONS, MOST_PARTS = 64, 32, 32, 256
+
+
+def feeding(dice):
+    """Relays of both sorts that feed each other; seldom they buzz."""
+    rows = dice.choice([running.any_rows] * 4 + [running.sequence_rows] * 3 + [running.steel_rows] * 3 + [running.holding_rows])
+    return running.wired(dice, *rows(dice))
+
+
+def web(dice):
+    """Terminals joined at random, densely, in a ring, as a ladder or in a path."""
+    return judging.board(dice)
+
+
+def buzzing(dice):
+    """Relays in a ring with an odd number of lower contacts, so that there is always one that can move; some of the rings are
+    closed by a button."""
+    relays = dice.randint(1, 4)
+    lower = set(dice.sample(range(relays), dice.choice([odd for odd in (1, 3) if odd <= relays])))
+    ways = [[[LOWER if relay in lower else UPPER, (relay + 1) % relays]] for relay in range(relays)]
+    if dice.random() < 0.6:
+        dice.choice(ways).append([BUTTON, 0])
+    return running.wired(dice, relays, 1, [(REGULAR, relay, [way]) for relay, way in enumerate(ways)])
+
+
+def conflicting(dice):
+    """Some steel relays with a button for each winding, and a regular relay that a contact of the first of them feeds."""
+    steel = dice.randint(1, 3)
+    rows = [(REGULAR, steel, [[[dice.choice([UPPER, LOWER]), 0]]])]
+    for relay in range(steel):
+        rows += [(DRAWING, relay, [[[BUTTON, 2 * relay]]]), (DROPPING, relay, [[[BUTTON, 2 * relay + 1]]])]
+    return running.wired(dice, steel + 1, 2 * steel, rows)
+
+
+def every_kind(dice):
+    """A regular and a steel relay, with parts of all seven kinds."""
+    regular, steel = dice.sample([0, 1], 2)
+    feeds = [[BUTTON, 0], [UPPER, regular], [LOWER, steel], [WIRE], [BUTTON, 1], [dice.choice([UPPER, LOWER]), steel]]
+    dice.shuffle(feeds)
+    rows = [(REGULAR, regular, [feeds[:2]]), (DRAWING, steel, [feeds[2:4]]), (DROPPING, steel, [feeds[4:]])]
+    return running.wired(dice, 2, 2, rows)
+
+
+def holding(dice):
+    """A relay that holds itself until another cuts it."""
+    return running.wired(dice, *running.holding_rows(dice))
+
+
+def sequence(dice):
+    """Relays that draw one after the other."""
+    return running.wired(dice, *running.sequence_rows(dice))
+
+
+def counting(dice, bits, followers):
+    """Relays that count: so many of them go through all their states, as Gray's code has them, one move each, and rest when
+    only the highest is drawn; then its followers draw. Two rails lead from plus past each relay from the highest down: the
+    first is fed if an even number of those above is drawn, else the second. Relay 0 follows the first; each other one draws
+    by the first and drops by the second while the relay below it is drawn, which then is the lowest drawn one, as those
+    below have come to rest. Button 0 feeds the highest one's dropping winding, button 1 nothing."""
+    even, odd, parts, terminals = PLUS, 2, [], 3
+    for relay in range(bits - 1, 0, -1):
+        draws, drops, next_even, next_odd = range(terminals, terminals + 4)
+        terminals += 4
+        parts += [[UPPER, even, draws, relay - 1], [DRAWING, draws, MINUS, relay], [UPPER, odd, drops, relay - 1], [DROPPING, drops, MINUS, relay]]
+        parts += [[LOWER, even, next_even, relay], [UPPER, even, next_odd, relay], [LOWER, odd, next_odd, relay], [UPPER, odd, next_even, relay]]
+        even, odd = next_even, next_odd
+    parts += [[REGULAR, even, MINUS, 0], [BUTTON, PLUS, 4, 0], [BUTTON, PLUS, terminals, 1]]
+    for relay in range(bits, bits + followers):
+        terminals += 1
+        parts += [[UPPER, PLUS, terminals, bits - 1], [REGULAR, terminals, MINUS, relay]]
+    dice.shuffle(parts)
+    return [terminals + 1, bits + followers, 2], parts
+
+
+CALM = [holding, sequence, conflicting]  # every run comes to an end soon, so a session may have tens of thousands of events
+
+
+def crowded(dice):
+    """Few terminals and so many parts, most of them parallel, that their count takes two bytes."""
+    terminals, relays, buttons = dice.randint(3, 5), dice.randint(1, 4), dice.randint(1, 3)
+    every = [[a, b] for a in range(terminals) for b in range(a)]
+    some = dice.sample(every, dice.randint(2, len(every)))
+    parts = judging.some_parts(dice, relays, buttons, [], every)
+    count = dice.choice([128, MOST_PARTS - 1, MOST_PARTS, dice.randint(128, MOST_PARTS)])
+    while len(parts) < count:
+        kind, name = dice.choice([[BUTTON, dice.randrange(buttons)], [UPPER, dice.randrange(relays)]])
+        parts.append([kind] + dice.choice(some) + [name])
+    dice.shuffle(parts)
+    return [terminals, relays, buttons], parts
+
+
+def earlier_switch(dice, earlier):
+    """A button, most often, or a contact of one of the earlier relays, or seldom a wire."""
+    kind = dice.choice([BUTTON] * 50 + [UPPER] * 40 + [LOWER] * 2 + [WIRE]) if earlier else BUTTON
+    if kind == WIRE:
+        return [WIRE]
+    return [kind, dice.randrange(MOST_BUTTONS) if kind == BUTTON else dice.choice(earlier)]
+
+
+def largest(dice):
+    """The most of everything: 64 terminals, 32 relays, 32 buttons, 256 parts. In some order of the relays each is fed by
+    buttons and by contacts of those before it, so every run comes to an end."""
+    order = dice.sample(range(MOST_RELAYS), MOST_RELAYS)
+    steel = dice.sample(order, dice.randint(1, 12))
+    rows = [(kind, relay, []) for relay in order for kind in ([DRAWING, DROPPING] if relay in steel else [REGULAR])]
+    between = MOST_TERMINALS - 2 - len(rows)  # terminals for ways of two switches
+    for number in range(MOST_PARTS - len(rows) - between):
+        _, relay, ways = rows[number] if number < len(rows) else dice.choice(rows)
+        earlier = order[: order.index(relay)]
+        ways.append([earlier_switch(dice, earlier) for _ in range(2 if number < between else 1)])
+    return running.wired(dice, MOST_RELAYS, MOST_BUTTONS, rows)
+
+
+def dense(dice, terminals):
+    """So many terminals, each joined to each other, a regular winding on two of them, and one that hangs on a terminal of
+    its own and is dead."""
+    parts = [[WIRE, a, b] for a in range(terminals) for b in range(a)]
+    parts += [[REGULAR] + dice.sample(range(terminals), 2) + [0], [REGULAR, dice.randrange(terminals), terminals, 1]]
+    dice.shuffle(parts)
+    return [terminals + 1, 2, 0], parts
+
+
+def diamonds(dice, count):
+    """A row of diamonds from plus to minus, each of two ways side by side, and behind the last a dead winding; with its
+    effort. Of the chains from one diamond's begin on, 5 end in it and each side leads to all those from its end on."""
+    free = dice.sample(range(2, 3 * count + 3), 3 * count + 1)
+    at, parts = PLUS, []
+    for _ in range(count):
+        one, other, end = free.pop(), free.pop(), free.pop()
+        parts += [[WIRE, at, one], [WIRE, at, other], [WIRE, one, end], [WIRE, other, end]]
+        at = end
+    parts += [[WIRE, at, MINUS], [REGULAR, at, free.pop(), 0]]
+    dice.shuffle(parts)
+    return ([3 * count + 3, 1, 0], parts), 2 ** (count + 3) - 5

@@ -1,0 +1,188 @@
+"""Sessions for tests/sessions.py, as bytes: fine boards with an allowance and events, and those with an event or an allowance
+that is refused. A session's work is about its allowance, or its number of chains, times its windings, moves and events; none
+here has much. A function that makes a session takes the dice; tests/lib/session_sorts.py says of which sort it is."""
+import judge_model
+import run_model
+import running
+import session_boards as boards
+from board_model import file_of, number_bytes
+
+LARGEST = running.LARGEST
+MOST_CHAINS = 1_000  # of a board whose efforts are worked out
+MOST_MOVES = 4_096
+MUCH_WORK = 2_000_000  # chains, of a session on a board with more of them
+TOP = 128  # the top bit of a byte
+BAD_TAILS = [[0], [TOP, 0], [255, 255], [TOP, TOP, 0], [255, 255, 127]]  # behind a byte with its top bit set: no form
+
+
+def typed(numbers):
+    """Numbers in their shortest form."""
+    return bytes(byte for number in numbers for byte in number_bytes(number))
+
+
+def session(board, allowance, events):
+    """The bytes of a session."""
+    return file_of(*board) + typed([allowance] + events)
+
+
+def presses(dice, buttons, count):
+    """So many events, each a push of a released button or a release of a pushed one; none where there is no button."""
+    pushed, events = set(), []
+    for _ in range(count if buttons else 0):
+        button = dice.randrange(buttons)
+        pushed ^= {button}
+        events.append(2 * button + (button in pushed))
+    return events
+
+
+def some_presses(dice, board, most=6):
+    """Some such events for a board."""
+    return presses(dice, board[0][2], dice.randint(1, most))
+
+
+def enough(dice):
+    """An allowance that is enough for a board of few chains."""
+    return dice.choice([LARGEST, LARGEST - 1, 16_384, 16_383, 5_000])
+
+
+def some_allowance(dice):
+    """An allowance that is enough, or one that may not be."""
+    return dice.choice([enough(dice), enough(dice), 0, 1, 5, 10, 20, 127, 128])
+
+
+def pressed_states(own, events):
+    """Runs a board from a fresh state and after each event, so that it knows the efforts of all states on the way. Whether
+    every run comes to an end."""
+    drawn, pushed = set(), set()
+    for event in [None] + events:
+        if event is not None:
+            pushed ^= {event // 2}
+        word, _, drawn, _ = run_model.run(own, drawn, pushed, LARGEST, running.MANY_MOVES)
+        if word == "spent":
+            return False
+    return True
+
+
+def efforts(board, events):
+    """The efforts of all windings in the states that a session comes to; none where that is much work."""
+    own = run_model.Board(*board, MOST_CHAINS)
+    try:
+        if not pressed_states(own, events):
+            return []
+    except run_model.TooManyChains:
+        return []
+    return sorted({effort for state in own.known.values() for windings in state for effort, _ in windings})
+
+
+def allowance_around(dice, board, events):
+    """An allowance around the effort of a winding in a state that a session comes to, seldom the largest; a small one where
+    there is much work."""
+    found = efforts(board, events)
+    if found:
+        return dice.choice([max(0, dice.choice(found) + dice.choice([-1, 0, 1]))] * 5 + [LARGEST])
+    windings = sum(part[0] >= judge_model.REGULAR for part in board[1])
+    affordable = MUCH_WORK // (max(windings, 1) * MOST_MOVES * (len(events) + 1))
+    return dice.choice([affordable, dice.randint(0, affordable)])
+
+
+def feeding_session(dice):
+    board = boards.feeding(dice)
+    return session(board, enough(dice), some_presses(dice, board))
+
+
+def buzzing_session(dice):
+    board = boards.buzzing(dice)
+    return session(board, enough(dice), some_presses(dice, board, 3))
+
+
+def counting_session(dice):
+    board = boards.counting(dice, dice.randint(2, 7), dice.randint(0, 3))
+    events = some_presses(dice, board)
+    return session(board, dice.choice([LARGEST, allowance_around(dice, board, events)]), events)
+
+
+def conflicting_session(dice):
+    board = boards.conflicting(dice)
+    return session(board, enough(dice), some_presses(dice, board, 12))
+
+
+def every_kind_session(dice):
+    board = boards.every_kind(dice)
+    return session(board, some_allowance(dice), some_presses(dice, board))
+
+
+def web_session(dice):
+    board = boards.web(dice)
+    events = some_presses(dice, board)
+    return session(board, allowance_around(dice, board, events), events)
+
+
+def effort_session(dice):
+    board = boards.feeding(dice)
+    events = some_presses(dice, board)
+    return session(board, allowance_around(dice, board, events), events)
+
+
+def diamonds_session(dice):
+    board, effort = boards.diamonds(dice, dice.randint(0, 11))
+    return session(board, max(0, effort + dice.choice([-1, 0, 1])), [])
+
+
+def crowded_session(dice):
+    board = boards.crowded(dice)
+    return session(board, some_allowance(dice), some_presses(dice, board, 4))
+
+
+def least_allowance_session(dice):
+    board = boards.feeding(dice)
+    return session(board, dice.choice([0, 1, 2]), some_presses(dice, board))
+
+
+def calm_board(dice):
+    """A board with a button, most often one whose runs come to an end soon."""
+    return dice.choice(boards.CALM + [boards.every_kind])(dice)
+
+
+def double_session(dice):
+    board = calm_board(dice)
+    events = some_presses(dice, board)
+    for _ in range(dice.choice([1, 1, 2, 3])):
+        at = dice.randrange(len(events))
+        events[at:at] = [events[at]]
+    if dice.random() < 0.3:
+        events[:0] = [2 * dice.randrange(board[0][2])]
+    return session(board, some_allowance(dice), events)
+
+
+def absent_button_session(dice):
+    board = calm_board(dice)
+    events, buttons = some_presses(dice, board), board[0][2]
+    absent = dice.choice([2 * buttons, 2 * buttons + 1, 2 * buttons + 2, 63, 64, 65, 127, 128, 129, 16_383, 16_384, LARGEST])
+    events.insert(dice.randint(0, len(events)), absent)
+    return session(board, some_allowance(dice), events)
+
+
+def top_bits(dice, count):
+    """So many bytes with their top bit set."""
+    return bytes(dice.choice([TOP, 255, dice.randint(TOP, 255)]) for _ in range(count))
+
+
+def cut_event_session(dice):
+    board = calm_board(dice)
+    return session(board, some_allowance(dice), some_presses(dice, board)) + top_bits(dice, dice.choice([1, 2]))
+
+
+def bad_form(dice):
+    """Bytes that are no number, whatever comes after them."""
+    return top_bits(dice, 1) + bytes(dice.choice(BAD_TAILS))
+
+
+def bad_event_session(dice):
+    board = calm_board(dice)
+    data, more = session(board, some_allowance(dice), some_presses(dice, board)), some_presses(dice, board)
+    return data + bad_form(dice) + typed(dice.choice([[], more]))
+
+
+def bad_allowance_session(dice):
+    board = calm_board(dice)
+    return file_of(*board) + dice.choice([b"", top_bits(dice, 1), top_bits(dice, 2), bad_form(dice), bad_form(dice) + typed(some_presses(dice, board))])
