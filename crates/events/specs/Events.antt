@@ -1,4 +1,5 @@
 -- One event of a session. Rule book: "then events to the end: 2 x button + 1 pushes, 2 x button releases"; "One line for the first run (event 0), then one for each event"; "An event refused by 12 prints its number, `refused` and 12; nothing is run"; "After spent, undecided or conflict the next event acts on the state left."
+--     buttonOf v, pushes v   the button of the event v, and whether it pushes it
 --     eventAt b s at         the event at a place of the input: a number (1, 2) that names a button of the board (7)
 --     pressing b t v         the event v pushes or releases its button in state t
 --     sessionLog             "a log of 4,096"
@@ -9,7 +10,7 @@
 --     eventLine b w e t v    event e, which is v, in state t
 --     toldShown              the code's line in the rule book's words
 use Prim.Native.Nat.{ℕ, _/_, _%_}
-use mathlib.Core.Bool.{cond}
+use mathlib.Core.Bool.{Bool, cond}
 use mathlib.Core.List.{List}
 use lib.Dec.{ltb, eqb}
 use lib.ListN.{replicate}
@@ -23,11 +24,17 @@ use Rattle.runs.specs.Running.{Told, running}
 use Rattle.lines.specs.Lines.{Line, event, toldLine}
 use Rattle.events.specs.declared.Shown as code
 
+abbrev pub buttonOf : ℕ → ℕ
+buttonOf v = v / 2
+
+abbrev pub pushes : ℕ → Bool
+pushes v = eqb (v % 2) 1
+
 unfoldable pub eventAt : Board → List ℕ → ℕ → Outcome (Found ℕ)
-eventAt b s at = wanted (λ v. ltb (v / 2) (b .counts .buttons)) noSuchName s at
+eventAt b s at = wanted (λ v. ltb (buttonOf v) (b .counts .buttons)) noSuchName s at
 
 unfoldable pub pressing : Board → State → ℕ → State × Outcome (Unit {0})
-pressing b t v = cond (eqb (v % 2) 1) (pushing b t (v / 2)) (releasing b t (v / 2))
+pressing b t v = cond (pushes v) (pushing b t (buttonOf v)) (releasing b t (buttonOf v))
 
 abbrev pub sessionLog : List ℕ
 sessionLog = replicate 4096 0
