@@ -1,16 +1,16 @@
 -- The theorems of the front page: the user's three demands, the starred boards, and that each promise allows one answer only.
-use Rattle.board_file.proofs.RoundTrips.{write-then-read, read-then-write}
-use Rattle.published.proofs.Agreement.{paths-are-chains}
-use Rattle.verdicts.proofs.Exact.{the-chains, live-exactly, dead-exactly, undecided-exactly, live-shows, dead-counts, undecided-reports, as-published}
-use Rattle.verdicts.proofs.Allowed.{larger-allowance, turns-at-effort, effort-some-always}
-use Rattle.verdicts.proofs.Elevens.{the-winding}
-use Rattle.guards.proofs.Exactly as moved
-use Rattle.guards.proofs.ChainMoves.{regular-by-chains, steel-by-chains}
-use Rattle.courses.proofs.Exactly as ran
-use Rattle.longer_runs.proofs.Longer.{longer-run}
-use Rattle.handed_lines.proofs.Theorem.{lines-handed-out, all-handed-out}
-use Rattle.event_refusals.proofs.Twelve.{events-refused}
-use Rattle.event_refusals.proofs.Drawn.{lines-drawn}
+use Rattle.file_means.proofs.RoundTrip.{write-then-read, read-then-write}
+use Rattle.judge_means.proofs.Circuits.{paths-are-chains}
+use Rattle.judge_means.proofs.Exactness.{the-chains, live-exactly, dead-exactly, undecided-exactly, live-shows, dead-counts, undecided-reports, as-published}
+use Rattle.judge_means.proofs.Allowances.{larger-allowance, turns-at-effort, effort-some-always}
+use Rattle.judge_means.proofs.Eleven.{the-winding}
+use Rattle.moves_means.proofs.SingleMoves as moved
+use Rattle.moves_means.proofs.ByChains.{regular-by-chains, steel-by-chains}
+use Rattle.runs_means.proofs.Courses as ran
+use Rattle.runs_means.proofs.LongerRuns.{longer-run}
+use Rattle.session_means.proofs.HandedLines.{lines-handed-out, all-handed-out}
+use Rattle.session_means.proofs.EventRefusals.{events-refused}
+use Rattle.session_means.proofs.LinesDrawn.{lines-drawn}
 use Rattle.bits.proofs.Once as bits
 use Rattle.number.proofs.Once as number
 use Rattle.kinds.proofs.Once as kinds

@@ -15,8 +15,8 @@ use Rattle.judge.specs.Judging.{judgeable, judging}
 use Rattle.moves.specs.Steps.{Move, made, stepOf}
 use Rattle.moves.specs.Moving.{movable, moving}
 use Rattle.runs.specs.Running.{Told, runnable, running}
-use Rattle.file_refusals.proofs.Exact.{file-refused}
-use Rattle.verdicts.proofs.Elevens.{eleven-exactly}
+use Rattle.file_means.proofs.FileRefusals.{file-refused}
+use Rattle.judge_means.proofs.Eleven.{eleven-exactly}
 use Rattle.lines.specs.Lines.{toldLine}
 use Rattle.session.specs.Carried.{toldSession}
 use Rattle.session.specs.HandingOut.{HandedOut}

@@ -1,15 +1,15 @@
 -- Demand 2: "Relays move as the published model says. A relay draws when a chain of conducting parts that meets no terminal twice runs from plus to minus through its winding, and drops when there is none. Board files keep their meaning: write then read gives the board, read then write gives the bytes read. A run moves the lowest relay that can move until it is idle or must stop."
 --     AsTheModelSays     the demand: each field is a statement over the calls, which the file that defines it puts into words
-use Rattle.board_file.specs.RoundTrip.{WriteThenRead, ReadThenWrite}
-use Rattle.published.specs.Circuits.{PathsAreChains}
-use Rattle.verdicts.specs.Exactness.{TheChains, LiveExactly, DeadExactly, UndecidedExactly, LiveShows, DeadCounts, UndecidedReports, AsPublished}
-use Rattle.verdicts.specs.Eleven.{TheWinding}
-use Rattle.guards.specs.SingleMoves.{MoveExactly}
-use Rattle.guards.specs.ByChains.{RegularByChains, SteelByChains}
-use Rattle.courses.specs.Courses.{RunExactly}
-use Rattle.handed_lines.specs.HandedLines.{LinesHandedOut, AllHandedOut}
-use Rattle.event_refusals.specs.EventRefusals.{EventsRefused}
-use Rattle.event_refusals.specs.LinesDrawn.{LinesDrawn}
+use Rattle.file_means.specs.RoundTrip.{WriteThenRead, ReadThenWrite}
+use Rattle.judge_means.specs.Circuits.{PathsAreChains}
+use Rattle.judge_means.specs.Exactness.{TheChains, LiveExactly, DeadExactly, UndecidedExactly, LiveShows, DeadCounts, UndecidedReports, AsPublished}
+use Rattle.judge_means.specs.Eleven.{TheWinding}
+use Rattle.moves_means.specs.SingleMoves.{MoveExactly}
+use Rattle.moves_means.specs.ByChains.{RegularByChains, SteelByChains}
+use Rattle.runs_means.specs.Courses.{RunExactly}
+use Rattle.session_means.specs.HandedLines.{LinesHandedOut, AllHandedOut}
+use Rattle.session_means.specs.EventRefusals.{EventsRefused}
+use Rattle.session_means.specs.LinesDrawn.{LinesDrawn}
 
 pub record AsTheModelSays : Type 0 where
   -- what a chain is, that the list of them is all of them in order, and that those to minus are the published model's paths

@@ -29,28 +29,28 @@ use Rattle.board_reader.specs.Reading as read
 use Rattle.board_writer.specs.declared.Written.{Written}
 use Rattle.board_writer.specs.File.{boardBytes}
 use Rattle.board_writer.specs.Writing.{toldWritten, bytesWritten}
-use Rattle.board_file.specs.RoundTrip.{Wrote, WasRead}
-use Rattle.file_refusals.specs.FileRefusals.{FileRefused}
+use Rattle.file_means.specs.RoundTrip.{Wrote, WasRead}
+use Rattle.file_means.specs.FileRefusals.{FileRefused}
 use Rattle.search.specs.declared.Verdict.{Verdict}
 use Rattle.search.specs.Verdicts.{places, toldFinding}
 use Rattle.judge.specs.declared.Which.{Which}
 use Rattle.judge.specs.RelayWindings.{windingOf}
-use Rattle.verdicts.specs.Exactness.{Judges}
-use Rattle.verdicts.specs.Eleven.{ElevenExactly}
+use Rattle.judge_means.specs.Exactness.{Judges}
+use Rattle.judge_means.specs.Eleven.{ElevenExactly}
 use Rattle.moves.specs.declared.Moved.{Moved}
 use Rattle.moves.specs.Moving as move
-use Rattle.guards.specs.SingleMoves.{Moves}
+use Rattle.moves_means.specs.SingleMoves.{Moves}
 use Rattle.runs.specs.declared.Ran.{Ran}
 use Rattle.runs.specs.Runs.{noRelay}
 use Rattle.runs.specs.Running.{longestLog, toldWord}
-use Rattle.longer_runs.specs.LongerRuns.{Runs}
+use Rattle.runs_means.specs.LongerRuns.{Runs}
 use Rattle.lines.specs.declared.Line.{Line}
 use Rattle.lines.specs.declared.LineWritten.{LineWritten}
 use Rattle.lines.specs.Lines.{longestLine, lineWriting, toldLine, toldLength}
 use Rattle.session.specs.declared.Session.{Session}
 use Rattle.session.specs.declared.Handed.{Handed}
 use Rattle.session.specs.HandingOut as handing
-use Rattle.handed_lines.specs.HandedLines.{Called}
+use Rattle.session_means.specs.HandedLines.{Called}
 
 abbrev pub against : {A : Type 0} → Outcome A → Outcome (Unit {0})
 against (given a) = given tt

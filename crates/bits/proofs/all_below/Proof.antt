@@ -10,11 +10,8 @@ use Rattle.bits.proofs.all_below.Tie as tie
 returns : tie.Need-returns
 returns c = sym (within-room (c .before .args .set) (c .before .args .n) (omega arith) (omega arith))
 
-shr-result : tie.Need-shr-result
-shr-result c = search needs
-
 returns-2 : tie.Need-returns-2
 returns-2 c = within-shifted (c .before .args .set) (c .before .args .n)
 
 pub all-below-spec : {M : Type 1} → statement M
-all-below-spec = tie.close (tie.spec returns shr-result returns-2)
+all-below-spec = tie.close (tie.spec returns (λ c. search needs) returns-2)

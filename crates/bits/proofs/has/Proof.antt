@@ -11,12 +11,9 @@ use Rattle.bits.proofs.has.Tie as tie
 returns : tie.Need-returns
 returns c = sym (member-beyond (c .before .args .set) 64 (c .before .args .n) (omega arith) (omega arith))
 
-shr-result : tie.Need-shr-result
-shr-result c = search needs
-
 returns-2 : tie.Need-returns-2
 unfolding member
 returns-2 c = refl
 
 pub has-spec : {M : Type 1} → statement M
-has-spec = tie.close (tie.spec returns shr-result returns-2)
+has-spec = tie.close (tie.spec returns (λ c. search needs) returns-2)

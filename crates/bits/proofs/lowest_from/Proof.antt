@@ -24,7 +24,9 @@ unfolding lowestFrom
 loop-holds c = (refl, omega (arith, c .if1 .left), refl)
 
 returns-2 : tie.Need-returns-2 Inv-loop μ-loop
-returns-2 c = first-here _ _ _ (lowest-room _ _ _ (c .before .before .before .before .fits .set .fits) (c .before .before .loop .inv .0) (c .before .loop-test .taken)) (lowest-there _ _ _ (c .before .before .loop .inv .0) (c .if2 .taken)) ∙ sym (c .before .before .loop .inv .2)
+returns-2 c =
+    let at-loop = c .before .before in
+    first-here _ _ _ (lowest-room _ _ _ (c .before .before .before .before .fits .set .fits) (at-loop .loop .inv .0) (c .before .loop-test .taken)) (lowest-there _ _ _ (at-loop .loop .inv .0) (c .if2 .taken)) ∙ sym (at-loop .loop .inv .2)
 
 add-next : tie.Need-add-next Inv-loop μ-loop
 add-next c = record { fits = omega (arith, lowest-room _ _ _ (c .before .before .before .before .fits .set .fits) (c .before .before .loop .inv .0) (c .before .loop-test .taken)) }
@@ -33,7 +35,10 @@ loop-less : tie.Need-loop-less Inv-loop μ-loop
 loop-less c = omega (arith, c .before .loop-test .taken)
 
 loop-again : tie.Need-loop-again Inv-loop μ-loop
-loop-again c = (lowest-next _ _ _ (c .before .before .loop .inv .0), omega (arith, lowest-room _ _ _ (c .before .before .before .before .fits .set .fits) (c .before .before .loop .inv .0) (c .before .loop-test .taken)), c .before .before .loop .inv .2 ∙ first-on _ _ _ (lowest-room _ _ _ (c .before .before .before .before .fits .set .fits) (c .before .before .loop .inv .0) (c .before .loop-test .taken)) (lowest-past _ _ _ (c .before .before .loop .inv .0) (c .if2 .left)))
+loop-again c =
+    let at-loop = c .before .before in
+    let at-fits = at-loop .before .before in
+    (lowest-next _ _ _ (at-loop .loop .inv .0), omega (arith, lowest-room _ _ _ (at-fits .fits .set .fits) (at-loop .loop .inv .0) (c .before .loop-test .taken)), at-loop .loop .inv .2 ∙ first-on _ _ _ (lowest-room _ _ _ (at-fits .fits .set .fits) (at-loop .loop .inv .0) (c .before .loop-test .taken)) (lowest-past _ _ _ (at-loop .loop .inv .0) (c .if2 .left)))
 
 returns-3 : tie.Need-returns-3 Inv-loop μ-loop
 returns-3 c = lowest-none _ _ _ _ (c .before .loop .inv .1) (c .before .loop .inv .0) (c .loop-test .left) (c .before .loop .inv .2)

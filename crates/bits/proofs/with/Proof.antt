@@ -10,11 +10,8 @@ use Rattle.bits.proofs.with.Tie as tie
 returns : tie.Need-returns
 returns c = sym (including-beyond (c .before .args .set) (c .before .args .n) (omega arith))
 
-shl-result : tie.Need-shl-result
-shl-result c = search needs
-
 returns-2 : tie.Need-returns-2
 returns-2 c = with-shifted (c .before .args .set) (c .before .args .n) (omega arith)
 
 pub with-spec : {M : Type 1} → statement M
-with-spec = tie.close (tie.spec returns shl-result returns-2)
+with-spec = tie.close (tie.spec returns (λ c. search needs) returns-2)

@@ -7,24 +7,24 @@ use Rattle.bits.proofs.SetLaws.{member-below, excluding-absent, without
 use Rattle.bits.proofs.without.Statement.{statement}
 use Rattle.bits.proofs.without.Tie as tie
 
-has-requires : tie.Need-has-requires
-has-requires c κs = search needs
-
 shl-result : tie.Need-shl-result
 shl-result c =
-    member-below (c .before .before .args .set) 64 (c .before .before .args .n) (omega arith)
+    let entry = c .before .before in
+    member-below (entry .args .set) 64 (entry .args .n) (omega arith)
     (sym (c .before .has .ensures) ∙ c .if1 .taken)
 
 returns : tie.Need-returns
 returns c =
-    without-shifted (c .before .before .args .set) (c .before .before .args .n) (omega arith)
+    let entry = c .before .before in
+    without-shifted (entry .args .set) (entry .args .n) (omega arith)
     (sym (c .before .has .ensures) ∙ c .if1 .taken)
 
 returns-2 : tie.Need-returns-2
 returns-2 c =
+    let entry = c .before .before in
     sym
-    (excluding-absent (c .before .before .args .set) (c .before .before .args .n)
+    (excluding-absent (entry .args .set) (entry .args .n)
     (sym (c .before .has .ensures) ∙ c .if1 .left))
 
 pub without-spec : {M : Type 1} → statement M
-without-spec = tie.close (tie.spec has-requires shl-result returns returns-2)
+without-spec = tie.close (tie.spec (λ c κs. search needs) shl-result returns returns-2)

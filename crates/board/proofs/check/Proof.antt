@@ -6,9 +6,6 @@ use mathlib.Core.Path.{sym, _∙_}
 use borrow.Author.Tests.{not-true, not-false}
 use Rattle.board.proofs.RuleLaws.{counts-in-range, board-counts-off, board-fine-last}
 
-counts-fine-requires : tie.Need-counts-fine-requires
-counts-fine-requires c κs = search needs
-
 returns : tie.Need-returns
 returns c = board-counts-off _ (sym (c .before .counts-fine .ensures) ∙ not-true _ (c .if1 .taken))
 
@@ -19,4 +16,4 @@ returns-2 : tie.Need-returns-2
 returns-2 c = c .parts-fine .ensures ∙ board-fine-last _ (sym (c .before .before .before .counts-fine .ensures) ∙ not-false _ (c .before .before .if1 .left))
 
 pub check-spec : {M : Type 1} → statement M
-check-spec = tie.close (tie.spec counts-fine-requires returns parts-fine-requires returns-2)
+check-spec = tie.close (tie.spec (λ c κs. search needs) returns parts-fine-requires returns-2)

@@ -17,38 +17,16 @@ Inv-loop counts parts count windings₀ i₀ windings i = (count ≡ counts .par
 abbrev μ-loop : tie.MeasureT-loop
 μ-loop counts parts count windings₀ i₀ windings i = count - i
 
-none-requires : tie.Need-none-requires Inv-loop μ-loop
-none-requires c κs = search needs
-
 loop-holds : tie.Need-loop-holds Inv-loop μ-loop
 loop-holds c = (refl, c .before .pre, c .before .good .0 .1 .0 .1, omega arith, ap (λ w. partsFine (c .before .args .counts) w (take (c .before .args .counts .parts) (c .before .args .t1))) (sym (c .none .ensures)))
-
-mul-part : tie.Need-mul-part Inv-loop μ-loop
-mul-part c = omega arith
-
-array-copy-out-part : tie.Need-array-copy-out-part Inv-loop μ-loop
-array-copy-out-part c = omega arith
-
-part-fine-requires : tie.Need-part-fine-requires Inv-loop μ-loop
-part-fine-requires c κs = search needs
 
 returns : tie.Need-returns Inv-loop μ-loop
 returns c = parts-walk-off _ _ _ _ _ _ (omega arith) (c .before .before .before .before .loop .inv .4) (c .before .before .before .loop-test .taken) (sym (c .before .part-fine .ensures) ∙ not-true _ (c .if1 .taken))
 
-with-requires : tie.Need-with-requires Inv-loop μ-loop
-with-requires c κs = search needs
-
-add-i : tie.Need-add-i Inv-loop μ-loop
-add-i c = omega arith
-
-loop-less : tie.Need-loop-less Inv-loop μ-loop
-loop-less c = omega arith
-
 loop-again : tie.Need-loop-again Inv-loop μ-loop
-loop-again c = (refl, c .before .before .before .before .before .loop .inv .1, c .before .before .before .before .before .loop .inv .2, omega arith, parts-walk-on _ _ _ _ _ _ (omega arith) (c .before .before .before .before .before .loop .inv .4) _ (c .before .before .before .before .loop-test .taken) (sym (c .before .before .part-fine .ensures) ∙ not-false _ (c .before .if1 .left)) (c .with .ensures))
-
-complete-requires : tie.Need-complete-requires Inv-loop μ-loop
-complete-requires c κs = search needs
+loop-again c =
+    let at-loop = c .before .before .before .before .before in
+    (refl, at-loop .loop .inv .1, at-loop .loop .inv .2, omega arith, parts-walk-on _ _ _ _ _ _ (omega arith) (at-loop .loop .inv .4) _ (c .before .before .before .before .loop-test .taken) (sym (c .before .before .part-fine .ensures) ∙ not-false _ (c .before .if1 .left)) (c .with .ensures))
 
 returns-2 : tie.Need-returns-2 Inv-loop μ-loop
 returns-2 c = c .complete .ensures ∙ parts-walk-end _ _ _ _ _ _ (omega arith) (c .before .before .loop .inv .4) (c .before .loop-test .left)
@@ -59,15 +37,15 @@ parts-fine-spec =
     (tie.spec
     Inv-loop
     μ-loop
-    none-requires
+    (λ c κs. search needs)
     loop-holds
-    mul-part
-    array-copy-out-part
-    part-fine-requires
+    (λ c. omega arith)
+    (λ c. omega arith)
+    (λ c κs. search needs)
     returns
-    with-requires
-    add-i
-    loop-less
+    (λ c κs. search needs)
+    (λ c. omega arith)
+    (λ c. omega arith)
     loop-again
-    complete-requires
+    (λ c κs. search needs)
     returns-2)

@@ -19,32 +19,13 @@ abbrev μ-loop : tie.MeasureT-loop
 loop-holds : tie.Need-loop-holds Inv-loop μ-loop
 loop-holds c = (c .pre, c .good .0 .1 .0 .1, c .good .1 .0 .1 .0 .1, omega arith, refl)
 
-mul-left : tie.Need-mul-left Inv-loop μ-loop
-mul-left c = omega arith
-
-array-copy-out-left : tie.Need-array-copy-out-left Inv-loop μ-loop
-array-copy-out-left c = omega arith
-
-mul-right : tie.Need-mul-right Inv-loop μ-loop
-mul-right c = omega arith
-
-array-copy-out-right : tie.Need-array-copy-out-right Inv-loop μ-loop
-array-copy-out-right c = omega arith
-
-same-part-requires : tie.Need-same-part-requires Inv-loop μ-loop
-same-part-requires c κs = search needs
-
 returns : tie.Need-returns Inv-loop μ-loop
 returns c = same-walk-off _ _ _ _ _ (omega arith) (omega arith) (c .before .before .before .before .before .loop .inv .4) (c .before .before .before .before .loop-test .taken) (sym (c .before .same-part .ensures) ∙ not-true _ (c .if1 .taken))
 
-add-i : tie.Need-add-i Inv-loop μ-loop
-add-i c = omega arith
-
-loop-less : tie.Need-loop-less Inv-loop μ-loop
-loop-less c = omega arith
-
 loop-again : tie.Need-loop-again Inv-loop μ-loop
-loop-again c = (c .before .before .before .before .before .loop .inv .0, c .before .before .before .before .before .loop .inv .1, c .before .before .before .before .before .loop .inv .2, omega arith, same-walk-on _ _ _ _ _ (omega arith) (omega arith) (c .before .before .before .before .before .loop .inv .4) (c .before .before .before .before .loop-test .taken) (sym (c .before .same-part .ensures) ∙ not-false _ (c .if1 .left)))
+loop-again c =
+    let at-loop = c .before .before .before .before .before in
+    (at-loop .loop .inv .0, at-loop .loop .inv .1, at-loop .loop .inv .2, omega arith, same-walk-on _ _ _ _ _ (omega arith) (omega arith) (at-loop .loop .inv .4) (c .before .before .before .before .loop-test .taken) (sym (c .before .same-part .ensures) ∙ not-false _ (c .if1 .left)))
 
 returns-2 : tie.Need-returns-2 Inv-loop μ-loop
 returns-2 c = same-walk-end _ _ _ _ _ (omega arith) (omega arith) (c .before .loop .inv .4) (c .loop-test .left)
@@ -56,13 +37,13 @@ same-parts-spec =
     Inv-loop
     μ-loop
     loop-holds
-    mul-left
-    array-copy-out-left
-    mul-right
-    array-copy-out-right
-    same-part-requires
+    (λ c. omega arith)
+    (λ c. omega arith)
+    (λ c. omega arith)
+    (λ c. omega arith)
+    (λ c κs. search needs)
     returns
-    add-i
-    loop-less
+    (λ c. omega arith)
+    (λ c. omega arith)
     loop-again
     returns-2)

@@ -9,49 +9,37 @@ use Rattle.board_reader.proofs.ReadLaws.{counts-stopped, counts-went, r
 use Rattle.board.proofs.RuleLaws.{counts-in-range}
 use Rattle.board_reader.proofs.CountsLaws.{counts-found, counts-found-fine}
 
-refuse-requires : tie.Need-refuse-requires
-refuse-requires c κs = search needs
-
-no-board-requires : tie.Need-no-board-requires
-no-board-requires c κs = search needs
-
 returns : tie.Need-returns
 returns c = answer-refused (c .no-board .result) _ _ _ (c .no-board .ensures .0) (c .no-board .ensures .1) (c .before .refuse .ensures) ∙ reading-long _ (c .before .before .if1 .taken)
 
-read-counts-requires : tie.Need-read-counts-requires
-read-counts-requires c κs = search needs
-
-enum-known-answer : tie.Need-enum-known-answer
-enum-known-answer c = search needs
-
-enum-told : tie.Need-enum-told
-enum-told c = search needs
-
-no-board-requires-2 : tie.Need-no-board-requires-2
-no-board-requires-2 c κs = search needs
-
 returns-2 : tie.Need-returns-2
-returns-2 c = answer-refused (c .no-board2 .result) _ _ _ (c .no-board2 .ensures .0) (c .no-board2 .ensures .1) (ap toldAnswer (c .before .enum-told .given .1)) ∙ reading-stopped _ _ _ (c .before .before .before .before .if1 .left) (counts-stopped _ (c .before .before .before .read-counts .result) _ (c .before .enum-told .given .1) (c .before .before .before .read-counts .ensures))
+returns-2 c =
+    let at-read-counts = c .before .before .before in
+    answer-refused (c .no-board2 .result) _ _ _ (c .no-board2 .ensures .0) (c .no-board2 .ensures .1) (ap toldAnswer (c .before .enum-told .given .1)) ∙ reading-stopped _ _ _ (c .before .before .before .before .if1 .left) (counts-stopped _ (at-read-counts .read-counts .result) _ (c .before .enum-told .given .1) (at-read-counts .read-counts .ensures))
 
 read-parts-requires : tie.Need-read-parts-requires
 read-parts-requires c κs =
-    let read = counts-went _ (c .before .before .before .before .read-counts .result) _ (c .before .before .answer .given .1) (c .before .before .before .before .read-counts .ensures) in
+    let at-read-counts = c .before .before .before .before in
+    let read = counts-went _ (at-read-counts .read-counts .result) _ (c .before .before .answer .given .1) (at-read-counts .read-counts .ensures) in
     counts-in-range _ (counts-found-fine _ _ _ (counts-found _ _ _ read)) .most-parts
 
 returns-3 : tie.Need-returns-3
-returns-3 c = c .read-parts .ensures ∙ reading-went _ _ _ (c .before .before .before .before .before .before .if1 .left) (counts-went _ (c .before .before .before .before .before .read-counts .result) _ (c .before .before .before .answer .given .1) (c .before .before .before .before .before .read-counts .ensures))
+returns-3 c =
+    let at-read-counts = c .before .before .before .before .before in
+    let at-if1 = at-read-counts .before in
+    c .read-parts .ensures ∙ reading-went _ _ _ (at-if1 .if1 .left) (counts-went _ (at-read-counts .read-counts .result) _ (c .before .before .before .answer .given .1) (at-read-counts .read-counts .ensures))
 
 pub read-spec : {M : Type 1} → statement M
 read-spec =
     tie.close
     (tie.spec
-    refuse-requires
-    no-board-requires
+    (λ c κs. search needs)
+    (λ c κs. search needs)
     returns
-    read-counts-requires
-    enum-known-answer
-    enum-told
-    no-board-requires-2
+    (λ c κs. search needs)
+    (λ c. search needs)
+    (λ c. search needs)
+    (λ c κs. search needs)
     returns-2
     read-parts-requires
     returns-3)

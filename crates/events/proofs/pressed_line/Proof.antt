@@ -5,15 +5,6 @@ use Rattle.events.proofs.pressed_line.Tie as tie
 use mathlib.Core.Path.{_∙_}
 use Rattle.events.proofs.EventLaws.{pressed-refused, pressed-done}
 
-enum-known-answer : tie.Need-enum-known-answer
-enum-known-answer c = search needs
-
-enum-told : tie.Need-enum-told
-enum-told c = search needs
-
-run-line-requires : tie.Need-run-line-requires
-run-line-requires c κs = search needs
-
 returns : tie.Need-returns
 returns c = pressed-refused _ _ _ (c .before .before .before .before .args .pressed) _ (c .before .answer .given .1)
 
@@ -22,4 +13,4 @@ returns-2 c = c .run-line .ensures ∙ pressed-done _ _ _ (c .before .before .be
 
 pub pressed-line-spec : {M : Type 1} → statement M
 pressed-line-spec =
-    tie.close (tie.spec enum-known-answer enum-told run-line-requires returns returns-2)
+    tie.close (tie.spec (λ c. search needs) (λ c. search needs) (λ c κs. search needs) returns returns-2)

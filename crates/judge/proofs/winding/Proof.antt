@@ -19,28 +19,20 @@ loop-holds : tie.Need-loop-holds Inv-loop μ-loop
 loop-holds c = (sym (length-map (c .before .args .board .parts) _) ∙ c .before .good .0 .1 .1 .1 .0 .1 .0 .1, refl)
 
 returns : tie.Need-returns Inv-loop μ-loop
-returns c = sought-full _ _ (c .before .before .before .before .args .board .parts) (c .before .before .before .before .args .board .counts .parts) (c .before .before .loop .i) _ (c .before .before .loop .inv .1) (omega (arith, c .before .before .loop .inv .0, c .if1 .taken))
-
-mul-part : tie.Need-mul-part Inv-loop μ-loop
-mul-part c = omega arith
-
-array-copy-out-part : tie.Need-array-copy-out-part Inv-loop μ-loop
-array-copy-out-part c = omega arith
-
-is-winding-requires : tie.Need-is-winding-requires Inv-loop μ-loop
-is-winding-requires c κs = search needs
+returns c =
+    let at-loop = c .before .before in
+    let entry = at-loop .before .before in
+    sought-full _ _ (entry .args .board .parts) (entry .args .board .counts .parts) (at-loop .loop .i) _ (at-loop .loop .inv .1) (omega (arith, at-loop .loop .inv .0, c .if1 .taken))
 
 returns-2 : tie.Need-returns-2 Inv-loop μ-loop
-returns-2 c = sought-here _ _ _ _ _ _ (c .before .before .before .before .before .loop .inv .1) (c .before .before .before .before .loop-test .taken) (omega (arith, c .before .before .before .before .before .loop .inv .0, c .before .before .before .if1 .left)) (sym (c .before .is-winding .ensures) ∙ c .if2 .taken)
-
-add-i : tie.Need-add-i Inv-loop μ-loop
-add-i c = omega arith
-
-loop-less : tie.Need-loop-less Inv-loop μ-loop
-loop-less c = omega arith
+returns-2 c =
+    let at-loop = c .before .before .before .before .before in
+    sought-here _ _ _ _ _ _ (at-loop .loop .inv .1) (c .before .before .before .before .loop-test .taken) (omega (arith, at-loop .loop .inv .0, c .before .before .before .if1 .left)) (sym (c .before .is-winding .ensures) ∙ c .if2 .taken)
 
 loop-again : tie.Need-loop-again Inv-loop μ-loop
-loop-again c = (c .before .before .before .before .before .loop .inv .0, sought-on _ _ _ _ _ _ (c .before .before .before .before .before .loop .inv .1) (c .before .before .before .before .loop-test .taken) (omega (arith, c .before .before .before .before .before .loop .inv .0, c .before .before .before .if1 .left)) (sym (c .before .is-winding .ensures) ∙ c .if2 .left))
+loop-again c =
+    let at-loop = c .before .before .before .before .before in
+    (at-loop .loop .inv .0, sought-on _ _ _ _ _ _ (at-loop .loop .inv .1) (c .before .before .before .before .loop-test .taken) (omega (arith, at-loop .loop .inv .0, c .before .before .before .if1 .left)) (sym (c .before .is-winding .ensures) ∙ c .if2 .left))
 
 returns-3 : tie.Need-returns-3 Inv-loop μ-loop
 returns-3 c = sought-end _ _ _ _ _ _ (c .before .loop .inv .1) (c .loop-test .left)
@@ -53,11 +45,11 @@ winding-spec =
     μ-loop
     loop-holds
     returns
-    mul-part
-    array-copy-out-part
-    is-winding-requires
+    (λ c. omega arith)
+    (λ c. omega arith)
+    (λ c κs. search needs)
     returns-2
-    add-i
-    loop-less
+    (λ c. omega arith)
+    (λ c. omega arith)
     loop-again
     returns-3)

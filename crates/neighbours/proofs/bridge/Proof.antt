@@ -8,15 +8,6 @@ use mathlib.Core.List.{List}
 use Rattle.neighbours.specs.Neighbours.{joining}
 use Rattle.neighbours.proofs.GatherLaws.{bridged-conducting, bridged-open}
 
-conducts-requires : tie.Need-conducts-requires
-conducts-requires c κs = search needs
-
-join-requires : tie.Need-join-requires
-join-requires c κs = search needs
-
-join-requires-2 : tie.Need-join-requires-2
-join-requires-2 c κs = search needs
-
 returns : tie.Need-returns
 returns c =
     let args = c .before .before .before .before .args in
@@ -25,8 +16,10 @@ returns c =
     ∙ sym (bridged-conducting (args .state) (args .near) (args .part) (sym (c .before .before .before .conducts .ensures) ∙ c .before .before .if1 .taken))
 
 returns-2 : tie.Need-returns-2
-returns-2 c = sym (bridged-open (c .before .before .args .state) (c .before .before .args .near) (c .before .before .args .part) (sym (c .before .conducts .ensures) ∙ c .if1 .left))
+returns-2 c =
+    let entry = c .before .before in
+    sym (bridged-open (entry .args .state) (entry .args .near) (entry .args .part) (sym (c .before .conducts .ensures) ∙ c .if1 .left))
 
 pub bridge-spec : {M : Type 1} → statement M
 bridge-spec =
-    tie.close (tie.spec conducts-requires join-requires join-requires-2 returns returns-2)
+    tie.close (tie.spec (λ c κs. search needs) (λ c κs. search needs) (λ c κs. search needs) returns returns-2)

@@ -3,48 +3,6 @@ use borrow.Author.Needs.{needs}
 use Rattle.neighbours.proofs.conducts.Statement.{statement}
 use Rattle.neighbours.proofs.conducts.Tie as tie
 
-enum-told : tie.Need-enum-told
-enum-told c = search needs
-
-enum-known-kind : tie.Need-enum-known-kind
-enum-known-kind c = search needs
-
-wide-requires : tie.Need-wide-requires
-wide-requires c κs = search needs
-
-has-requires : tie.Need-has-requires
-has-requires c κs = search needs
-
-enum-known-kind-2 : tie.Need-enum-known-kind-2
-enum-known-kind-2 c = search needs
-
-wide-requires-2 : tie.Need-wide-requires-2
-wide-requires-2 c κs = search needs
-
-has-requires-2 : tie.Need-has-requires-2
-has-requires-2 c κs = search needs
-
-enum-known-kind-3 : tie.Need-enum-known-kind-3
-enum-known-kind-3 c = search needs
-
-wide-requires-3 : tie.Need-wide-requires-3
-wide-requires-3 c κs = search needs
-
-has-requires-3 : tie.Need-has-requires-3
-has-requires-3 c κs = search needs
-
-enum-told-2 : tie.Need-enum-told-2
-enum-told-2 c = search needs
-
-enum-told-3 : tie.Need-enum-told-3
-enum-told-3 c = search needs
-
-enum-told-4 : tie.Need-enum-told-4
-enum-told-4 c = search needs
-
-returns : tie.Need-returns
-returns c = search needs
-
 returns-2 : tie.Need-returns-2
 returns-2 c = simp (c .before .before .before .kind .given .1, c .has .ensures, c .before .wide .ensures .0)
 
@@ -54,36 +12,27 @@ returns-3 c = simp (c .before .before .before .kind2 .given .1, c .has2 .ensures
 returns-4 : tie.Need-returns-4
 returns-4 c = simp (c .before .before .before .kind3 .given .1, c .has3 .ensures, c .before .wide3 .ensures .0)
 
-returns-5 : tie.Need-returns-5
-returns-5 c = search needs
-
-returns-6 : tie.Need-returns-6
-returns-6 c = search needs
-
-returns-7 : tie.Need-returns-7
-returns-7 c = search needs
-
 pub conducts-spec : {M : Type 1} → statement M
 conducts-spec =
     tie.close
     (tie.spec
-    enum-told
-    enum-known-kind
-    wide-requires
-    has-requires
-    enum-known-kind-2
-    wide-requires-2
-    has-requires-2
-    enum-known-kind-3
-    wide-requires-3
-    has-requires-3
-    enum-told-2
-    enum-told-3
-    enum-told-4
-    returns
+    (λ c. search needs)
+    (λ c. search needs)
+    (λ c κs. search needs)
+    (λ c κs. search needs)
+    (λ c. search needs)
+    (λ c κs. search needs)
+    (λ c κs. search needs)
+    (λ c. search needs)
+    (λ c κs. search needs)
+    (λ c κs. search needs)
+    (λ c. search needs)
+    (λ c. search needs)
+    (λ c. search needs)
+    (λ c. search needs)
     returns-2
     returns-3
     returns-4
-    returns-5
-    returns-6
-    returns-7)
+    (λ c. search needs)
+    (λ c. search needs)
+    (λ c. search needs))

@@ -25,25 +25,11 @@ returns c =
     gather-walk-full (args .state) (loop .near) (args .board .parts) (args .board .counts .parts) (loop .i) _ (loop .inv .1) (omega (arith, loop .inv .0, c .if1 .taken))
     ∙ sym (neighbours-gathered (args .board) (args .state))
 
-mul-part : tie.Need-mul-part Inv-loop μ-loop
-mul-part c = omega arith
-
-array-copy-out-part : tie.Need-array-copy-out-part Inv-loop μ-loop
-array-copy-out-part c = omega arith
-
-bridge-requires : tie.Need-bridge-requires Inv-loop μ-loop
-bridge-requires c κs = search needs
-
-add-i : tie.Need-add-i Inv-loop μ-loop
-add-i c = omega arith
-
-loop-less : tie.Need-loop-less Inv-loop μ-loop
-loop-less c = omega arith
-
 loop-again : tie.Need-loop-again Inv-loop μ-loop
 loop-again c =
+    let entry = c .before .before .before .before .before .before in
     let loop = c .before .before .before .before .loop in
-    let args = c .before .before .before .before .before .before .args in (
+    let args = entry .args in (
       loop .inv .0,
       gather-walk-on (args .state) (loop .near) (args .board .parts) (args .board .counts .parts) (loop .i) _ (loop .inv .1) (c .bridge .result) (omega (arith, c .before .before .before .loop-test .taken)) (omega (arith, loop .inv .0, c .before .before .if1 .left)) (c .bridge .ensures),
     )
@@ -59,10 +45,10 @@ neighbours-spec =
     μ-loop
     loop-holds
     returns
-    mul-part
-    array-copy-out-part
-    bridge-requires
-    add-i
-    loop-less
+    (λ c. omega arith)
+    (λ c. omega arith)
+    (λ c κs. search needs)
+    (λ c. omega arith)
+    (λ c. omega arith)
     loop-again
     returns-2)

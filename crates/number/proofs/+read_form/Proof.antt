@@ -38,7 +38,9 @@ read-form-returns-2 : (t : ℕ) → read-form-lts.Need-returns-2 (
   read-form-below t,
   read-form.Post,
 ) (read-form-at t) read-form.Post
-read-form-returns-2 t c = form-ends (c .before .before .before .args .left) (c .before .before .before .args .at) (c .before .before .before .args .s .now) (c .before .if1 .left) (c .if2 .taken)
+read-form-returns-2 t c =
+    let entry = c .before .before .before in
+    form-ends (entry .args .left) (entry .args .at) (entry .args .s .now) (c .before .if1 .left) (c .if2 .taken)
 
 read-form-shared-slice-read-wide : (t : ℕ) → read-form-lts.Need-shared-slice-read-wide (
   wide-reads.Asked,
@@ -48,53 +50,15 @@ read-form-shared-slice-read-wide : (t : ℕ) → read-form-lts.Need-shared-slice
 ) (read-form-at t) read-form.Post
 read-form-shared-slice-read-wide t c = c .before .if2 .left
 
-read-form-wide-requires : (t : ℕ) → read-form-lts.Need-wide-requires (
-  wide-reads.Asked,
-  wide-reads.Learnt,
-  read-form-below t,
-  read-form.Post,
-) (read-form-at t) read-form.Post
-read-form-wide-requires t c κs = search needs
-
 read-form-returns-3 : (t : ℕ) → read-form-lts.Need-returns-3 (
   wide-reads.Asked,
   wide-reads.Learnt,
   read-form-below t,
   read-form.Post,
 ) (read-form-at t) read-form.Post
-read-form-returns-3 t c = form-one (c .before .before .before .before .before .before .args .left) (c .before .before .before .before .before .before .args .at) (c .before .before .before .before .before .before .args .s .now) (c .before .wide .result) (c .before .before .before .before .if1 .left) (c .before .before .before .if2 .left) (c .before .wide .ensures .0) (c .if3 .taken)
-
-read-form-add-read-form : (t : ℕ) → read-form-lts.Need-add-read-form (
-  wide-reads.Asked,
-  wide-reads.Learnt,
-  read-form-below t,
-  read-form.Post,
-) (read-form-at t) read-form.Post
-read-form-add-read-form t c = omega arith
-
-read-form-sub-read-form : (t : ℕ) → read-form-lts.Need-sub-read-form (
-  wide-reads.Asked,
-  wide-reads.Learnt,
-  read-form-below t,
-  read-form.Post,
-) (read-form-at t) read-form.Post
-read-form-sub-read-form t c = omega arith
-
-read-form-read-form-requires : (t : ℕ) → read-form-lts.Need-read-form-requires (
-  wide-reads.Asked,
-  wide-reads.Learnt,
-  read-form-below t,
-  read-form.Post,
-) (read-form-at t) read-form.Post
-read-form-read-form-requires t c κs = omega arith
-
-read-form-enum-known-rest : (t : ℕ) → read-form-lts.Need-enum-known-rest (
-  wide-reads.Asked,
-  wide-reads.Learnt,
-  read-form-below t,
-  read-form.Post,
-) (read-form-at t) read-form.Post
-read-form-enum-known-rest t c = search needs
+read-form-returns-3 t c =
+    let entry = c .before .before .before .before .before .before in
+    form-one (entry .args .left) (entry .args .at) (entry .args .s .now) (c .before .wide .result) (c .before .before .before .before .if1 .left) (c .before .before .before .if2 .left) (c .before .wide .ensures .0) (c .if3 .taken)
 
 read-form-returns-4 : (t : ℕ) → read-form-lts.Need-returns-4 (
   wide-reads.Asked,
@@ -102,7 +66,11 @@ read-form-returns-4 : (t : ℕ) → read-form-lts.Need-returns-4 (
   read-form-below t,
   read-form.Post,
 ) (read-form-at t) read-form.Post
-read-form-returns-4 t c = form-left (c .before .before .before .before .before .before .before .before .args .left) (c .before .before .before .before .before .before .before .before .args .at) (c .before .before .before .before .before .before .before .before .args .s .now) (c .before .before .before .wide .result) (c .before .before .before .before .before .before .if1 .left) (c .before .before .before .before .before .if2 .left) (c .before .before .before .wide .ensures .0) (c .before .before .if3 .left) (c .before .read-form .result) (c .before .read-form .ensures) (below-other _ _ (c .match .keys2))
+read-form-returns-4 t c =
+    let at-wide = c .before .before .before in
+    let at-if1 = at-wide .before .before .before in
+    let entry = at-if1 .before .before in
+    form-left (entry .args .left) (entry .args .at) (entry .args .s .now) (at-wide .wide .result) (at-if1 .if1 .left) (c .before .before .before .before .before .if2 .left) (at-wide .wide .ensures .0) (c .before .before .if3 .left) (c .before .read-form .result) (c .before .read-form .ensures) (below-other _ _ (c .match .keys2))
 
 read-form-returns-5 : (t : ℕ) → read-form-lts.Need-returns-5 (
   wide-reads.Asked,
@@ -110,7 +78,14 @@ read-form-returns-5 : (t : ℕ) → read-form-lts.Need-returns-5 (
   read-form-below t,
   read-form.Post,
 ) (read-form-at t) read-form.Post
-read-form-returns-5 t c = form-not-shortest (c .before .before .before .before .before .before .before .before .before .before .before .args .left) (c .before .before .before .before .before .before .before .before .before .before .before .args .at) (c .before .before .before .before .before .before .before .before .before .before .before .args .s .now) (c .before .before .before .before .before .before .wide .result) (c .before .before .before .before .before .before .before .before .before .if1 .left) (c .before .before .before .before .before .before .before .before .if2 .left) (c .before .before .before .before .before .before .wide .ensures .0) (c .before .before .before .before .before .if3 .left) (c .before .before .before .before .read-form .result) (c .before .before .before .before .read-form .ensures) (c .before .before .rest .given .0 .0) (c .before .before .rest .given .0 .1 .0) (c .before .before .rest .given .1) (c .if4 .taken)
+read-form-returns-5 t c =
+    let at-rest = c .before .before in
+    let at-read-form = at-rest .before .before in
+    let at-wide = at-read-form .before .before in
+    let at-if2 = at-wide .before .before in
+    let at-if1 = at-if2 .before in
+    let entry = at-if1 .before .before in
+    form-not-shortest (entry .args .left) (entry .args .at) (entry .args .s .now) (at-wide .wide .result) (at-if1 .if1 .left) (at-if2 .if2 .left) (at-wide .wide .ensures .0) (c .before .before .before .before .before .if3 .left) (at-read-form .read-form .result) (at-read-form .read-form .ensures) (at-rest .rest .given .0 .0) (at-rest .rest .given .0 .1 .0) (at-rest .rest .given .1) (c .if4 .taken)
 
 -- what bounds the rest of the number
 rest-bounds : (t : ℕ) (c : read-form-lts.Else4 (
@@ -151,7 +126,14 @@ read-form-returns-6 : (t : ℕ) → read-form-lts.Need-returns-6 (
   read-form-below t,
   read-form.Post,
 ) (read-form-at t) read-form.Post
-read-form-returns-6 t c = form-grown (c .before .before .before .before .before .before .before .before .before .before .before .args .left) (c .before .before .before .before .before .before .before .before .before .before .before .args .at) (c .before .before .before .before .before .before .before .before .before .before .before .args .s .now) (c .before .before .before .before .before .before .wide .result) (c .before .before .before .before .before .before .before .before .before .if1 .left) (c .before .before .before .before .before .before .before .before .if2 .left) (c .before .before .before .before .before .before .wide .ensures .0) (c .before .before .before .before .before .if3 .left) (c .before .before .before .before .read-form .result) (c .before .before .before .before .read-form .ensures) (c .before .before .rest .given .0 .0) (c .before .before .rest .given .0 .1 .0) (c .before .before .rest .given .1) (c .if4 .left)
+read-form-returns-6 t c =
+    let at-rest = c .before .before in
+    let at-read-form = at-rest .before .before in
+    let at-wide = at-read-form .before .before in
+    let at-if2 = at-wide .before .before in
+    let at-if1 = at-if2 .before in
+    let entry = at-if1 .before .before in
+    form-grown (entry .args .left) (entry .args .at) (entry .args .s .now) (at-wide .wide .result) (at-if1 .if1 .left) (at-if2 .if2 .left) (at-wide .wide .ensures .0) (c .before .before .before .before .before .if3 .left) (at-read-form .read-form .result) (at-read-form .read-form .ensures) (at-rest .rest .given .0 .0) (at-rest .rest .given .0 .1 .0) (at-rest .rest .given .1) (c .if4 .left)
 
 pub +read-form-spec : {M : Type 1} → statement M
 +read-form-spec = close μ-read-form λ t. read-form-lts.spec (
@@ -165,12 +147,12 @@ pub +read-form-spec : {M : Type 1} → statement M
     (read-form-returns t)
     (read-form-returns-2 t)
     (read-form-shared-slice-read-wide t)
-    (read-form-wide-requires t)
+    (λ c κs. search needs)
     (read-form-returns-3 t)
-    (read-form-add-read-form t)
-    (read-form-sub-read-form t)
-    (read-form-read-form-requires t)
-    (read-form-enum-known-rest t)
+    (λ c. omega arith)
+    (λ c. omega arith)
+    (λ c κs. omega arith)
+    (λ c. search needs)
     (read-form-returns-4 t)
     (read-form-returns-5 t)
     (read-form-mul-t14 t)

@@ -30,17 +30,13 @@ write-groups-below t =
     (falls 1 write-groups-kinds.ps _<_ μ-write-groups t)
     write-groups.Pre
 
-write-groups-cast-out : (t : ℕ) → write-groups-lts.Need-cast-out (
-  write-groups-below t,
-  write-groups.Post,
-) (write-groups-at t) write-groups.Post
-write-groups-cast-out t c = omega arith
-
 write-groups-slice-write-out : (t : ℕ) → write-groups-lts.Need-slice-write-out (
   write-groups-below t,
   write-groups.Post,
 ) (write-groups-at t) write-groups.Post
-write-groups-slice-write-out t c = encode-room (c .before .before .args .left) (c .before .before .args .value) (c .before .before .args .out .now) (c .before .before .args .at) (c .before .before .pre .1 .0) (c .before .before .pre .1 .2)
+write-groups-slice-write-out t c =
+    let entry = c .before .before in
+    encode-room (entry .args .left) (entry .args .value) (entry .args .out .now) (entry .args .at) (entry .pre .1 .0) (entry .pre .1 .2)
 
 write-groups-add-out : (t : ℕ) → write-groups-lts.Need-add-out (
   write-groups-below t,
@@ -58,25 +54,25 @@ write-groups-slice-write-out-2 : (t : ℕ) → write-groups-lts.Need-slice-write
   write-groups-below t,
   write-groups.Post,
 ) (write-groups-at t) write-groups.Post
-write-groups-slice-write-out-2 t c = encode-room (c .before .before .args .left) (c .before .before .args .value) (c .before .before .args .out .now) (c .before .before .args .at) (c .before .before .pre .1 .0) (c .before .before .pre .1 .2)
-
-write-groups-sub-write-groups : (t : ℕ) → write-groups-lts.Need-sub-write-groups (
-  write-groups-below t,
-  write-groups.Post,
-) (write-groups-at t) write-groups.Post
-write-groups-sub-write-groups t c = omega arith
+write-groups-slice-write-out-2 t c =
+    let entry = c .before .before in
+    encode-room (entry .args .left) (entry .args .value) (entry .args .out .now) (entry .args .at) (entry .pre .1 .0) (entry .pre .1 .2)
 
 write-groups-add-write-groups : (t : ℕ) → write-groups-lts.Need-add-write-groups (
   write-groups-below t,
   write-groups.Post,
 ) (write-groups-at t) write-groups.Post
-write-groups-add-write-groups t c = omega (arith, encode-room (c .before .before .before .args .left) (c .before .before .before .args .value) (c .before .before .before .args .out .now) (c .before .before .before .args .at) (c .before .before .before .pre .1 .0) (c .before .before .before .pre .1 .2))
+write-groups-add-write-groups t c =
+    let entry = c .before .before .before in
+    omega (arith, encode-room (entry .args .left) (entry .args .value) (entry .args .out .now) (entry .args .at) (entry .pre .1 .0) (entry .pre .1 .2))
 
 write-groups-write-groups-requires : (t : ℕ) → write-groups-lts.Need-write-groups-requires (
   write-groups-below t,
   write-groups.Post,
 ) (write-groups-at t) write-groups.Post
-write-groups-write-groups-requires t c κs = (omega arith, rw length-set (encode-rest (c .before .before .before .args .left) (c .before .before .before .args .value) (c .before .before .before .args .out .now) (c .before .before .before .args .at) (c .before .before .before .pre .1 .1) (c .before .before .before .pre .1 .2) (c .before .if1 .left)))
+write-groups-write-groups-requires t c κs =
+    let entry = c .before .before .before in
+    (omega arith, rw length-set (encode-rest (entry .args .left) (entry .args .value) (entry .args .out .now) (entry .args .at) (entry .pre .1 .1) (entry .pre .1 .2) (c .before .if1 .left)))
 
 write-groups-same-length : (t : ℕ) → write-groups-lts.Need-same-length (
   write-groups-below t,
@@ -88,7 +84,9 @@ write-groups-returns : (t : ℕ) → write-groups-lts.Need-returns (
   write-groups-below t,
   write-groups.Post,
 ) (write-groups-at t) write-groups.Post
-write-groups-returns t c = encode-one (c .before .before .args .left) (c .before .before .args .value) (c .before .before .args .out .now) (c .before .before .args .at) (c .before .before .pre .1 .0) (c .if1 .taken)
+write-groups-returns t c =
+    let entry = c .before .before in
+    encode-one (entry .args .left) (entry .args .value) (entry .args .out .now) (entry .args .at) (entry .pre .1 .0) (c .if1 .taken)
 
 write-groups-same-length-2 : (t : ℕ) → write-groups-lts.Need-same-length-2 (
   write-groups-below t,
@@ -100,7 +98,10 @@ write-groups-returns-2 : (t : ℕ) → write-groups-lts.Need-returns-2 (
   write-groups-below t,
   write-groups.Post,
 ) (write-groups-at t) write-groups.Post
-write-groups-returns-2 t c = encode-further (c .before .before .before .before .before .before .args .left) (c .before .before .before .before .before .before .args .value) (c .before .before .before .before .before .before .args .out .now) (c .before .before .write-groups .last .1 .1 .0) (c .before .before .before .before .before .before .args .at) (c .before .before .before .before .before .before .pre .1 .0) (c .before .before .before .before .if1 .left) (c .before .before .write-groups .ensures)
+write-groups-returns-2 t c =
+    let at-write-groups = c .before .before in
+    let entry = at-write-groups .before .before .before .before in
+    encode-further (entry .args .left) (entry .args .value) (entry .args .out .now) (at-write-groups .write-groups .last .1 .1 .0) (entry .args .at) (entry .pre .1 .0) (c .before .before .before .before .if1 .left) (at-write-groups .write-groups .ensures)
 
 pub +write-groups-spec : {M : Type 1} → statement M
 +write-groups-spec = close μ-write-groups λ t. write-groups-lts.spec (
@@ -109,12 +110,12 @@ pub +write-groups-spec : {M : Type 1} → statement M
 )
     (write-groups-at t)
     write-groups.Post
-    (write-groups-cast-out t)
+    (λ c. omega arith)
     (write-groups-slice-write-out t)
     (write-groups-add-out t)
     (write-groups-cast-out-2 t)
     (write-groups-slice-write-out-2 t)
-    (write-groups-sub-write-groups t)
+    (λ c. omega arith)
     (write-groups-add-write-groups t)
     (write-groups-write-groups-requires t)
     (write-groups-same-length t)

@@ -7,22 +7,10 @@ use mathlib.Core.Bool.{not}
 use Rattle.presses.specs.Presses.{releasing}
 use Rattle.presses.proofs.PressLaws.{left-asked}
 
-has-requires : tie.Need-has-requires
-has-requires c κs = search needs
-
-pressable-requires : tie.Need-pressable-requires
-pressable-requires c κs = search needs
-
-release-requires : tie.Need-release-requires
-release-requires c κs = search needs
-
-settle-requires : tie.Need-settle-requires
-settle-requires c κs = search needs
-
 returns : tie.Need-returns
 unfolding releasing
 returns c = c .settle .ensures ∙ left-asked _ _ _ _ _ _ _ _ (c .before .release .ensures) (c .before .before .pressable .ensures) (ap not (c .before .before .before .has .ensures))
 
 pub release-spec : {M : Type 1} → statement M
 release-spec =
-    tie.close (tie.spec has-requires pressable-requires release-requires settle-requires returns)
+    tie.close (tie.spec (λ c κs. search needs) (λ c κs. search needs) (λ c κs. search needs) (λ c κs. search needs) returns)

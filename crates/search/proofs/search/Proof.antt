@@ -5,12 +5,6 @@ use Rattle.search.proofs.search.Tie as tie
 use mathlib.Core.Path.{_∙_}
 use Rattle.search.proofs.VerdictLaws.{judged-most, judged-given}
 
-from-plus-requires : tie.Need-from-plus-requires
-from-plus-requires c κs = search needs
-
-from-plus-requires-2 : tie.Need-from-plus-requires-2
-from-plus-requires-2 c κs = search needs
-
 returns : tie.Need-returns
 returns c = c .from-plus .ensures ∙ judged-most _ _ _ _ (c .before .if1 .taken)
 
@@ -18,4 +12,4 @@ returns-2 : tie.Need-returns-2
 returns-2 c = c .from-plus2 .ensures ∙ judged-given _ _ _ _ (c .before .if1 .left)
 
 pub search-spec : {M : Type 1} → statement M
-search-spec = tie.close (tie.spec from-plus-requires from-plus-requires-2 returns returns-2)
+search-spec = tie.close (tie.spec (λ c κs. search needs) (λ c κs. search needs) returns returns-2)

@@ -6,12 +6,6 @@ use mathlib.Core.Path.{ap, sym}
 use Rattle.lines.specs.Lines.{toldLength}
 use Rattle.session.specs.HandingOut.{writtenAnswer}
 
-enum-known-written : tie.Need-enum-known-written
-enum-known-written c = search needs
-
-enum-known-written-2 : tie.Need-enum-known-written-2
-enum-known-written-2 c = search needs
-
 returns : tie.Need-returns
 returns c = ap (λ x. writtenAnswer (toldLength x)) (sym (c .before .written .given .1))
 
@@ -19,4 +13,4 @@ returns-2 : tie.Need-returns-2
 returns-2 c = ap (λ x. writtenAnswer (toldLength x)) (sym (c .before .written2 .given .1))
 
 pub answer-of-spec : {M : Type 1} → statement M
-answer-of-spec = tie.close (tie.spec enum-known-written enum-known-written-2 returns returns-2)
+answer-of-spec = tie.close (tie.spec (λ c. search needs) (λ c. search needs) returns returns-2)

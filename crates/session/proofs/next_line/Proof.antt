@@ -7,40 +7,29 @@ use Rattle.session.proofs.HandingLaws.{handing-short, handing-line, han
 returns : tie.Need-returns
 returns c = handing-short _ _ _ (c .if1 .taken)
 
-advance-requires : tie.Need-advance-requires
-advance-requires c κs = search needs
-
-enum-known-coming : tie.Need-enum-known-coming
-enum-known-coming c = search needs
-
-write-line-requires : tie.Need-write-line-requires
-write-line-requires c κs = search needs
-
-answer-of-requires : tie.Need-answer-of-requires
-answer-of-requires c κs = search needs
-
-enum-told : tie.Need-enum-told
-enum-told c = search needs
-
-same-length : tie.Need-same-length
-same-length c = search needs
-
 returns-2 : tie.Need-returns-2
-returns-2 c = handing-line _ _ _ (c .before .before .before .before .before .before .before .before .before .advance .result) (c .before .before .before .before .before .before .before .before .before .before .if1 .left) (c .before .before .before .before .before .before .before .before .before .advance .ensures) _ (c .before .before .before .write-line .result) (c .answer-of .result) _ (c .before .before .before .before .before .before .coming .given .1) (c .before .before .before .write-line .ensures) (c .answer-of .ensures)
+returns-2 c =
+    let at-write-line = c .before .before .before in
+    let at-coming = at-write-line .before .before .before in
+    let at-advance = at-coming .before .before .before in
+    let at-if1 = at-advance .before in
+    handing-line _ _ _ (at-advance .advance .result) (at-if1 .if1 .left) (at-advance .advance .ensures) _ (at-write-line .write-line .result) (c .answer-of .result) _ (at-coming .coming .given .1) (at-write-line .write-line .ensures) (c .answer-of .ensures)
 
 returns-3 : tie.Need-returns-3
-returns-3 c = handing-over _ _ _ (c .before .before .before .advance .result) (c .before .before .before .before .if1 .left) (c .before .before .before .advance .ensures) (c .enum-told .given .1)
+returns-3 c =
+    let at-advance = c .before .before .before in
+    handing-over _ _ _ (at-advance .advance .result) (c .before .before .before .before .if1 .left) (at-advance .advance .ensures) (c .enum-told .given .1)
 
 pub next-line-spec : {M : Type 1} → statement M
 next-line-spec =
     tie.close
     (tie.spec
     returns
-    advance-requires
-    enum-known-coming
-    write-line-requires
-    answer-of-requires
-    enum-told
-    same-length
+    (λ c κs. search needs)
+    (λ c. search needs)
+    (λ c κs. search needs)
+    (λ c κs. search needs)
+    (λ c. search needs)
+    (λ c. search needs)
     returns-2
     returns-3)

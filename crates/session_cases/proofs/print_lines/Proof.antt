@@ -16,38 +16,26 @@ Inv-loop input line₀ session₀ line session = length line ≡ 73
 abbrev μ-loop : tie.MeasureT-loop
 μ-loop input line₀ session₀ line session = toCome (toldSession session) input
 
-begin-requires : tie.Need-begin-requires Inv-loop μ-loop
-begin-requires c κs = search needs
-
-loop-holds : tie.Need-loop-holds Inv-loop μ-loop
-loop-holds c = search needs
-
-slice-aggregate-next-line : tie.Need-slice-aggregate-next-line Inv-loop μ-loop
-slice-aggregate-next-line c = search needs
-
-next-line-requires : tie.Need-next-line-requires Inv-loop μ-loop
-next-line-requires c κs = search needs
-
-enum-known-answer : tie.Need-enum-known-answer Inv-loop μ-loop
-enum-known-answer c = search needs
-
-returns : tie.Need-returns Inv-loop μ-loop
-returns c = search needs
-
 array-share-prefix-line : tie.Need-array-share-prefix-line Inv-loop μ-loop
-array-share-prefix-line c = omega (arith, came (c .before .before .before .before .before .before .loop .session) (c .before .before .before .before .before .before .before .before .before .args .input .now) (c .before .before .before .before .before .before .loop .line) (c .before .before .before .before .next-line .last .1 .1 .0) (c .before .before .before .before .next-line .result) (c .before .before .before .before .next-line .ensures) _ (c .before .answer .given .1) .fits, c .before .before .before .before .before .before .loop .inv)
+array-share-prefix-line c =
+    let at-next-line = c .before .before .before .before in
+    let at-loop = at-next-line .before .before in
+    let entry = at-loop .before .before .before in
+    omega (arith, came (at-loop .loop .session) (entry .args .input .now) (at-loop .loop .line) (at-next-line .next-line .last .1 .1 .0) (at-next-line .next-line .result) (at-next-line .next-line .ensures) _ (c .before .answer .given .1) .fits, at-loop .loop .inv)
 
 slice-aggregate-write-all : tie.Need-slice-aggregate-write-all Inv-loop μ-loop
-slice-aggregate-write-all c = let long : length (c .before .before .before .before .before .next-line .last .1 .1 .0) ≡ 73 = search needs in sym (length-take-le _ _ (omega (arith, came (c .before .before .before .before .before .before .before .loop .session) (c .before .before .before .before .before .before .before .before .before .before .args .input .now) (c .before .before .before .before .before .before .before .loop .line) (c .before .before .before .before .before .next-line .last .1 .1 .0) (c .before .before .before .before .before .next-line .result) (c .before .before .before .before .before .next-line .ensures) _ (c .before .before .answer .given .1) .fits, c .before .before .before .before .before .before .before .loop .inv, long)))
-
-write-all-requires : tie.Need-write-all-requires Inv-loop μ-loop
-write-all-requires c κs = search needs
+slice-aggregate-write-all c = let long : length (c .before .before .before .before .before .next-line .last .1 .1 .0) ≡ 73 =
+    let at-next-line = c .before .before .before .before .before in
+    let at-loop = at-next-line .before .before in
+    let entry = at-loop .before .before .before in
+    search needs in sym (length-take-le _ _ (omega (arith, came (at-loop .loop .session) (entry .args .input .now) (at-loop .loop .line) (at-next-line .next-line .last .1 .1 .0) (at-next-line .next-line .result) (at-next-line .next-line .ensures) _ (c .before .before .answer .given .1) .fits, at-loop .loop .inv, long)))
 
 loop-less : tie.Need-loop-less Inv-loop μ-loop
-loop-less c = came-less (c .before .before .before .before .before .before .before .before .before .loop .session) (c .before .before .before .before .before .before .before .before .before .before .before .before .args .input .now) (c .before .before .before .before .before .before .before .before .before .loop .line) (c .before .before .before .before .before .before .before .next-line .last .1 .1 .0) (c .before .before .before .before .before .before .before .next-line .result) (c .before .before .before .before .before .before .before .next-line .ensures) _ (c .before .before .before .before .answer .given .1)
-
-loop-again : tie.Need-loop-again Inv-loop μ-loop
-loop-again c = search needs
+loop-less c =
+    let at-next-line = c .before .before .before .before .before .before .before in
+    let at-loop = at-next-line .before .before in
+    let entry = at-loop .before .before .before in
+    came-less (at-loop .loop .session) (entry .args .input .now) (at-loop .loop .line) (at-next-line .next-line .last .1 .1 .0) (at-next-line .next-line .result) (at-next-line .next-line .ensures) _ (c .before .before .before .before .answer .given .1)
 
 pub print-lines-spec : {M : Type 1} → statement M
 print-lines-spec =
@@ -55,14 +43,14 @@ print-lines-spec =
     (tie.spec
     Inv-loop
     μ-loop
-    begin-requires
-    loop-holds
-    slice-aggregate-next-line
-    next-line-requires
-    enum-known-answer
-    returns
+    (λ c κs. search needs)
+    (λ c. search needs)
+    (λ c. search needs)
+    (λ c κs. search needs)
+    (λ c. search needs)
+    (λ c. search needs)
     array-share-prefix-line
     slice-aggregate-write-all
-    write-all-requires
+    (λ c κs. search needs)
     loop-less
-    loop-again)
+    (λ c. search needs))

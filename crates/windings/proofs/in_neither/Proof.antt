@@ -6,25 +6,18 @@ use mathlib.Core.Path.{_≡_}
 use mathlib.Core.Bool.{true, false}
 use Rattle.bits.specs.Sets.{member}
 
-wide-requires : tie.Need-wide-requires
-wide-requires c κs = search needs
-
-has-requires : tie.Need-has-requires
-has-requires c κs = search needs
-
 returns : tie.Need-returns
 returns c =
-    let there : member (c .before .before .before .args .x) (c .before .before .before .args .relay) ≡ true = cc in
+    let entry = c .before .before .before in
+    let there : member (entry .args .x) (entry .args .relay) ≡ true = cc in
     simp there
-
-has-requires-2 : tie.Need-has-requires-2
-has-requires-2 c κs = search needs
 
 returns-2 : tie.Need-returns-2
 returns-2 c =
-    let away : member (c .before .before .before .before .args .x) (c .before .before .before .before .args .relay) ≡ false = cc in
-    let second : c .has2 .result ≡ member (c .before .before .before .before .args .y) (c .before .before .before .before .args .relay) = cc in
+    let entry = c .before .before .before .before in
+    let away : member (entry .args .x) (entry .args .relay) ≡ false = cc in
+    let second : c .has2 .result ≡ member (entry .args .y) (entry .args .relay) = cc in
     simp (away, second)
 
 pub in-neither-spec : {M : Type 1} → statement M
-in-neither-spec = tie.close (tie.spec wide-requires has-requires returns has-requires-2 returns-2)
+in-neither-spec = tie.close (tie.spec (λ c κs. search needs) (λ c κs. search needs) returns (λ c κs. search needs) returns-2)

@@ -7,127 +7,87 @@ use mathlib.Core.Path.{_∙_}
 use Rattle.board_reader.proofs.FieldLaws.{told-found, told-refused}
 use Rattle.board_reader.proofs.CountsLaws.{no-counts-told, count-most, terminals-refused, relays-refused, buttons-refused, parts-refused, counts-read}
 
-cast-read-count : tie.Need-cast-read-count
-cast-read-count c = search needs
-
-cast-read-count-2 : tie.Need-cast-read-count-2
-cast-read-count-2 c = search needs
-
-read-count-requires : tie.Need-read-count-requires
-read-count-requires c κs = search needs
-
-enum-known-terminals-read : tie.Need-enum-known-terminals-read
-enum-known-terminals-read c = search needs
-
-enum-told : tie.Need-enum-told
-enum-told c = search needs
-
-no-counts-requires : tie.Need-no-counts-requires
-no-counts-requires c κs = search needs
-
 returns : tie.Need-returns
 returns c = no-counts-told (c .no-counts .result) _ _ (c .no-counts .ensures) (c .before .enum-told .given .1) ∙ terminals-refused _ _ _ (told-refused _ _ _ (c .before .enum-told .given .1) (c .before .before .before .read-count .ensures))
 
-cast-read-count-3 : tie.Need-cast-read-count-3
-cast-read-count-3 c = search needs
-
-read-count-requires-2 : tie.Need-read-count-requires-2
-read-count-requires-2 c κs = search needs
-
-enum-known-relays-read : tie.Need-enum-known-relays-read
-enum-known-relays-read c = search needs
-
-enum-told-2 : tie.Need-enum-told-2
-enum-told-2 c = search needs
-
-no-counts-requires-2 : tie.Need-no-counts-requires-2
-no-counts-requires-2 c κs = search needs
-
 returns-2 : tie.Need-returns-2
-returns-2 c = no-counts-told (c .no-counts2 .result) _ _ (c .no-counts2 .ensures) (c .before .enum-told2 .given .1) ∙ relays-refused _ _ _ _ _ (told-found _ _ _ _ (c .before .before .before .before .before .terminals-read .given .1) (c .before .before .before .before .before .before .before .read-count .ensures)) (told-refused _ _ _ (c .before .enum-told2 .given .1) (c .before .before .before .read-count2 .ensures))
-
-cast-read-count-4 : tie.Need-cast-read-count-4
-cast-read-count-4 c = search needs
-
-read-count-requires-3 : tie.Need-read-count-requires-3
-read-count-requires-3 c κs = search needs
-
-enum-known-buttons-read : tie.Need-enum-known-buttons-read
-enum-known-buttons-read c = search needs
-
-enum-told-3 : tie.Need-enum-told-3
-enum-told-3 c = search needs
-
-no-counts-requires-3 : tie.Need-no-counts-requires-3
-no-counts-requires-3 c κs = search needs
+returns-2 c =
+    let at-read-count = c .before .before .before .before .before .before .before in
+    no-counts-told (c .no-counts2 .result) _ _ (c .no-counts2 .ensures) (c .before .enum-told2 .given .1) ∙ relays-refused _ _ _ _ _ (told-found _ _ _ _ (c .before .before .before .before .before .terminals-read .given .1) (at-read-count .read-count .ensures)) (told-refused _ _ _ (c .before .enum-told2 .given .1) (c .before .before .before .read-count2 .ensures))
 
 returns-3 : tie.Need-returns-3
-returns-3 c = no-counts-told (c .no-counts3 .result) _ _ (c .no-counts3 .ensures) (c .before .enum-told3 .given .1) ∙ buttons-refused _ _ _ _ _ (told-found _ _ _ _ (c .before .before .before .before .before .before .before .before .before .terminals-read .given .1) (c .before .before .before .before .before .before .before .before .before .before .before .read-count .ensures)) _ _ (told-found _ _ _ _ (c .before .before .before .before .before .relays-read .given .1) (c .before .before .before .before .before .before .before .read-count2 .ensures)) (told-refused _ _ _ (c .before .enum-told3 .given .1) (c .before .before .before .read-count3 .ensures))
-
-cast-read-count-5 : tie.Need-cast-read-count-5
-cast-read-count-5 c = search needs
-
-read-count-requires-4 : tie.Need-read-count-requires-4
-read-count-requires-4 c κs = search needs
-
-enum-known-parts-read : tie.Need-enum-known-parts-read
-enum-known-parts-read c = search needs
-
-enum-told-4 : tie.Need-enum-told-4
-enum-told-4 c = search needs
-
-no-counts-requires-4 : tie.Need-no-counts-requires-4
-no-counts-requires-4 c κs = search needs
+returns-3 c =
+    let at-read-count2 = c .before .before .before .before .before .before .before in
+    let at-terminals-read = at-read-count2 .before .before in
+    let at-read-count = at-terminals-read .before .before in
+    no-counts-told (c .no-counts3 .result) _ _ (c .no-counts3 .ensures) (c .before .enum-told3 .given .1) ∙ buttons-refused _ _ _ _ _ (told-found _ _ _ _ (at-terminals-read .terminals-read .given .1) (at-read-count .read-count .ensures)) _ _ (told-found _ _ _ _ (c .before .before .before .before .before .relays-read .given .1) (at-read-count2 .read-count2 .ensures)) (told-refused _ _ _ (c .before .enum-told3 .given .1) (c .before .before .before .read-count3 .ensures))
 
 returns-4 : tie.Need-returns-4
-returns-4 c = no-counts-told (c .no-counts4 .result) _ _ (c .no-counts4 .ensures) (c .before .enum-told4 .given .1) ∙ parts-refused _ _ _ _ _ (told-found _ _ _ _ (c .before .before .before .before .before .before .before .before .before .before .before .before .before .terminals-read .given .1) (c .before .before .before .before .before .before .before .before .before .before .before .before .before .before .before .read-count .ensures)) _ _ (told-found _ _ _ _ (c .before .before .before .before .before .before .before .before .before .relays-read .given .1) (c .before .before .before .before .before .before .before .before .before .before .before .read-count2 .ensures)) _ _ (told-found _ _ _ _ (c .before .before .before .before .before .buttons-read .given .1) (c .before .before .before .before .before .before .before .read-count3 .ensures)) (told-refused _ _ _ (c .before .enum-told4 .given .1) (c .before .before .before .read-count4 .ensures))
+returns-4 c =
+    let at-read-count3 = c .before .before .before .before .before .before .before in
+    let at-relays-read = at-read-count3 .before .before in
+    let at-read-count2 = at-relays-read .before .before in
+    let at-terminals-read = at-read-count2 .before .before in
+    let at-read-count = at-terminals-read .before .before in
+    no-counts-told (c .no-counts4 .result) _ _ (c .no-counts4 .ensures) (c .before .enum-told4 .given .1) ∙ parts-refused _ _ _ _ _ (told-found _ _ _ _ (at-terminals-read .terminals-read .given .1) (at-read-count .read-count .ensures)) _ _ (told-found _ _ _ _ (at-relays-read .relays-read .given .1) (at-read-count2 .read-count2 .ensures)) _ _ (told-found _ _ _ _ (c .before .before .before .before .before .buttons-read .given .1) (at-read-count3 .read-count3 .ensures)) (told-refused _ _ _ (c .before .enum-told4 .given .1) (c .before .before .before .read-count4 .ensures))
 
 cast-t17 : tie.Need-cast-t17
-cast-t17 c = omega (arith, count-most _ _ _ _ _ _ (told-found _ _ _ _ (c .before .before .before .before .before .before .before .before .before .before .before .before .before .terminals-read .given .1) (c .before .before .before .before .before .before .before .before .before .before .before .before .before .before .before .read-count .ensures)))
+cast-t17 c =
+    let at-terminals-read = c .before .before .before .before .before .before .before .before .before .before .before .before .before in
+    let at-read-count = at-terminals-read .before .before in
+    omega (arith, count-most _ _ _ _ _ _ (told-found _ _ _ _ (at-terminals-read .terminals-read .given .1) (at-read-count .read-count .ensures)))
 
 cast-t18 : tie.Need-cast-t18
-cast-t18 c = omega (arith, count-most _ _ _ _ _ _ (told-found _ _ _ _ (c .before .before .before .before .before .before .before .before .before .relays-read .given .1) (c .before .before .before .before .before .before .before .before .before .before .before .read-count2 .ensures)))
+cast-t18 c =
+    let at-relays-read = c .before .before .before .before .before .before .before .before .before in
+    let at-read-count2 = at-relays-read .before .before in
+    omega (arith, count-most _ _ _ _ _ _ (told-found _ _ _ _ (at-relays-read .relays-read .given .1) (at-read-count2 .read-count2 .ensures)))
 
 cast-t19 : tie.Need-cast-t19
-cast-t19 c = omega (arith, count-most _ _ _ _ _ _ (told-found _ _ _ _ (c .before .before .before .before .before .buttons-read .given .1) (c .before .before .before .before .before .before .before .read-count3 .ensures)))
-
-cast-t20 : tie.Need-cast-t20
-cast-t20 c = search needs
+cast-t19 c =
+    let at-read-count3 = c .before .before .before .before .before .before .before in
+    omega (arith, count-most _ _ _ _ _ _ (told-found _ _ _ _ (c .before .before .before .before .before .buttons-read .given .1) (at-read-count3 .read-count3 .ensures)))
 
 returns-5 : tie.Need-returns-5
-returns-5 c = counts-read _ _ _ _ _ _ _ _ _ (told-found _ _ _ _ (c .before .before .before .before .before .before .before .before .before .before .before .before .before .terminals-read .given .1) (c .before .before .before .before .before .before .before .before .before .before .before .before .before .before .before .read-count .ensures)) (told-found _ _ _ _ (c .before .before .before .before .before .before .before .before .before .relays-read .given .1) (c .before .before .before .before .before .before .before .before .before .before .before .read-count2 .ensures)) (told-found _ _ _ _ (c .before .before .before .before .before .buttons-read .given .1) (c .before .before .before .before .before .before .before .read-count3 .ensures)) (told-found _ _ _ _ (c .before .parts-read .given .1) (c .before .before .before .read-count4 .ensures))
+returns-5 c =
+    let at-read-count3 = c .before .before .before .before .before .before .before in
+    let at-relays-read = at-read-count3 .before .before in
+    let at-read-count2 = at-relays-read .before .before in
+    let at-terminals-read = at-read-count2 .before .before in
+    let at-read-count = at-terminals-read .before .before in
+    counts-read _ _ _ _ _ _ _ _ _ (told-found _ _ _ _ (at-terminals-read .terminals-read .given .1) (at-read-count .read-count .ensures)) (told-found _ _ _ _ (at-relays-read .relays-read .given .1) (at-read-count2 .read-count2 .ensures)) (told-found _ _ _ _ (c .before .before .before .before .before .buttons-read .given .1) (at-read-count3 .read-count3 .ensures)) (told-found _ _ _ _ (c .before .parts-read .given .1) (c .before .before .before .read-count4 .ensures))
 
 pub read-counts-spec : {M : Type 1} → statement M
 read-counts-spec =
     tie.close
     (tie.spec
-    cast-read-count
-    cast-read-count-2
-    read-count-requires
-    enum-known-terminals-read
-    enum-told
-    no-counts-requires
+    (λ c. search needs)
+    (λ c. search needs)
+    (λ c κs. search needs)
+    (λ c. search needs)
+    (λ c. search needs)
+    (λ c κs. search needs)
     returns
-    cast-read-count-3
-    read-count-requires-2
-    enum-known-relays-read
-    enum-told-2
-    no-counts-requires-2
+    (λ c. search needs)
+    (λ c κs. search needs)
+    (λ c. search needs)
+    (λ c. search needs)
+    (λ c κs. search needs)
     returns-2
-    cast-read-count-4
-    read-count-requires-3
-    enum-known-buttons-read
-    enum-told-3
-    no-counts-requires-3
+    (λ c. search needs)
+    (λ c κs. search needs)
+    (λ c. search needs)
+    (λ c. search needs)
+    (λ c κs. search needs)
     returns-3
-    cast-read-count-5
-    read-count-requires-4
-    enum-known-parts-read
-    enum-told-4
-    no-counts-requires-4
+    (λ c. search needs)
+    (λ c κs. search needs)
+    (λ c. search needs)
+    (λ c. search needs)
+    (λ c κs. search needs)
     returns-4
     cast-t17
     cast-t18
     cast-t19
-    cast-t20
+    (λ c. search needs)
     returns-5)

@@ -7,12 +7,6 @@ use Rattle.number.specs.declared.Number.{Number}
 use Rattle.number.specs.Numbers.{toldNumber}
 use Rattle.board_reader.specs.Steps.{placeOf}
 
-enum-known-number : tie.Need-enum-known-number
-enum-known-number c = search needs
-
-enum-known-number-2 : tie.Need-enum-known-number-2
-enum-known-number-2 c = search needs
-
 returns : tie.Need-returns
 returns c = sym (ap (λ (x : Number). placeOf (toldNumber x)) (c .before .number .given .1))
 
@@ -20,4 +14,4 @@ returns-2 : tie.Need-returns-2
 returns-2 c = sym (ap (λ (x : Number). placeOf (toldNumber x)) (c .before .number2 .given .1))
 
 pub place-of-spec : {M : Type 1} → statement M
-place-of-spec = tie.close (tie.spec enum-known-number enum-known-number-2 returns returns-2)
+place-of-spec = tie.close (tie.spec (λ c. search needs) (λ c. search needs) returns returns-2)

@@ -6,15 +6,6 @@ use mathlib.Core.Path.{sym}
 use borrow.Author.Tests.{lt-ltb, le-ltb}
 use Rattle.board_reader.proofs.FieldLaws.{wanted-fails, wanted-passes, told-found, number-refused}
 
-read-number-requires : tie.Need-read-number-requires
-read-number-requires c κs = search needs
-
-enum-known-number : tie.Need-enum-known-number
-enum-known-number c = search needs
-
-enum-told : tie.Need-enum-told
-enum-told c = search needs
-
 returns : tie.Need-returns
 returns c = number-refused _ _ _ _ _ _ (c .enum-told .given .1) (c .before .before .read-number .ensures)
 
@@ -27,4 +18,4 @@ returns-3 c = sym (wanted-passes _ _ _ _ _ _ (told-found _ _ _ _ (c .before .bef
 pub read-below-spec : {M : Type 1} → statement M
 read-below-spec =
     tie.close
-    (tie.spec read-number-requires enum-known-number enum-told returns returns-2 returns-3)
+    (tie.spec (λ c κs. search needs) (λ c. search needs) (λ c. search needs) returns returns-2 returns-3)

@@ -5,15 +5,6 @@ use Rattle.board_reader.proofs.fields.read_within.Tie as tie
 use mathlib.Core.Path.{sym}
 use Rattle.board_reader.proofs.FieldLaws.{wanted-fails, wanted-passes, told-found, number-refused, range-below, range-above, range-within}
 
-read-number-requires : tie.Need-read-number-requires
-read-number-requires c κs = search needs
-
-enum-known-number : tie.Need-enum-known-number
-enum-known-number c = search needs
-
-enum-told : tie.Need-enum-told
-enum-told c = search needs
-
 returns : tie.Need-returns
 returns c = number-refused _ _ _ _ _ _ (c .enum-told .given .1) (c .before .before .read-number .ensures)
 
@@ -30,9 +21,9 @@ pub read-within-spec : {M : Type 1} → statement M
 read-within-spec =
     tie.close
     (tie.spec
-    read-number-requires
-    enum-known-number
-    enum-told
+    (λ c κs. search needs)
+    (λ c. search needs)
+    (λ c. search needs)
     returns
     returns-2
     returns-3

@@ -8,18 +8,9 @@ use Rattle.board_reader.proofs.FieldLaws.{wanted-below, name-wire, name
 returns : tie.Need-returns
 returns c = name-wire _ _ _ _ (c .if1 .taken)
 
-limit-requires : tie.Need-limit-requires
-limit-requires c κs = search needs
-
-wide-requires : tie.Need-wide-requires
-wide-requires c κs = search needs
-
-read-below-requires : tie.Need-read-below-requires
-read-below-requires c κs = search needs
-
 returns-2 : tie.Need-returns-2
 returns-2 c = c .read-below .ensures ∙ wanted-below 7 _ _ _ _ (c .before .wide .ensures .0 ∙ c .before .before .limit .ensures) ∙ name-carried _ _ _ _ (c .before .before .before .if1 .left)
 
 pub read-name-spec : {M : Type 1} → statement M
 read-name-spec =
-    tie.close (tie.spec returns limit-requires wide-requires read-below-requires returns-2)
+    tie.close (tie.spec returns (λ c κs. search needs) (λ c κs. search needs) (λ c κs. search needs) returns-2)

@@ -5,14 +5,8 @@ use Rattle.board_reader.proofs.parts.read_terminal.Tie as tie
 use mathlib.Core.Path.{_∙_}
 use Rattle.board_reader.proofs.FieldLaws.{wanted-below}
 
-wide-requires : tie.Need-wide-requires
-wide-requires c κs = search needs
-
-read-below-requires : tie.Need-read-below-requires
-read-below-requires c κs = search needs
-
 returns : tie.Need-returns
 returns c = c .read-below .ensures ∙ wanted-below 5 _ _ _ _ (c .before .wide .ensures .0)
 
 pub read-terminal-spec : {M : Type 1} → statement M
-read-terminal-spec = tie.close (tie.spec wide-requires read-below-requires returns)
+read-terminal-spec = tie.close (tie.spec (λ c κs. search needs) (λ c κs. search needs) returns)

@@ -7,47 +7,57 @@ use native.Mathlib.Omega.{arith}
 use Rattle.board_writer.proofs.PieceLaws.{number-room, number-put, numbers-done-first}
 use Rattle.board_writer.proofs.WriteLaws.{counts-to-come}
 
-wide-requires : tie.Need-wide-requires
-wide-requires c κs = search needs
-
 put-requires : tie.Need-put-requires
-put-requires c κs = number-room (c .before .wide .ensures .0) (counts-to-come (c .before .before .before .args .counts) (c .before .before .before .args .out .now) (c .before .before .before .pre .1)) (omega arith)
-
-wide-requires-2 : tie.Need-wide-requires-2
-wide-requires-2 c κs = search needs
+put-requires c κs =
+    let entry = c .before .before .before in
+    number-room (c .before .wide .ensures .0) (counts-to-come (entry .args .counts) (entry .args .out .now) (entry .pre .1)) (omega arith)
 
 put-requires-2 : tie.Need-put-requires-2
-put-requires-2 c κs = number-room (c .before .wide2 .ensures .0) (number-put (c .before .before .before .before .before .before .wide .ensures .0) (counts-to-come (c .before .before .before .before .before .before .before .before .args .counts) (c .before .before .before .before .before .before .before .before .args .out .now) (c .before .before .before .before .before .before .before .before .pre .1)) (c .before .before .before .before .put .ensures)) (omega arith)
-
-wide-requires-3 : tie.Need-wide-requires-3
-wide-requires-3 c κs = search needs
+put-requires-2 c κs =
+    let at-wide = c .before .before .before .before .before .before in
+    let entry = at-wide .before .before in
+    number-room (c .before .wide2 .ensures .0) (number-put (at-wide .wide .ensures .0) (counts-to-come (entry .args .counts) (entry .args .out .now) (entry .pre .1)) (c .before .before .before .before .put .ensures)) (omega arith)
 
 put-requires-3 : tie.Need-put-requires-3
-put-requires-3 c κs = number-room (c .before .wide3 .ensures .0) (number-put (c .before .before .before .before .before .before .wide2 .ensures .0) (number-put (c .before .before .before .before .before .before .before .before .before .before .before .wide .ensures .0) (counts-to-come (c .before .before .before .before .before .before .before .before .before .before .before .before .before .args .counts) (c .before .before .before .before .before .before .before .before .before .before .before .before .before .args .out .now) (c .before .before .before .before .before .before .before .before .before .before .before .before .before .pre .1)) (c .before .before .before .before .before .before .before .before .before .put .ensures)) (c .before .before .before .before .put2 .ensures)) (omega arith)
-
-cast-put : tie.Need-cast-put
-cast-put c = search needs
+put-requires-3 c κs =
+    let at-wide2 = c .before .before .before .before .before .before in
+    let at-put = at-wide2 .before .before .before in
+    let at-wide = at-put .before .before in
+    let entry = at-wide .before .before in
+    number-room (c .before .wide3 .ensures .0) (number-put (at-wide2 .wide2 .ensures .0) (number-put (at-wide .wide .ensures .0) (counts-to-come (entry .args .counts) (entry .args .out .now) (entry .pre .1)) (at-put .put .ensures)) (c .before .before .before .before .put2 .ensures)) (omega arith)
 
 put-requires-4 : tie.Need-put-requires-4
-put-requires-4 c κs = number-room refl (number-put (c .before .before .before .before .before .before .wide3 .ensures .0) (number-put (c .before .before .before .before .before .before .before .before .before .before .before .wide2 .ensures .0) (number-put (c .before .before .before .before .before .before .before .before .before .before .before .before .before .before .before .before .wide .ensures .0) (counts-to-come (c .before .before .before .before .before .before .before .before .before .before .before .before .before .before .before .before .before .before .args .counts) (c .before .before .before .before .before .before .before .before .before .before .before .before .before .before .before .before .before .before .args .out .now) (c .before .before .before .before .before .before .before .before .before .before .before .before .before .before .before .before .before .before .pre .1)) (c .before .before .before .before .before .before .before .before .before .before .before .before .before .before .put .ensures)) (c .before .before .before .before .before .before .before .before .before .put2 .ensures)) (c .before .before .before .before .put3 .ensures)) (omega arith)
-
-same-length : tie.Need-same-length
-same-length c = search needs
+put-requires-4 c κs =
+    let at-wide3 = c .before .before .before .before .before .before in
+    let at-put2 = at-wide3 .before .before .before in
+    let at-wide2 = at-put2 .before .before in
+    let at-put = at-wide2 .before .before .before in
+    let at-wide = at-put .before .before in
+    let entry = at-wide .before .before in
+    number-room refl (number-put (at-wide3 .wide3 .ensures .0) (number-put (at-wide2 .wide2 .ensures .0) (number-put (at-wide .wide .ensures .0) (counts-to-come (entry .args .counts) (entry .args .out .now) (entry .pre .1)) (at-put .put .ensures)) (at-put2 .put2 .ensures)) (c .before .before .before .before .put3 .ensures)) (omega arith)
 
 returns : tie.Need-returns
-returns c = numbers-done-first (number-put refl (number-put (c .before .before .before .before .before .before .before .before .before .wide3 .ensures .0) (number-put (c .before .before .before .before .before .before .before .before .before .before .before .before .before .before .wide2 .ensures .0) (number-put (c .before .before .before .before .before .before .before .before .before .before .before .before .before .before .before .before .before .before .before .wide .ensures .0) (counts-to-come (c .before .before .before .before .before .before .before .before .before .before .before .before .before .before .before .before .before .before .before .before .before .args .counts) (c .before .before .before .before .before .before .before .before .before .before .before .before .before .before .before .before .before .before .before .before .before .args .out .now) (c .before .before .before .before .before .before .before .before .before .before .before .before .before .before .before .before .before .before .before .before .before .pre .1)) (c .before .before .before .before .before .before .before .before .before .before .before .before .before .before .before .before .before .put .ensures)) (c .before .before .before .before .before .before .before .before .before .before .before .before .put2 .ensures)) (c .before .before .before .before .before .before .before .put3 .ensures)) (c .before .before .put4 .ensures))
+returns c =
+    let at-put3 = c .before .before .before .before .before .before .before in
+    let at-wide3 = at-put3 .before .before in
+    let at-put2 = at-wide3 .before .before .before in
+    let at-wide2 = at-put2 .before .before in
+    let at-put = at-wide2 .before .before .before in
+    let at-wide = at-put .before .before in
+    let entry = at-wide .before .before in
+    numbers-done-first (number-put refl (number-put (at-wide3 .wide3 .ensures .0) (number-put (at-wide2 .wide2 .ensures .0) (number-put (at-wide .wide .ensures .0) (counts-to-come (entry .args .counts) (entry .args .out .now) (entry .pre .1)) (at-put .put .ensures)) (at-put2 .put2 .ensures)) (at-put3 .put3 .ensures)) (c .before .before .put4 .ensures))
 
 pub write-counts-spec : {M : Type 1} → statement M
 write-counts-spec =
     tie.close
     (tie.spec
-    wide-requires
+    (λ c κs. search needs)
     put-requires
-    wide-requires-2
+    (λ c κs. search needs)
     put-requires-2
-    wide-requires-3
+    (λ c κs. search needs)
     put-requires-3
-    cast-put
+    (λ c. search needs)
     put-requires-4
-    same-length
+    (λ c. search needs)
     returns)

@@ -18,29 +18,25 @@ abbrev μ-loop : tie.MeasureT-loop
 loop-holds : tie.Need-loop-holds Inv-loop μ-loop
 loop-holds c = (c .before .pre .0, c .before .good .0 .1 .0 .1, omega arith, to-come-all (c .before .pre .1))
 
-mul-part : tie.Need-mul-part Inv-loop μ-loop
-mul-part c = omega arith
-
-array-copy-out-part : tie.Need-array-copy-out-part Inv-loop μ-loop
-array-copy-out-part c = omega arith
-
 write-part-requires : tie.Need-write-part-requires Inv-loop μ-loop
-write-part-requires c κs = part-room (c .before .before .before .before .before .args .t1) (c .before .before .before .before .before .args .count) (c .before .before .before .loop .i) (omega arith) (c .before .before .before .loop .inv .3) (c .before .before .loop-test .taken)
-
-add-i : tie.Need-add-i Inv-loop μ-loop
-add-i c = omega arith
-
-loop-less : tie.Need-loop-less Inv-loop μ-loop
-loop-less c = omega arith
+write-part-requires c κs =
+    let at-loop = c .before .before .before in
+    let entry = at-loop .before .before in
+    part-room (entry .args .t1) (entry .args .count) (at-loop .loop .i) (omega arith) (at-loop .loop .inv .3) (c .before .before .loop-test .taken)
 
 loop-again : tie.Need-loop-again Inv-loop μ-loop
-loop-again c = (c .before .before .before .before .before .before .loop .inv .0, c .before .before .before .before .before .before .loop .inv .1, omega arith, part-put (c .before .before .before .before .before .before .before .before .args .t1) (c .before .before .before .before .before .before .before .before .args .count) (c .before .before .before .before .before .before .loop .i) (omega arith) (c .before .before .before .before .before .before .loop .inv .3) (c .before .before .before .before .before .loop-test .taken) (c .before .before .write-part .ensures))
+loop-again c =
+    let at-loop = c .before .before .before .before .before .before in
+    let entry = at-loop .before .before in
+    (at-loop .loop .inv .0, at-loop .loop .inv .1, omega arith, part-put (entry .args .t1) (entry .args .count) (at-loop .loop .i) (omega arith) (at-loop .loop .inv .3) (c .before .before .before .before .before .loop-test .taken) (c .before .before .write-part .ensures))
 
 same-length : tie.Need-same-length Inv-loop μ-loop
 same-length c = to-come-length (c .before .loop .inv .3)
 
 returns : tie.Need-returns Inv-loop μ-loop
-returns c = parts-done (c .before .before .before .args .t1) (c .before .before .before .args .count) (c .before .loop .i) (omega arith) (c .before .loop .inv .3) (c .loop-test .left)
+returns c =
+    let entry = c .before .before .before in
+    parts-done (entry .args .t1) (entry .args .count) (c .before .loop .i) (omega arith) (c .before .loop .inv .3) (c .loop-test .left)
 
 pub write-parts-spec : {M : Type 1} → statement M
 write-parts-spec =
@@ -49,11 +45,11 @@ write-parts-spec =
     Inv-loop
     μ-loop
     loop-holds
-    mul-part
-    array-copy-out-part
+    (λ c. omega arith)
+    (λ c. omega arith)
     write-part-requires
-    add-i
-    loop-less
+    (λ c. omega arith)
+    (λ c. omega arith)
     loop-again
     same-length
     returns)

@@ -18,29 +18,16 @@ abbrev μ-loop : tie.MeasureT-loop
 loop-holds : tie.Need-loop-holds Inv-loop μ-loop
 loop-holds c = (c .pre, c .good .0 .1 .0 .1, omega arith, omega arith, omega arith)
 
-mul-part : tie.Need-mul-part Inv-loop μ-loop
-mul-part c = omega arith
-
-array-copy-out-part : tie.Need-array-copy-out-part Inv-loop μ-loop
-array-copy-out-part c = omega arith
-
-part-length-requires : tie.Need-part-length-requires Inv-loop μ-loop
-part-length-requires c κs = search needs
-
-add-total : tie.Need-add-total Inv-loop μ-loop
-add-total c = omega arith
-
-add-i : tie.Need-add-i Inv-loop μ-loop
-add-i c = omega arith
-
-loop-less : tie.Need-loop-less Inv-loop μ-loop
-loop-less c = omega arith
-
 loop-again : tie.Need-loop-again Inv-loop μ-loop
-loop-again c = (c .before .before .before .loop .inv .0, c .before .before .before .loop .inv .1, omega arith, omega arith, parts-length-on (c .before .before .before .before .args .t1) (c .before .before .before .before .args .count) (c .before .before .before .loop .i) (omega arith) (c .before .before .before .loop .total) (c .before .before .before .loop .inv .4) (c .before .before .loop-test .taken) (c .part-length .ensures .0))
+loop-again c =
+    let at-loop = c .before .before .before in
+    let entry = at-loop .before in
+    (at-loop .loop .inv .0, at-loop .loop .inv .1, omega arith, omega arith, parts-length-on (entry .args .t1) (entry .args .count) (at-loop .loop .i) (omega arith) (at-loop .loop .total) (at-loop .loop .inv .4) (c .before .before .loop-test .taken) (c .part-length .ensures .0))
 
 returns : tie.Need-returns Inv-loop μ-loop
-returns c = (parts-length-end (c .before .before .args .t1) (c .before .before .args .count) (c .before .loop .i) (omega arith) (c .before .loop .total) (c .before .loop .inv .4) (c .loop-test .left), omega arith)
+returns c =
+    let entry = c .before .before in
+    (parts-length-end (entry .args .t1) (entry .args .count) (c .before .loop .i) (omega arith) (c .before .loop .total) (c .before .loop .inv .4) (c .loop-test .left), omega arith)
 
 pub parts-length-spec : {M : Type 1} → statement M
 parts-length-spec =
@@ -49,11 +36,11 @@ parts-length-spec =
     Inv-loop
     μ-loop
     loop-holds
-    mul-part
-    array-copy-out-part
-    part-length-requires
-    add-total
-    add-i
-    loop-less
+    (λ c. omega arith)
+    (λ c. omega arith)
+    (λ c κs. search needs)
+    (λ c. omega arith)
+    (λ c. omega arith)
+    (λ c. omega arith)
     loop-again
     returns)

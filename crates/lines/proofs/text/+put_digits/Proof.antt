@@ -44,13 +44,17 @@ put-digits-slice-write-out : (t : ℕ) → put-digits-lts.Need-slice-write-out (
   put-digits-below t,
   put-digits.Post,
 ) (put-digits-at t) put-digits.Post
-put-digits-slice-write-out t c = digit-room (c .before .before .args .value) (c .before .before .args .out .now) (c .before .before .args .at) (c .before .before .pre .1)
+put-digits-slice-write-out t c =
+    let entry = c .before .before in
+    digit-room (entry .args .value) (entry .args .out .now) (entry .args .at) (entry .pre .1)
 
 put-digits-add-result : (t : ℕ) → put-digits-lts.Need-add-result (
   put-digits-below t,
   put-digits.Post,
 ) (put-digits-at t) put-digits.Post
-put-digits-add-result t c = omega (arith, digit-room (c .before .before .args .value) (c .before .before .args .out .now) (c .before .before .args .at) (c .before .before .pre .1))
+put-digits-add-result t c =
+    let entry = c .before .before in
+    omega (arith, digit-room (entry .args .value) (entry .args .out .now) (entry .args .at) (entry .pre .1))
 
 put-digits-same-length : (t : ℕ) → put-digits-lts.Need-same-length (
   put-digits-below t,
@@ -70,31 +74,41 @@ put-digits-put-digits-requires : (t : ℕ) → put-digits-lts.Need-put-digits-re
   put-digits-below t,
   put-digits.Post,
 ) (put-digits-at t) put-digits.Post
-put-digits-put-digits-requires t c κs = (omega (arith, rest-less (c .before .before .before .args .value) (omega arith)), tenth-room (c .before .before .before .args .value) (c .before .before .before .args .out .now) (c .before .before .before .args .at) (omega arith) (omega arith) (c .before .before .before .pre .1))
+put-digits-put-digits-requires t c κs =
+    let entry = c .before .before .before in
+    (omega (arith, rest-less (entry .args .value) (omega arith)), tenth-room (entry .args .value) (entry .args .out .now) (entry .args .at) (omega arith) (omega arith) (entry .pre .1))
 
 put-digits-cast-out-2 : (t : ℕ) → put-digits-lts.Need-cast-out-2 (
   put-digits-below t,
   put-digits.Post,
 ) (put-digits-at t) put-digits.Post
-put-digits-cast-out-2 t c = omega (arith, last-small (c .before .before .before .before .before .before .args .value))
+put-digits-cast-out-2 t c =
+    let entry = c .before .before .before .before .before .before in
+    omega (arith, last-small (entry .args .value))
 
 put-digits-add-out-2 : (t : ℕ) → put-digits-lts.Need-add-out-2 (
   put-digits-below t,
   put-digits.Post,
 ) (put-digits-at t) put-digits.Post
-put-digits-add-out-2 t c = omega (arith, last-small (c .before .before .before .before .before .before .args .value))
+put-digits-add-out-2 t c =
+    let entry = c .before .before .before .before .before .before in
+    omega (arith, last-small (entry .args .value))
 
 put-digits-slice-write-out-2 : (t : ℕ) → put-digits-lts.Need-slice-write-out-2 (
   put-digits-below t,
   put-digits.Post,
 ) (put-digits-at t) put-digits.Post
-put-digits-slice-write-out-2 t c = last-room (c .before .before .before .before .before .before .args .value) (c .before .before .before .before .before .before .args .out .now) (c .before .before .before .before .before .before .args .at) (omega arith) (omega arith) (c .before .before .put-digits .ensures) (c .before .before .before .before .before .before .pre .1)
+put-digits-slice-write-out-2 t c =
+    let entry = c .before .before .before .before .before .before in
+    last-room (entry .args .value) (entry .args .out .now) (entry .args .at) (omega arith) (omega arith) (c .before .before .put-digits .ensures) (entry .pre .1)
 
 put-digits-add-result-2 : (t : ℕ) → put-digits-lts.Need-add-result-2 (
   put-digits-below t,
   put-digits.Post,
 ) (put-digits-at t) put-digits.Post
-put-digits-add-result-2 t c = omega (arith, last-room (c .before .before .before .before .before .before .args .value) (c .before .before .before .before .before .before .args .out .now) (c .before .before .before .before .before .before .args .at) (omega arith) (omega arith) (c .before .before .put-digits .ensures) (c .before .before .before .before .before .before .pre .1))
+put-digits-add-result-2 t c =
+    let entry = c .before .before .before .before .before .before in
+    omega (arith, last-room (entry .args .value) (entry .args .out .now) (entry .args .at) (omega arith) (omega arith) (c .before .before .put-digits .ensures) (entry .pre .1))
 
 put-digits-same-length-2 : (t : ℕ) → put-digits-lts.Need-same-length-2 (
   put-digits-below t,
@@ -106,7 +120,9 @@ put-digits-returns-2 : (t : ℕ) → put-digits-lts.Need-returns-2 (
   put-digits-below t,
   put-digits.Post,
 ) (put-digits-at t) put-digits.Post
-put-digits-returns-2 t c = last-put (c .before .before .before .before .before .before .args .value) (c .before .before .before .before .before .before .args .out .now) (c .before .before .before .before .before .before .args .at) (omega arith) (omega arith) (c .before .before .put-digits .ensures)
+put-digits-returns-2 t c =
+    let entry = c .before .before .before .before .before .before in
+    last-put (entry .args .value) (entry .args .out .now) (entry .args .at) (omega arith) (omega arith) (c .before .before .put-digits .ensures)
 
 pub +put-digits-spec : {M : Type 1} → statement M
 +put-digits-spec = close μ-put-digits λ t. put-digits-lts.spec (

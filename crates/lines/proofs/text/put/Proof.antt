@@ -15,35 +15,27 @@ Inv-loop bytes out₀ at i₀ out i = (i ≤ length bytes) × (out ≡ sets out�
 abbrev μ-loop : tie.MeasureT-loop
 μ-loop bytes out₀ at i₀ out i = length bytes - i
 
-loop-holds : tie.Need-loop-holds Inv-loop μ-loop
-loop-holds c = search needs
-
-shared-slice-read-out : tie.Need-shared-slice-read-out Inv-loop μ-loop
-shared-slice-read-out c = search needs
-
-add-out : tie.Need-add-out Inv-loop μ-loop
-add-out c = search needs
-
 slice-write-out : tie.Need-slice-write-out Inv-loop μ-loop
-slice-write-out c = omega (arith, ap length (c .before .before .loop .inv .1), length-sets (c .before .before .before .args .out .now) (c .before .before .before .args .at) (take (c .before .before .loop .i) (c .before .before .before .args .bytes .now)))
-
-add-i : tie.Need-add-i Inv-loop μ-loop
-add-i c = search needs
-
-loop-less : tie.Need-loop-less Inv-loop μ-loop
-loop-less c = search needs
+slice-write-out c =
+    let at-loop = c .before .before in
+    let entry = at-loop .before in
+    omega (arith, ap length (at-loop .loop .inv .1), length-sets (entry .args .out .now) (entry .args .at) (take (at-loop .loop .i) (entry .args .bytes .now)))
 
 loop-again : tie.Need-loop-again Inv-loop μ-loop
-loop-again c = (omega arith, bytes-next (c .before .before .before .args .out .now) (c .before .before .before .args .at) (c .before .before .before .args .bytes .now) (c .before .before .loop .i) (c .before .before .loop .inv .1) (omega arith))
-
-add-result : tie.Need-add-result Inv-loop μ-loop
-add-result c = search needs
+loop-again c =
+    let at-loop = c .before .before in
+    let entry = at-loop .before in
+    (omega arith, bytes-next (entry .args .out .now) (entry .args .at) (entry .args .bytes .now) (at-loop .loop .i) (at-loop .loop .inv .1) (omega arith))
 
 same-length : tie.Need-same-length Inv-loop μ-loop
-same-length c = ap length (c .before .loop .inv .1) ∙ length-sets (c .before .before .args .out .now) (c .before .before .args .at) (take (c .before .loop .i) (c .before .before .args .bytes .now))
+same-length c =
+    let entry = c .before .before in
+    ap length (c .before .loop .inv .1) ∙ length-sets (entry .args .out .now) (entry .args .at) (take (c .before .loop .i) (entry .args .bytes .now))
 
 returns : tie.Need-returns Inv-loop μ-loop
-returns c = bytes-all (c .before .before .args .out .now) (c .before .before .args .at) (c .before .before .args .bytes .now) (c .before .loop .i) (c .before .loop .inv .1) (c .before .loop .inv .0) (omega arith)
+returns c =
+    let entry = c .before .before in
+    bytes-all (entry .args .out .now) (entry .args .at) (entry .args .bytes .now) (c .before .loop .i) (c .before .loop .inv .1) (c .before .loop .inv .0) (omega arith)
 
 pub put-spec : {M : Type 1} → statement M
 put-spec =
@@ -51,13 +43,13 @@ put-spec =
     (tie.spec
     Inv-loop
     μ-loop
-    loop-holds
-    shared-slice-read-out
-    add-out
+    (λ c. search needs)
+    (λ c. search needs)
+    (λ c. search needs)
     slice-write-out
-    add-i
-    loop-less
+    (λ c. search needs)
+    (λ c. search needs)
     loop-again
-    add-result
+    (λ c. search needs)
     same-length
     returns)

@@ -4,51 +4,60 @@ use Rattle.lines.proofs.LineLaws.{word-room, field-room, drawn-room, ev
 use Rattle.lines.proofs.text.put_event.Statement.{statement}
 use Rattle.lines.proofs.text.put_event.Tie as tie
 
-put-number-requires : tie.Need-put-number-requires
-put-number-requires c κs = search needs
-
 put-word-requires : tie.Need-put-word-requires
-put-word-requires c κs = word-room (c .before .before .before .before .before .before .args .number) 0 0 (c .before .before .before .before .before .before .args .word) (c .before .before .before .before .before .before .args .out .now) (c .before .before .before .before .before .before .pre) (c .before .before .before .put-number .ensures)
-
-enum-known-word : tie.Need-enum-known-word
-enum-known-word c = search needs
-
-cast-put-number : tie.Need-cast-put-number
-cast-put-number c = search needs
+put-word-requires c κs =
+    let entry = c .before .before .before .before .before .before in
+    word-room (entry .args .number) 0 0 (entry .args .word) (entry .args .out .now) (entry .pre) (c .before .before .before .put-number .ensures)
 
 put-number-requires-2 : tie.Need-put-number-requires-2
-put-number-requires-2 c κs = field-room (c .before .before .before .before .before .before .before .before .before .before .before .before .before .before .args .number) 0 0 (c .before .before .before .before .before .before .before .before .before .before .before .before .before .before .args .word) (c .before .before .before .before .before .before .before .before .before .before .before .before .before .before .args .out .now) (c .before .before .before .before .before .before .before .before .before .before .before .before .before .before .pre) (c .before .before .before .before .before .before .before .before .before .before .before .put-number .ensures) (c .before .before .before .before .before .before .before .put-word .ensures)
+put-number-requires-2 c κs =
+    let at-put-word = c .before .before .before .before .before .before .before in
+    let at-put-number = at-put-word .before .before .before .before in
+    let entry = at-put-number .before .before .before in
+    field-room (entry .args .number) 0 0 (entry .args .word) (entry .args .out .now) (entry .pre) (at-put-number .put-number .ensures) (at-put-word .put-word .ensures)
 
 put-number-requires-3 : tie.Need-put-number-requires-3
-put-number-requires-3 c κs = field-room (c .before .before .before .before .before .before .before .before .before .before .before .args .number) 0 0 (c .before .before .before .before .before .before .before .before .before .before .before .args .word) (c .before .before .before .before .before .before .before .before .before .before .before .args .out .now) (c .before .before .before .before .before .before .before .before .before .before .before .pre) (c .before .before .before .before .before .before .before .before .put-number .ensures) (c .before .before .before .before .put-word .ensures)
+put-number-requires-3 c κs =
+    let at-put-number = c .before .before .before .before .before .before .before .before in
+    let entry = at-put-number .before .before .before in
+    field-room (entry .args .number) 0 0 (entry .args .word) (entry .args .out .now) (entry .pre) (at-put-number .put-number .ensures) (c .before .before .before .before .put-word .ensures)
 
 put-number-requires-4 : tie.Need-put-number-requires-4
-put-number-requires-4 c κs = drawn-room (c .before .before .before .before .before .before .before .before .before .before .before .before .before .before .before .args .number) (c .before .before .before .before .before .before .before .before .before .before .before .before .before .before .before .args .moves) 0 (c .before .before .before .before .before .before .before .before .before .before .before .before .before .before .before .args .word) (c .before .before .before .before .before .before .before .before .before .before .before .before .before .before .before .args .out .now) (c .before .before .before .before .before .before .before .before .before .before .before .before .before .before .before .pre) (c .before .before .before .before .before .before .before .before .before .before .before .before .put-number .ensures) (c .before .before .before .before .before .before .before .before .put-word .ensures) (c .before .before .before .put-number3 .ensures)
-
-same-length : tie.Need-same-length
-same-length c = search needs
+put-number-requires-4 c κs =
+    let at-put-word = c .before .before .before .before .before .before .before .before in
+    let at-put-number = at-put-word .before .before .before .before in
+    let entry = at-put-number .before .before .before in
+    drawn-room (entry .args .number) (entry .args .moves) 0 (entry .args .word) (entry .args .out .now) (entry .pre) (at-put-number .put-number .ensures) (at-put-word .put-word .ensures) (c .before .before .before .put-number3 .ensures)
 
 returns : tie.Need-returns
-returns c = event-refused (c .before .before .before .before .before .before .before .before .before .before .before .before .before .before .before .before .before .args .number) (c .before .before .before .before .before .before .before .before .before .before .before .before .before .before .before .before .before .args .moves) (c .before .before .before .before .before .before .before .before .before .before .before .before .before .before .before .before .before .args .drawn) (c .before .before .before .before .before .before .before .before .before .before .before .before .before .before .before .before .before .args .word) (c .before .before .before .before .before .before .before .before .before .before .before .before .before .before .before .before .before .args .out .now) (c .before .before .before .before .before .before .before .before .before .before .before .before .before .before .before .before .before .pre) (c .before .before .before .before .before .before .before .before .before .before .before .before .before .before .put-number .ensures) (c .before .before .before .before .before .before .before .before .before .before .put-word .ensures) (c .before .before .before .before .before .before .word .given .1) (c .before .before .put-number2 .ensures)
-
-same-length-2 : tie.Need-same-length-2
-same-length-2 c = search needs
+returns c =
+    let at-word = c .before .before .before .before .before .before in
+    let at-put-word = at-word .before .before .before .before in
+    let at-put-number = at-put-word .before .before .before .before in
+    let entry = at-put-number .before .before .before in
+    event-refused (entry .args .number) (entry .args .moves) (entry .args .drawn) (entry .args .word) (entry .args .out .now) (entry .pre) (at-put-number .put-number .ensures) (at-put-word .put-word .ensures) (at-word .word .given .1) (c .before .before .put-number2 .ensures)
 
 returns-2 : tie.Need-returns-2
-returns-2 c = event-ran (c .before .before .before .before .before .before .before .before .before .before .before .before .before .before .before .before .before .before .args .number) (c .before .before .before .before .before .before .before .before .before .before .before .before .before .before .before .before .before .before .args .moves) (c .before .before .before .before .before .before .before .before .before .before .before .before .before .before .before .before .before .before .args .drawn) (c .before .before .before .before .before .before .before .before .before .before .before .before .before .before .before .before .before .before .args .word) (c .before .before .before .before .before .before .before .before .before .before .before .before .before .before .before .before .before .before .args .out .now) (c .before .before .before .before .before .before .before .before .before .before .before .before .before .before .before .before .before .before .pre) (c .before .before .before .before .before .before .before .before .before .before .before .before .before .before .before .put-number .ensures) (c .before .before .before .before .before .before .before .before .before .before .before .put-word .ensures) (c .before .before .before .before .before .before .put-number3 .ensures) (c .before .before .before .before .before .before .before .before .match .keys2) (c .before .before .put-number4 .ensures)
+returns-2 c =
+    let at-put-number3 = c .before .before .before .before .before .before in
+    let at-match = at-put-number3 .before .before in
+    let at-put-word = at-match .before .before .before in
+    let at-put-number = at-put-word .before .before .before .before in
+    let entry = at-put-number .before .before .before in
+    event-ran (entry .args .number) (entry .args .moves) (entry .args .drawn) (entry .args .word) (entry .args .out .now) (entry .pre) (at-put-number .put-number .ensures) (at-put-word .put-word .ensures) (at-put-number3 .put-number3 .ensures) (at-match .match .keys2) (c .before .before .put-number4 .ensures)
 
 pub put-event-spec : {M : Type 1} → statement M
 put-event-spec =
     tie.close
     (tie.spec
-    put-number-requires
+    (λ c κs. search needs)
     put-word-requires
-    enum-known-word
-    cast-put-number
+    (λ c. search needs)
+    (λ c. search needs)
     put-number-requires-2
     put-number-requires-3
     put-number-requires-4
-    same-length
+    (λ c. search needs)
     returns
-    same-length-2
+    (λ c. search needs)
     returns-2)

@@ -7,20 +7,25 @@ use Rattle.lines.proofs.text.put_number.Statement.{statement}
 use Rattle.lines.proofs.text.put_number.Tie as tie
 
 put-digits-requires : tie.Need-put-digits-requires
-put-digits-requires c κs = number-room (c .before .before .args .value) (c .before .before .args .out .now) (c .before .before .args .at) (c .before .before .pre)
+put-digits-requires c κs =
+    let entry = c .before .before in
+    number-room (entry .args .value) (entry .args .out .now) (entry .args .at) (entry .pre)
 
 slice-write-out : tie.Need-slice-write-out
-slice-write-out c = after-room (c .before .before .before .before .before .args .value) (c .before .before .before .before .before .args .out .now) (c .before .before .before .before .before .args .at) (c .before .before .put-digits .ensures) (c .before .before .before .before .before .pre)
+slice-write-out c =
+    let entry = c .before .before .before .before .before in
+    after-room (entry .args .value) (entry .args .out .now) (entry .args .at) (c .before .before .put-digits .ensures) (entry .pre)
 
 add-result : tie.Need-add-result
-add-result c = omega (arith, after-room (c .before .before .before .before .before .args .value) (c .before .before .before .before .before .args .out .now) (c .before .before .before .before .before .args .at) (c .before .before .put-digits .ensures) (c .before .before .before .before .before .pre))
-
-same-length : tie.Need-same-length
-same-length c = search needs
+add-result c =
+    let entry = c .before .before .before .before .before in
+    omega (arith, after-room (entry .args .value) (entry .args .out .now) (entry .args .at) (c .before .before .put-digits .ensures) (entry .pre))
 
 returns : tie.Need-returns
-returns c = put-after (c .before .before .before .before .before .args .out .now) (c .before .before .before .before .before .args .at) (decimal (c .before .before .before .before .before .args .value)) (c .before .before .put-digits .ensures) (c .before .before .before .before .before .args .then)
+returns c =
+    let entry = c .before .before .before .before .before in
+    put-after (entry .args .out .now) (entry .args .at) (decimal (entry .args .value)) (c .before .before .put-digits .ensures) (entry .args .then)
 
 pub put-number-spec : {M : Type 1} → statement M
 put-number-spec =
-    tie.close (tie.spec put-digits-requires slice-write-out add-result same-length returns)
+    tie.close (tie.spec put-digits-requires slice-write-out add-result (λ c. search needs) returns)

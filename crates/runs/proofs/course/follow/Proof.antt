@@ -27,56 +27,30 @@ abbrev μ-run : tie.MeasureT-run
 run-holds : tie.Need-run-holds Inv-scan μ-scan Inv-run μ-run
 run-holds c = course-starts _ _ _ _
 
-neighbours-requires : tie.Need-neighbours-requires Inv-scan μ-scan Inv-run μ-run
-neighbours-requires c κs = search needs
-
 scan-holds : tie.Need-scan-holds Inv-scan μ-scan Inv-run μ-run
 scan-holds c = scan-starts _ _ _ _ _
 
-wide-requires : tie.Need-wide-requires Inv-scan μ-scan Inv-run μ-run
-wide-requires c κs = search needs
-
-step-requires : tie.Need-step-requires Inv-scan μ-scan Inv-run μ-run
-step-requires c κs = search needs
-
-enum-told : tie.Need-enum-told Inv-scan μ-scan Inv-run μ-run
-enum-told c = search needs
-
-add-relay : tie.Need-add-relay Inv-scan μ-scan Inv-run μ-run
-add-relay c = omega arith
-
-scan-less : tie.Need-scan-less Inv-scan μ-scan Inv-run μ-run
-scan-less c = omega arith
-
 scan-again : tie.Need-scan-again Inv-scan μ-scan Inv-run μ-run
-scan-again c = scan-rests _ _ _ _ _ _ _ _ _ (c .before .before .before .before .before .before .scan .inv) (c .before .before .before .before .before .if1 .left) (sym (ap toldMotion (c .enum-told .given .1)) ∙ (step-seen _ _ _ _ _ _ _ _ (c .before .before .before .before .before .before .before .neighbours .ensures) (c .before .before .before .before .before .before .scan .inv .same-state) (c .before .before .before .wide .ensures .0) (c .before .before .step .ensures)))
-
-enum-told-2 : tie.Need-enum-told-2 Inv-scan μ-scan Inv-run μ-run
-enum-told-2 c = search needs
-
-enum-told-3 : tie.Need-enum-told-3 Inv-scan μ-scan Inv-run μ-run
-enum-told-3 c = search needs
-
-byte-requires : tie.Need-byte-requires Inv-scan μ-scan Inv-run μ-run
-byte-requires c κs = search needs
-
-slice-write-log : tie.Need-slice-write-log Inv-scan μ-scan Inv-run μ-run
-slice-write-log c = omega arith
-
-wide-requires-2 : tie.Need-wide-requires-2 Inv-scan μ-scan Inv-run μ-run
-wide-requires-2 c κs = search needs
-
-after-requires : tie.Need-after-requires Inv-scan μ-scan Inv-run μ-run
-after-requires c κs = search needs
-
-add-moves : tie.Need-add-moves Inv-scan μ-scan Inv-run μ-run
-add-moves c = omega arith
+scan-again c =
+    let at-scan = c .before .before .before .before .before .before in
+    let at-neighbours = at-scan .before in
+    scan-rests _ _ _ _ _ _ _ _ _ (at-scan .scan .inv) (c .before .before .before .before .before .if1 .left) (sym (ap toldMotion (c .enum-told .given .1)) ∙ (step-seen _ _ _ _ _ _ _ _ (at-neighbours .neighbours .ensures) (at-scan .scan .inv .same-state) (c .before .before .before .wide .ensures .0) (c .before .before .step .ensures)))
 
 run-less : tie.Need-run-less Inv-scan μ-scan Inv-run μ-run
-run-less c = omega (arith, c .before .before .before .before .before .before .before .before .before .scan .inv .same-moves, ap length (c .before .before .before .before .before .before .before .before .before .scan .inv .same-log), c .before .before .before .before .before .before .before .before .before .before .before .run .inv .long, c .before .before .before .if2 .left)
+run-less c =
+    let at-scan = c .before .before .before .before .before .before .before .before .before in
+    let at-run = at-scan .before .before in
+    omega (arith, at-scan .scan .inv .same-moves, ap length (at-scan .scan .inv .same-log), at-run .run .inv .long, c .before .before .before .if2 .left)
 
 run-again : tie.Need-run-again Inv-scan μ-scan Inv-run μ-run
-run-again c = course-moves _ _ _ _ _ _ _ _ _ (c .before .before .before .before .before .before .before .before .before .scan .inv) _ _ (c .before .before .before .before .before .before .before .before .before .before .before .run .inv) (toldMotion (c .before .before .before .before .before .step .result)) _ _ (c .before .before .before .before .before .before .before .before .if1 .left) (step-seen _ _ _ _ _ _ _ _ (c .before .before .before .before .before .before .before .before .before .before .neighbours .ensures) (c .before .before .before .before .before .before .before .before .before .scan .inv .same-state) (c .before .before .before .before .before .before .wide .ensures .0) (c .before .before .before .before .before .step .ensures)) (motion-moves (c .before .before .before .before .before .step .result) (c .before .before .before .before .match .keys4)) (omega (arith, ap length (c .before .before .before .before .before .before .before .before .before .scan .inv .same-log), c .before .before .before .before .before .before .before .before .before .before .before .run .inv .long, c .before .before .before .if2 .left)) (c .before .before .byte .ensures) (c .after .ensures ∙ ap (λ (q : ℕ). made (c .before .before .before .before .before .before .before .before .before .scan .state) q (toldMotion (c .before .before .before .before .before .step .result))) (c .before .wide2 .ensures .0))
+run-again c =
+    let at-step = c .before .before .before .before .before in
+    let at-wide = at-step .before in
+    let at-if1 = at-wide .before .before in
+    let at-scan = at-if1 .before in
+    let at-neighbours = at-scan .before in
+    let at-run = at-neighbours .before in
+    course-moves _ _ _ _ _ _ _ _ _ (at-scan .scan .inv) _ _ (at-run .run .inv) (toldMotion (at-step .step .result)) _ _ (at-if1 .if1 .left) (step-seen _ _ _ _ _ _ _ _ (at-neighbours .neighbours .ensures) (at-scan .scan .inv .same-state) (at-wide .wide .ensures .0) (at-step .step .ensures)) (motion-moves (at-step .step .result) (c .before .before .before .before .match .keys4)) (omega (arith, ap length (at-scan .scan .inv .same-log), at-run .run .inv .long, c .before .before .before .if2 .left)) (c .before .before .byte .ensures) (c .after .ensures ∙ ap (λ (q : ℕ). made (at-scan .scan .state) q (toldMotion (at-step .step .result))) (c .before .wide2 .ensures .0))
 
 same-length : tie.Need-same-length Inv-scan μ-scan Inv-run μ-run
 same-length c = sym (ap length (c .before .scan .inv .same-log)) ∙ c .before .before .before .run .inv .long
@@ -85,22 +59,44 @@ returns : tie.Need-returns Inv-scan μ-scan Inv-run μ-run
 returns c = course-idle _ _ _ _ _ _ _ _ _ (c .before .scan .inv) _ _ (c .before .before .before .run .inv) (c .if1 .taken)
 
 same-length-2 : tie.Need-same-length-2 Inv-scan μ-scan Inv-run μ-run
-same-length-2 c = sym (ap length (c .before .before .before .before .before .before .scan .inv .same-log)) ∙ c .before .before .before .before .before .before .before .before .run .inv .long
+same-length-2 c =
+    let at-scan = c .before .before .before .before .before .before in
+    let at-run = at-scan .before .before in
+    sym (ap length (at-scan .scan .inv .same-log)) ∙ at-run .run .inv .long
 
 returns-2 : tie.Need-returns-2 Inv-scan μ-scan Inv-run μ-run
-returns-2 c = course-undecided _ _ _ _ _ _ _ _ _ (c .before .before .before .before .before .before .scan .inv) _ _ (c .before .before .before .before .before .before .before .before .run .inv) (c .before .before .before .before .before .if1 .left) (sym (ap toldMotion (c .enum-told2 .given .1)) ∙ (step-seen _ _ _ _ _ _ _ _ (c .before .before .before .before .before .before .before .neighbours .ensures) (c .before .before .before .before .before .before .scan .inv .same-state) (c .before .before .before .wide .ensures .0) (c .before .before .step .ensures)))
+returns-2 c =
+    let at-scan = c .before .before .before .before .before .before in
+    let at-neighbours = at-scan .before in
+    let at-run = at-neighbours .before in
+    course-undecided _ _ _ _ _ _ _ _ _ (at-scan .scan .inv) _ _ (at-run .run .inv) (c .before .before .before .before .before .if1 .left) (sym (ap toldMotion (c .enum-told2 .given .1)) ∙ (step-seen _ _ _ _ _ _ _ _ (at-neighbours .neighbours .ensures) (at-scan .scan .inv .same-state) (c .before .before .before .wide .ensures .0) (c .before .before .step .ensures)))
 
 same-length-3 : tie.Need-same-length-3 Inv-scan μ-scan Inv-run μ-run
-same-length-3 c = sym (ap length (c .before .before .before .before .before .before .scan .inv .same-log)) ∙ c .before .before .before .before .before .before .before .before .run .inv .long
+same-length-3 c =
+    let at-scan = c .before .before .before .before .before .before in
+    let at-run = at-scan .before .before in
+    sym (ap length (at-scan .scan .inv .same-log)) ∙ at-run .run .inv .long
 
 returns-3 : tie.Need-returns-3 Inv-scan μ-scan Inv-run μ-run
-returns-3 c = course-conflict _ _ _ _ _ _ _ _ _ (c .before .before .before .before .before .before .scan .inv) _ _ (c .before .before .before .before .before .before .before .before .run .inv) (c .before .before .before .before .before .if1 .left) (sym (ap toldMotion (c .enum-told3 .given .1)) ∙ (step-seen _ _ _ _ _ _ _ _ (c .before .before .before .before .before .before .before .neighbours .ensures) (c .before .before .before .before .before .before .scan .inv .same-state) (c .before .before .before .wide .ensures .0) (c .before .before .step .ensures)))
+returns-3 c =
+    let at-scan = c .before .before .before .before .before .before in
+    let at-neighbours = at-scan .before in
+    let at-run = at-neighbours .before in
+    course-conflict _ _ _ _ _ _ _ _ _ (at-scan .scan .inv) _ _ (at-run .run .inv) (c .before .before .before .before .before .if1 .left) (sym (ap toldMotion (c .enum-told3 .given .1)) ∙ (step-seen _ _ _ _ _ _ _ _ (at-neighbours .neighbours .ensures) (at-scan .scan .inv .same-state) (c .before .before .before .wide .ensures .0) (c .before .before .step .ensures)))
 
 same-length-4 : tie.Need-same-length-4 Inv-scan μ-scan Inv-run μ-run
-same-length-4 c = sym (ap length (c .before .before .before .before .before .before .scan .inv .same-log)) ∙ c .before .before .before .before .before .before .before .before .run .inv .long
+same-length-4 c =
+    let at-scan = c .before .before .before .before .before .before in
+    let at-run = at-scan .before .before in
+    sym (ap length (at-scan .scan .inv .same-log)) ∙ at-run .run .inv .long
 
 returns-4 : tie.Need-returns-4 Inv-scan μ-scan Inv-run μ-run
-returns-4 c = course-spent _ _ _ _ _ _ _ _ _ (c .before .before .before .before .before .before .scan .inv) _ _ (c .before .before .before .before .before .before .before .before .run .inv) (toldMotion (c .before .before .step .result)) (c .before .before .before .before .before .if1 .left) (step-seen _ _ _ _ _ _ _ _ (c .before .before .before .before .before .before .before .neighbours .ensures) (c .before .before .before .before .before .before .scan .inv .same-state) (c .before .before .before .wide .ensures .0) (c .before .before .step .ensures)) (motion-moves (c .before .before .step .result) (c .before .match .keys4)) (omega (arith, ap length (c .before .before .before .before .before .before .scan .inv .same-log), c .before .before .before .before .before .before .before .before .run .inv .long, c .if2 .taken))
+returns-4 c =
+    let at-step = c .before .before in
+    let at-scan = at-step .before .before .before .before in
+    let at-neighbours = at-scan .before in
+    let at-run = at-neighbours .before in
+    course-spent _ _ _ _ _ _ _ _ _ (at-scan .scan .inv) _ _ (at-run .run .inv) (toldMotion (at-step .step .result)) (c .before .before .before .before .before .if1 .left) (step-seen _ _ _ _ _ _ _ _ (at-neighbours .neighbours .ensures) (at-scan .scan .inv .same-state) (c .before .before .before .wide .ensures .0) (at-step .step .ensures)) (motion-moves (at-step .step .result) (c .before .match .keys4)) (omega (arith, ap length (at-scan .scan .inv .same-log), at-run .run .inv .long, c .if2 .taken))
 
 pub follow-spec : {M : Type 1} → statement M
 follow-spec =
@@ -111,21 +107,21 @@ follow-spec =
     Inv-run
     μ-run
     run-holds
-    neighbours-requires
+    (λ c κs. search needs)
     scan-holds
-    wide-requires
-    step-requires
-    enum-told
-    add-relay
-    scan-less
+    (λ c κs. search needs)
+    (λ c κs. search needs)
+    (λ c. search needs)
+    (λ c. omega arith)
+    (λ c. omega arith)
     scan-again
-    enum-told-2
-    enum-told-3
-    byte-requires
-    slice-write-log
-    wide-requires-2
-    after-requires
-    add-moves
+    (λ c. search needs)
+    (λ c. search needs)
+    (λ c κs. search needs)
+    (λ c. omega arith)
+    (λ c κs. search needs)
+    (λ c κs. search needs)
+    (λ c. omega arith)
     run-less
     run-again
     same-length

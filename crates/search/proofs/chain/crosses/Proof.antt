@@ -4,12 +4,6 @@ use Rattle.search.proofs.chain.crosses.Statement.{statement}
 use Rattle.search.proofs.chain.crosses.Tie as tie
 use Rattle.search.proofs.CarryLaws.{crosses-there, crosses-back}
 
-is-step-requires : tie.Need-is-step-requires
-is-step-requires c κs = search needs
-
-is-step-requires-2 : tie.Need-is-step-requires-2
-is-step-requires-2 c κs = search needs
-
 returns : tie.Need-returns
 returns c = crosses-there _ _ _ _ _ (c .before .is-step .ensures) (c .if1 .taken)
 
@@ -17,4 +11,4 @@ returns-2 : tie.Need-returns-2
 returns-2 c = crosses-back _ _ _ _ _ _ (c .before .before .is-step .ensures) (c .before .if1 .left) (c .is-step2 .ensures)
 
 pub crosses-spec : {M : Type 1} → statement M
-crosses-spec = tie.close (tie.spec is-step-requires is-step-requires-2 returns returns-2)
+crosses-spec = tie.close (tie.spec (λ c κs. search needs) (λ c κs. search needs) returns returns-2)

@@ -62,7 +62,9 @@ enter-try-next-requires : (t : ℕ) → enter-lts.Need-try-next-requires (
   try-next-below t,
   try-next.Post,
 ) (enter-at t) enter.Post
-enter-try-next-requires t c κs = (tries-fall _ _ _ (c .before .before .before .before .before .pre .1 .0) (c .before .before .before .before .before .pre .0), (c .before .before .before .before .before .pre .1 .0, (c .before .before .before .before .before .pre .1 .1, (c .before .if4 .left, omega arith))))
+enter-try-next-requires t c κs =
+    let entry = c .before .before .before .before .before in
+    (tries-fall _ _ _ (entry .pre .1 .0) (entry .pre .0), (entry .pre .1 .0, (entry .pre .1 .1, (c .before .if4 .left, omega arith))))
 
 enter-returns-5 :
     (t : ℕ) → enter-lts.Need-returns-5 (try-next-below t, try-next.Post) (enter-at t) enter.Post
@@ -110,20 +112,6 @@ try-next-element-copy-out-remaining : (t : ℕ) → try-next-lts.Need-element-co
 ) (try-next-at t) try-next.Post
 try-next-element-copy-out-remaining t c = c .before .pre .1 .1 .0 .inside
 
-try-next-remaining-requires : (t : ℕ) → try-next-lts.Need-remaining-requires (
-  remaining-reads.Asked,
-  remaining-reads.Learnt,
-  next-member-reads.Asked,
-  next-member-reads.Learnt,
-  on-to-reads.Asked,
-  on-to-reads.Learnt,
-  enter-below t,
-  enter.Post,
-  try-next-below t,
-  try-next.Post,
-) (try-next-at t) try-next.Post
-try-next-remaining-requires t c κs = search needs
-
 try-next-next-member-requires : (t : ℕ) → try-next-lts.Need-next-member-requires (
   remaining-reads.Asked,
   remaining-reads.Learnt,
@@ -136,7 +124,9 @@ try-next-next-member-requires : (t : ℕ) → try-next-lts.Need-next-member-requ
   try-next-below t,
   try-next.Post,
 ) (try-next-at t) try-next.Post
-try-next-next-member-requires t c κs = (c .before .before .before .pre .1 .1 .1 .1, c .before .before .before .pre .1 .0)
+try-next-next-member-requires t c κs =
+    let entry = c .before .before .before in
+    (entry .pre .1 .1 .1 .1, entry .pre .1 .0)
 
 try-next-returns : (t : ℕ) → try-next-lts.Need-returns (
   remaining-reads.Asked,
@@ -150,7 +140,9 @@ try-next-returns : (t : ℕ) → try-next-lts.Need-returns (
   try-next-below t,
   try-next.Post,
 ) (try-next-at t) try-next.Post
-try-next-returns t c = comes-here (c .before .before .before .before .before .args .chain) _ _ _ _ (c .before .before .before .before .before .pre .1 .1 .0 .short) (tried-none _ _ _ _ (c .before .before .before .before .before .args .chain) _ _ _ _ (c .before .before .before .before .before .pre .1 .1 .0) (c .before .before .remaining .ensures) (c .before .before .before .before .before .pre .1 .1 .1 .1) (c .before .before .before .before .before .pre .1 .0) (c .before .next-member .ensures) (c .if1 .taken))
+try-next-returns t c =
+    let entry = c .before .before .before .before .before in
+    comes-here (entry .args .chain) _ _ _ _ (entry .pre .1 .1 .0 .short) (tried-none _ _ _ _ (entry .args .chain) _ _ _ _ (entry .pre .1 .1 .0) (c .before .before .remaining .ensures) (entry .pre .1 .1 .1 .1) (entry .pre .1 .0) (c .before .next-member .ensures) (c .if1 .taken))
 
 try-next-element-write-places : (t : ℕ) → try-next-lts.Need-element-write-places (
   remaining-reads.Asked,
@@ -164,7 +156,9 @@ try-next-element-write-places : (t : ℕ) → try-next-lts.Need-element-write-pl
   try-next-below t,
   try-next.Post,
 ) (try-next-at t) try-next.Post
-try-next-element-write-places t c = omega (arith, c .before .before .before .before .before .pre .1 .1 .1 .0, c .before .before .before .before .before .pre .1 .0)
+try-next-element-write-places t c =
+    let entry = c .before .before .before .before .before in
+    omega (arith, entry .pre .1 .1 .1 .0, entry .pre .1 .0)
 
 try-next-on-to-requires : (t : ℕ) → try-next-lts.Need-on-to-requires (
   remaining-reads.Asked,
@@ -178,7 +172,9 @@ try-next-on-to-requires : (t : ℕ) → try-next-lts.Need-on-to-requires (
   try-next-below t,
   try-next.Post,
 ) (try-next-at t) try-next.Post
-try-next-on-to-requires t c κs = omega (arith, c .before .before .before .before .before .pre .1 .1 .1 .0, c .before .before .before .before .before .pre .1 .0)
+try-next-on-to-requires t c κs =
+    let entry = c .before .before .before .before .before in
+    omega (arith, entry .pre .1 .1 .1 .0, entry .pre .1 .0)
 
 try-next-enter-requires : (t : ℕ) → try-next-lts.Need-enter-requires (
   remaining-reads.Asked,
@@ -192,21 +188,9 @@ try-next-enter-requires : (t : ℕ) → try-next-lts.Need-enter-requires (
   try-next-below t,
   try-next.Post,
 ) (try-next-at t) try-next.Post
-try-next-enter-requires t c κs = (visits-fall _ _ _ _ _ (c .before .before .before .before .before .before .before .pre .1 .1 .1 .0) (next-length _ (c .before .before .before .before .before .before .before .args .chain) _ _ _ (c .before .before .before .before .before .before .before .pre .1 .1 .0) (c .before .on-to .ensures)) (c .before .before .before .before .before .before .before .pre .0), (c .before .before .before .before .before .before .before .pre .1 .0, next-carries _ (c .before .before .before .before .before .before .before .args .chain) _ _ _ (c .before .before .before .before .before .before .before .pre .1 .1 .0) (c .before .on-to .ensures) _ (c .before .before .before .before .before .before .before .pre .1 .1 .1 .0) (c .before .before .before .before .before .before .before .pre .1 .0) (c .before .before .if1 .left)))
-
-try-next-enum-told : (t : ℕ) → try-next-lts.Need-enum-told (
-  remaining-reads.Asked,
-  remaining-reads.Learnt,
-  next-member-reads.Asked,
-  next-member-reads.Learnt,
-  on-to-reads.Asked,
-  on-to-reads.Learnt,
-  enter-below t,
-  enter.Post,
-  try-next-below t,
-  try-next.Post,
-) (try-next-at t) try-next.Post
-try-next-enum-told t c = search needs
+try-next-enter-requires t c κs =
+    let entry = c .before .before .before .before .before .before .before in
+    (visits-fall _ _ _ _ _ (entry .pre .1 .1 .1 .0) (next-length _ (entry .args .chain) _ _ _ (entry .pre .1 .1 .0) (c .before .on-to .ensures)) (entry .pre .0), (entry .pre .1 .0, next-carries _ (entry .args .chain) _ _ _ (entry .pre .1 .1 .0) (c .before .on-to .ensures) _ (entry .pre .1 .1 .1 .0) (entry .pre .1 .0) (c .before .before .if1 .left)))
 
 try-next-add-try-next : (t : ℕ) → try-next-lts.Need-add-try-next (
   remaining-reads.Asked,
@@ -220,7 +204,11 @@ try-next-add-try-next : (t : ℕ) → try-next-lts.Need-add-try-next (
   try-next-below t,
   try-next.Post,
 ) (try-next-at t) try-next.Post
-try-next-add-try-next t c = record { fits = omega (arith, c .before .before .before .before .before .if1 .left, c .before .before .before .before .before .before .before .before .before .before .pre .1 .0) }
+try-next-add-try-next t c = record {
+  fits =
+      let entry = c .before .before .before .before .before .before .before .before .before .before in
+      omega (arith, c .before .before .before .before .before .if1 .left, entry .pre .1 .0);
+}
 
 try-next-try-next-requires : (t : ℕ) → try-next-lts.Need-try-next-requires (
   remaining-reads.Asked,
@@ -234,7 +222,13 @@ try-next-try-next-requires : (t : ℕ) → try-next-lts.Need-try-next-requires (
   try-next-below t,
   try-next.Post,
 ) (try-next-at t) try-next.Post
-try-next-try-next-requires t c κs = (numbers-fall _ _ _ _ _ (first-after _ _ _ _ (c .before .before .before .before .before .before .before .next-member .ensures)) (c .before .before .before .before .before .before .if1 .left) (c .before .before .before .before .before .before .before .before .before .before .before .pre .0), (c .before .before .before .before .before .before .before .before .before .before .before .pre .1 .0, (carries-kept _ (c .before .before .before .before .before .before .before .before .before .before .before .args .chain) _ _ (c .before .before .before .before .before .before .before .before .before .before .before .pre .1 .1 .0) (left-room (c .before .before .before .before .before .before .before .before .before .before .before .args .chain) (c .before .before .before .before .before .on-to .result) (c .before .before .before .before .before .before .before .before .before .before .before .args .places .now) _ (c .before .before .before .before .before .before .before .next-member .result) _ _ (c .before .before .before .enter .ensures)) (kept-below _ (c .before .before .before .before .before .before .before .before .before .before .before .args .chain) _ _ _ (c .before .before .before .before .before .before .before .before .before .before .before .pre .1 .1 .0) (c .before .before .before .before .before .on-to .ensures) _ (c .before .before .before .enter .ensures .kept)), (c .before .before .before .before .before .before .before .before .before .before .before .pre .1 .1 .1 .0, omega (arith, c .before .before .before .before .before .before .if1 .left)))))
+try-next-try-next-requires t c κs =
+    let at-enter = c .before .before .before in
+    let at-on-to = at-enter .before .before in
+    let at-if1 = at-on-to .before in
+    let at-next-member = at-if1 .before in
+    let entry = at-next-member .before .before .before .before in
+    (numbers-fall _ _ _ _ _ (first-after _ _ _ _ (at-next-member .next-member .ensures)) (at-if1 .if1 .left) (entry .pre .0), (entry .pre .1 .0, (carries-kept _ (entry .args .chain) _ _ (entry .pre .1 .1 .0) (left-room (entry .args .chain) (at-on-to .on-to .result) (entry .args .places .now) _ (at-next-member .next-member .result) _ _ (at-enter .enter .ensures)) (kept-below _ (entry .args .chain) _ _ _ (entry .pre .1 .1 .0) (at-on-to .on-to .ensures) _ (at-enter .enter .ensures .kept)), (entry .pre .1 .1 .1 .0, omega (arith, at-if1 .if1 .left)))))
 
 try-next-returns-2 : (t : ℕ) → try-next-lts.Need-returns-2 (
   remaining-reads.Asked,
@@ -248,7 +242,14 @@ try-next-returns-2 : (t : ℕ) → try-next-lts.Need-returns-2 (
   try-next-below t,
   try-next.Post,
 ) (try-next-at t) try-next.Post
-try-next-returns-2 t c = comes-after _ (c .before .before .before .before .before .before .before .before .before .before .before .before .args .chain) _ _ _ _ _ (c .try-next .ensures) (tried-on _ _ _ _ _ _ _ _ (c .before .before .before .before .enter .result) _ _ (tried-some _ _ _ _ (c .before .before .before .before .before .before .before .before .before .before .before .before .args .chain) _ _ _ _ _ (c .before .before .before .before .before .before .before .before .before .before .before .before .pre .1 .1 .0) (c .before .before .before .before .before .before .before .before .before .remaining .ensures) (c .before .before .before .before .before .before .before .before .before .before .before .before .pre .1 .1 .1 .1) (c .before .before .before .before .before .before .before .before .before .before .before .before .pre .1 .0) (c .before .before .before .before .before .before .before .before .before .before .before .before .pre .1 .1 .1 .0) (c .before .before .before .before .before .before .before .before .next-member .ensures) (c .before .before .before .before .before .before .before .if1 .left) (c .before .before .before .before .before .before .on-to .ensures)) (c .before .before .before .before .enter .ensures .told) (c .before .before .enum-told .given .1) (kept-below _ (c .before .before .before .before .before .before .before .before .before .before .before .before .args .chain) _ _ _ (c .before .before .before .before .before .before .before .before .before .before .before .before .pre .1 .1 .0) (c .before .before .before .before .before .before .on-to .ensures) _ (c .before .before .before .before .enter .ensures .kept))) (kept-below _ (c .before .before .before .before .before .before .before .before .before .before .before .before .args .chain) _ _ _ (c .before .before .before .before .before .before .before .before .before .before .before .before .pre .1 .1 .0) (c .before .before .before .before .before .before .on-to .ensures) _ (c .before .before .before .before .enter .ensures .kept)) (left-room (c .before .before .before .before .before .before .before .before .before .before .before .before .args .chain) (c .before .before .before .before .before .before .on-to .result) (c .before .before .before .before .before .before .before .before .before .before .before .before .args .places .now) _ (c .before .before .before .before .before .before .before .before .next-member .result) _ _ (c .before .before .before .before .enter .ensures))
+try-next-returns-2 t c =
+    let at-enter = c .before .before .before .before in
+    let at-on-to = at-enter .before .before in
+    let at-if1 = at-on-to .before in
+    let at-next-member = at-if1 .before in
+    let at-remaining = at-next-member .before in
+    let entry = at-remaining .before .before .before in
+    comes-after _ (entry .args .chain) _ _ _ _ _ (c .try-next .ensures) (tried-on _ _ _ _ _ _ _ _ (at-enter .enter .result) _ _ (tried-some _ _ _ _ (entry .args .chain) _ _ _ _ _ (entry .pre .1 .1 .0) (at-remaining .remaining .ensures) (entry .pre .1 .1 .1 .1) (entry .pre .1 .0) (entry .pre .1 .1 .1 .0) (at-next-member .next-member .ensures) (at-if1 .if1 .left) (at-on-to .on-to .ensures)) (at-enter .enter .ensures .told) (c .before .before .enum-told .given .1) (kept-below _ (entry .args .chain) _ _ _ (entry .pre .1 .1 .0) (at-on-to .on-to .ensures) _ (at-enter .enter .ensures .kept))) (kept-below _ (entry .args .chain) _ _ _ (entry .pre .1 .1 .0) (at-on-to .on-to .ensures) _ (at-enter .enter .ensures .kept)) (left-room (entry .args .chain) (at-on-to .on-to .result) (entry .args .places .now) _ (at-next-member .next-member .result) _ _ (at-enter .enter .ensures))
 
 try-next-returns-3 : (t : ℕ) → try-next-lts.Need-returns-3 (
   remaining-reads.Asked,
@@ -262,7 +263,11 @@ try-next-returns-3 : (t : ℕ) → try-next-lts.Need-returns-3 (
   try-next-below t,
   try-next.Post,
 ) (try-next-at t) try-next.Post
-try-next-returns-3 t c = comes-back _ _ (c .before .before .before .before .before .before .before .before .before .args .chain) (c .before .before .before .on-to .result) _ _ _ _ _ (c .before .before .before .before .before .before .before .before .before .pre .1 .1 .0) (c .before .before .before .on-to .ensures) (c .before .enter .ensures) (tried-back _ _ _ _ _ _ _ (c .before .enter .result) _ _ (tried-some _ _ _ _ (c .before .before .before .before .before .before .before .before .before .args .chain) _ _ _ _ _ (c .before .before .before .before .before .before .before .before .before .pre .1 .1 .0) (c .before .before .before .before .before .before .remaining .ensures) (c .before .before .before .before .before .before .before .before .before .pre .1 .1 .1 .1) (c .before .before .before .before .before .before .before .before .before .pre .1 .0) (c .before .before .before .before .before .before .before .before .before .pre .1 .1 .1 .0) (c .before .before .before .before .before .next-member .ensures) (c .before .before .before .before .if1 .left) (c .before .before .before .on-to .ensures)) (c .before .enter .ensures .told) (c .match .keys2))
+try-next-returns-3 t c =
+    let at-on-to = c .before .before .before in
+    let at-remaining = at-on-to .before .before .before in
+    let entry = at-remaining .before .before .before in
+    comes-back _ _ (entry .args .chain) (at-on-to .on-to .result) _ _ _ _ _ (entry .pre .1 .1 .0) (at-on-to .on-to .ensures) (c .before .enter .ensures) (tried-back _ _ _ _ _ _ _ (c .before .enter .result) _ _ (tried-some _ _ _ _ (entry .args .chain) _ _ _ _ _ (entry .pre .1 .1 .0) (at-remaining .remaining .ensures) (entry .pre .1 .1 .1 .1) (entry .pre .1 .0) (entry .pre .1 .1 .1 .0) (c .before .before .before .before .before .next-member .ensures) (c .before .before .before .before .if1 .left) (at-on-to .on-to .ensures)) (c .before .enter .ensures .told) (c .match .keys2))
 
 pub +enter+try-next-spec : {M : Type 1} → statement M
 +enter+try-next-spec = close μ-enter μ-try-next (λ t. enter-lts.spec (
@@ -295,13 +300,13 @@ pub +enter+try-next-spec : {M : Type 1} → statement M
     (try-next-cast-end t)
     (try-next-mul-remaining t)
     (try-next-element-copy-out-remaining t)
-    (try-next-remaining-requires t)
+    (λ c κs. search needs)
     (try-next-next-member-requires t)
     (try-next-returns t)
     (try-next-element-write-places t)
     (try-next-on-to-requires t)
     (try-next-enter-requires t)
-    (try-next-enum-told t)
+    (λ c. search needs)
     (try-next-add-try-next t)
     (try-next-try-next-requires t)
     (try-next-returns-2 t)

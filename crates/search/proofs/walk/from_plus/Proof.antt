@@ -5,9 +5,6 @@ use Rattle.search.proofs.walk.from_plus.Tie as tie
 use mathlib.Core.Path.{refl, _∙_}
 use Rattle.search.proofs.WalkLaws.{begun-path, begun-carries, entered-left, entered-judgement}
 
-begin-requires : tie.Need-begin-requires
-begin-requires c κs = search needs
-
 enter-requires : tie.Need-enter-requires
 enter-requires c κs = (c .before .before .pre, begun-carries _ _ _ (c .before .begin .ensures) (begun-path _ _ (c .before .begin .ensures) refl) refl)
 
@@ -18,4 +15,4 @@ returns : tie.Need-returns
 returns c = c .verdict .ensures ∙ entered-judgement _ _ _ _ _ _ (begun-path _ _ (c .before .before .before .begin .ensures) refl) (c .before .enter .ensures .told)
 
 pub from-plus-spec : {M : Type 1} → statement M
-from-plus-spec = tie.close (tie.spec begin-requires enter-requires verdict-requires returns)
+from-plus-spec = tie.close (tie.spec (λ c κs. search needs) enter-requires verdict-requires returns)

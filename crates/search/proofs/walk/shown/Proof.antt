@@ -17,15 +17,6 @@ abbrev μ-loop : tie.MeasureT-loop
 loop-holds : tie.Need-loop-holds Inv-loop μ-loop
 loop-holds c = (c .good .0 .1 .0 .1, c .good .0 .1 .0 .1, omega arith, c .pre, shown-none (c .args .places) (c .args .length))
 
-array-write-terminals : tie.Need-array-write-terminals Inv-loop μ-loop
-array-write-terminals c = omega arith
-
-add-i : tie.Need-add-i Inv-loop μ-loop
-add-i c = omega arith
-
-loop-less : tie.Need-loop-less Inv-loop μ-loop
-loop-less c = omega arith
-
 loop-again : tie.Need-loop-again Inv-loop μ-loop
 loop-again c = (length-set (c .before .loop .terminals) (c .before .loop .i) 0 ∙ c .before .loop .inv .0, c .before .loop .inv .1, omega arith, omega arith, shown-more _ _ _ _ (c .before .loop .inv .0) (c .before .loop .inv .2) (c .before .loop .inv .4) (c .loop-test .taken))
 
@@ -35,4 +26,4 @@ returns c = shown-end _ _ _ _ (c .before .loop .inv .0) (c .before .loop .inv .2
 pub shown-spec : {M : Type 1} → statement M
 shown-spec =
     tie.close
-    (tie.spec Inv-loop μ-loop loop-holds array-write-terminals add-i loop-less loop-again returns)
+    (tie.spec Inv-loop μ-loop loop-holds (λ c. omega arith) (λ c. omega arith) (λ c. omega arith) loop-again returns)

@@ -5,32 +5,10 @@ use Rattle.session.proofs.next.advance.Tie as tie
 use mathlib.Core.Path.{_∙_}
 use Rattle.session.proofs.NextLaws.{next-first, next-events, next-refusing, next-over}
 
-enum-told : tie.Need-enum-told
-enum-told c = search needs
-
-run-line-requires : tie.Need-run-line-requires
-run-line-requires c κs = search needs
-
-go-on-requires : tie.Need-go-on-requires
-go-on-requires c κs = search needs
-
-enum-told-2 : tie.Need-enum-told-2
-enum-told-2 c = search needs
-
-next-event-requires : tie.Need-next-event-requires
-next-event-requires c κs = search needs
-
-enum-known-stage : tie.Need-enum-known-stage
-enum-known-stage c = search needs
-
-close-requires : tie.Need-close-requires
-close-requires c κs = search needs
-
-enum-told-3 : tie.Need-enum-told-3
-enum-told-3 c = search needs
-
 returns : tie.Need-returns
-returns c = c .go-on .ensures ∙ next-first (c .before .before .before .before .before .before .before .args .session) _ _ (c .before .before .before .before .enum-told .given .1) (c .before .run-line .ensures)
+returns c =
+    let entry = c .before .before .before .before .before .before .before in
+    c .go-on .ensures ∙ next-first (entry .args .session) _ _ (c .before .before .before .before .enum-told .given .1) (c .before .run-line .ensures)
 
 returns-2 : tie.Need-returns-2
 returns-2 c = c .next-event .ensures ∙ next-events (c .before .before .before .before .args .session) _ (c .before .enum-told2 .given .1)
@@ -45,14 +23,14 @@ pub advance-spec : {M : Type 1} → statement M
 advance-spec =
     tie.close
     (tie.spec
-    enum-told
-    run-line-requires
-    go-on-requires
-    enum-told-2
-    next-event-requires
-    enum-known-stage
-    close-requires
-    enum-told-3
+    (λ c. search needs)
+    (λ c κs. search needs)
+    (λ c κs. search needs)
+    (λ c. search needs)
+    (λ c κs. search needs)
+    (λ c. search needs)
+    (λ c κs. search needs)
+    (λ c. search needs)
     returns
     returns-2
     returns-3

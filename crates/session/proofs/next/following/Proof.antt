@@ -4,9 +4,6 @@ use Rattle.session.proofs.next.following.Statement.{statement}
 use Rattle.session.proofs.next.following.Tie as tie
 use Rattle.session.proofs.NextLaws.{following-on, following-stands}
 
-add-result : tie.Need-add-result
-add-result c = search needs
-
 returns : tie.Need-returns
 returns c = following-on _ (c .if1 .taken)
 
@@ -14,4 +11,4 @@ returns-2 : tie.Need-returns-2
 returns-2 c = following-stands _ (c .if1 .left)
 
 pub following-spec : {M : Type 1} → statement M
-following-spec = tie.close (tie.spec add-result returns returns-2)
+following-spec = tie.close (tie.spec (λ c. search needs) returns returns-2)

@@ -4,11 +4,10 @@ use Rattle.session.proofs.next.go_on.Statement.{statement}
 use Rattle.session.proofs.next.go_on.Tie as tie
 use Rattle.session.proofs.NextLaws.{goes-on-told}
 
-following-requires : tie.Need-following-requires
-following-requires c κs = search needs
-
 returns : tie.Need-returns
-returns c = goes-on-told (c .before .before .before .args .session) (c .before .before .before .args .shown) _ _ (c .following .ensures)
+returns c =
+    let entry = c .before .before .before in
+    goes-on-told (entry .args .session) (entry .args .shown) _ _ (c .following .ensures)
 
 pub go-on-spec : {M : Type 1} → statement M
-go-on-spec = tie.close (tie.spec following-requires returns)
+go-on-spec = tie.close (tie.spec (λ c κs. search needs) returns)

@@ -3,11 +3,8 @@ use borrow.Author.Needs.{needs}
 use Rattle.state.proofs.State.drop.Statement.{statement}
 use Rattle.state.proofs.State.drop.Tie as tie
 
-without-requires : tie.Need-without-requires
-without-requires c κs = search needs
-
 returns : tie.Need-returns
 returns c = rw (c .without .ensures)
 
 pub drop-spec : {M : Type 1} → statement M
-drop-spec = tie.close (tie.spec without-requires returns)
+drop-spec = tie.close (tie.spec (λ c κs. search needs) returns)

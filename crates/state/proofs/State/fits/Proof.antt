@@ -5,18 +5,6 @@ use Rattle.state.proofs.State.fits.Tie as tie
 use mathlib.Core.Path.{sym, _∙_}
 use Rattle.state.proofs.StateLaws.{state-fits-last, state-relay-beyond}
 
-wide-requires : tie.Need-wide-requires
-wide-requires c κs = search needs
-
-all-below-requires : tie.Need-all-below-requires
-all-below-requires c κs = search needs
-
-wide-requires-2 : tie.Need-wide-requires-2
-wide-requires-2 c κs = search needs
-
-all-below-requires-2 : tie.Need-all-below-requires-2
-all-below-requires-2 c κs = search needs
-
 returns : tie.Need-returns
 returns c = c .all-below2 .ensures ∙ state-fits-last _ _ _ (c .before .before .before .before .wide .ensures .0) _ (c .before .wide2 .ensures .0) (sym (c .before .before .before .all-below .ensures) ∙ c .before .before .if1 .taken)
 
@@ -27,9 +15,9 @@ pub fits-spec : {M : Type 1} → statement M
 fits-spec =
     tie.close
     (tie.spec
-    wide-requires
-    all-below-requires
-    wide-requires-2
-    all-below-requires-2
+    (λ c κs. search needs)
+    (λ c κs. search needs)
+    (λ c κs. search needs)
+    (λ c κs. search needs)
     returns
     returns-2)

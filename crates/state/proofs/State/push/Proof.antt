@@ -3,11 +3,8 @@ use borrow.Author.Needs.{needs}
 use Rattle.state.proofs.State.push.Statement.{statement}
 use Rattle.state.proofs.State.push.Tie as tie
 
-with-requires : tie.Need-with-requires
-with-requires c κs = search needs
-
 returns : tie.Need-returns
 returns c = rw (c .with .ensures)
 
 pub push-spec : {M : Type 1} → statement M
-push-spec = tie.close (tie.spec with-requires returns)
+push-spec = tie.close (tie.spec (λ c κs. search needs) returns)

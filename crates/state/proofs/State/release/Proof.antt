@@ -3,11 +3,8 @@ use borrow.Author.Needs.{needs}
 use Rattle.state.proofs.State.release.Statement.{statement}
 use Rattle.state.proofs.State.release.Tie as tie
 
-without-requires : tie.Need-without-requires
-without-requires c κs = search needs
-
 returns : tie.Need-returns
 returns c = rw (c .without .ensures)
 
 pub release-spec : {M : Type 1} → statement M
-release-spec = tie.close (tie.spec without-requires returns)
+release-spec = tie.close (tie.spec (λ c κs. search needs) returns)

@@ -16,29 +16,21 @@ Inv-loop self relays end relay₀ relay = (end ≡ relays) × (end < 256) × (re
 abbrev μ-loop : tie.MeasureT-loop
 μ-loop self relays end relay₀ relay = end - relay
 
-wide-requires : tie.Need-wide-requires Inv-loop μ-loop
-wide-requires c κs = search needs
-
 loop-holds : tie.Need-loop-holds Inv-loop μ-loop
 loop-holds c = (c .wide .ensures .0, c .wide .ensures .1, omega arith, every-none _)
-
-wound-requires : tie.Need-wound-requires Inv-loop μ-loop
-wound-requires c κs = search needs
 
 returns : tie.Need-returns Inv-loop μ-loop
 unfolding complete
 returns c =
-    let off : wound (c .before .before .before .before .before .args .self) (c .before .before .before .loop .relay) ≡ false = sym (c .before .wound .ensures) ∙ not-true _ (c .if1 .taken) in
-    sym (every-fails (wound (c .before .before .before .before .before .args .self)) (c .before .before .before .before .before .args .relays) (c .before .before .before .loop .relay) (omega arith) off)
-
-add-relay : tie.Need-add-relay Inv-loop μ-loop
-add-relay c = omega arith
-
-loop-less : tie.Need-loop-less Inv-loop μ-loop
-loop-less c = omega arith
+    let at-loop = c .before .before .before in
+    let entry = at-loop .before .before in
+    let off : wound (entry .args .self) (at-loop .loop .relay) ≡ false = sym (c .before .wound .ensures) ∙ not-true _ (c .if1 .taken) in
+    sym (every-fails (wound (entry .args .self)) (entry .args .relays) (at-loop .loop .relay) (omega arith) off)
 
 loop-again : tie.Need-loop-again Inv-loop μ-loop
-loop-again c = (c .before .before .before .loop .inv .0, c .before .before .before .loop .inv .1, omega arith, every-more _ _ (c .before .before .before .loop .inv .3) (sym (c .before .wound .ensures) ∙ not-false _ (c .if1 .left)))
+loop-again c =
+    let at-loop = c .before .before .before in
+    (at-loop .loop .inv .0, at-loop .loop .inv .1, omega arith, every-more _ _ (at-loop .loop .inv .3) (sym (c .before .wound .ensures) ∙ not-false _ (c .if1 .left)))
 
 returns-2 : tie.Need-returns-2 Inv-loop μ-loop
 unfolding complete
@@ -52,11 +44,11 @@ complete-spec =
     (tie.spec
     Inv-loop
     μ-loop
-    wide-requires
+    (λ c κs. search needs)
     loop-holds
-    wound-requires
+    (λ c κs. search needs)
     returns
-    add-relay
-    loop-less
+    (λ c. omega arith)
+    (λ c. omega arith)
     loop-again
     returns-2)

@@ -4,17 +4,8 @@ use Rattle.windings.proofs.Windings.wound.Statement.{statement}
 use Rattle.windings.proofs.Windings.wound.Tie as tie
 use mathlib.Core.Path.{sym, _∙_}
 
-has-requires : tie.Need-has-requires
-has-requires c κs = search needs
-
 returns : tie.Need-returns
 returns c = simp (sym (c .before .has .ensures) ∙ c .if1 .taken)
-
-has-requires-2 : tie.Need-has-requires-2
-has-requires-2 c κs = search needs
-
-has-requires-3 : tie.Need-has-requires-3
-has-requires-3 c κs = search needs
 
 returns-2 : tie.Need-returns-2
 returns-2 c = simp (c .has3 .ensures, sym (c .before .before .before .before .has .ensures) ∙ c .before .before .before .if1 .left, sym (c .before .before .has2 .ensures) ∙ c .before .if2 .taken)
@@ -24,4 +15,4 @@ returns-3 c = simp (sym (c .before .before .before .has .ensures) ∙ c .before 
 
 pub wound-spec : {M : Type 1} → statement M
 wound-spec =
-    tie.close (tie.spec has-requires returns has-requires-2 has-requires-3 returns-2 returns-3)
+    tie.close (tie.spec (λ c κs. search needs) returns (λ c κs. search needs) (λ c κs. search needs) returns-2 returns-3)

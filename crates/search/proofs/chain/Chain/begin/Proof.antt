@@ -4,11 +4,8 @@ use Rattle.search.proofs.chain.Chain.begin.Statement.{statement}
 use Rattle.search.proofs.chain.Chain.begin.Tie as tie
 use Rattle.search.proofs.CarryLaws.{begun-fields}
 
-with-requires : tie.Need-with-requires
-with-requires c κs = search needs
-
 returns : tie.Need-returns
 returns c = begun-fields _ (c .with .ensures)
 
 pub begin-spec : {M : Type 1} → statement M
-begin-spec = tie.close (tie.spec with-requires returns)
+begin-spec = tie.close (tie.spec (λ c κs. search needs) returns)

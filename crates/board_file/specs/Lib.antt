@@ -1,2 +1,0 @@
--- The statements of the theorems.
-pub mod RoundTrip

@@ -1,3 +1,0 @@
--- The statements.
-pub mod EventRefusals
-pub mod LinesDrawn

@@ -1,0 +1,11 @@
+-- The theorems of specs/, each in a file of its statement's name, after the laws that it goes by.
+pub mod StandLaws
+pub mod GivesLaws
+pub mod PartTrip
+pub mod BoardTrip
+pub mod ReadFine
+pub mod RoundTrip
+pub mod RefusesLaws
+pub mod RefusedHolds
+pub mod HoldsRefused
+pub mod FileRefusals

@@ -1,0 +1,135 @@
+-- The round trip of one part: its bytes read back to it, and a part that was read breaks no rule of 5 to 8 and stands there by its bytes.
+use Prim.Native.Nat.{ℕ, _+_, _≤_}
+use native.Mathlib.Omega.{arith}
+use mathlib.Core.Path.{_≡_, refl, sym, ap, _∙_}
+use mathlib.Core.Bool.{Bool, true, false, cond, _||_}
+use mathlib.Core.List.{List, [], _++_}
+use lib.Dec.{ltb, eqb}
+use lib.ListN.{length}
+use borrow.Author.Tests.{ltb-true, eqb-true, eqb-false, not-true}
+use Rattle.number.specs.Outcomes.{Found, found}
+use Rattle.number.specs.Refusals.{noSuchKind, noSuchTerminal, endsEqual, noSuchName, windingTaken}
+use Rattle.number.specs.Numbers.{numberBytes, Bytes}
+use Rattle.kinds.specs.declared.Kind.{Kind}
+use Rattle.windings.specs.declared.Windings.{Windings}
+use Rattle.kinds.specs.Kinds.{kindNumber, nameOf, kindOf}
+use Rattle.windings.specs.Windings.{windingFree}
+use Rattle.board.specs.declared.Part.{Part}
+use Rattle.board.specs.declared.Counts.{Counts}
+use Rattle.board.specs.Rules.{inRange, terminalFine, endsFine, limitOf, nameFine, partFits, partFine}
+use Rattle.bits.proofs.BoolLaws.{both-true, true-both}
+use Rattle.kinds.proofs.KindLaws.{kind-of-parts, kind-number-of, kind-name-of, kind-of-wire, kind-number-most}
+use Rattle.board.proofs.RuleLaws.{InRange}
+use Rattle.board_reader.specs.Reading.{wanted, nameAt, partAt}
+use Rattle.board_reader.proofs.FieldLaws.{range-within, range-bounds}
+use Rattle.board_reader.proofs.PartLaws.{part-as, part-found}
+use Rattle.board_writer.specs.File.{nameBytes, partBytes}
+use Rattle.file_means.proofs.StandLaws.{Stands, stands-none, stands-append, stands-first, stands-second, number-stands, wanted-reads}
+use Rattle.file_means.proofs.GivesLaws.{Gives, gives-then, gives-unless, wanted-gives, wanted-then}
+
+-- the rules of 5 to 8 that a fine part keeps, one by one
+record Rules (c : Counts) (w : Windings) (p : Part) : Type 0 where
+  a-below : terminalFine c (p .a) ≡ true
+  b-below : terminalFine c (p .b) ≡ true
+  apart : endsFine (p .a) (p .b) ≡ true
+  named : nameFine c (p .kind) ≡ true
+  free : windingFree w (p .kind) ≡ true
+
+part-rules : (c : Counts) (w : Windings) (p : Part) → partFine c w p ≡ true → Rules c w p
+unfolding partFine partFits
+part-rules c w p fine =
+    let free = both-true _ _ fine in
+    let named = both-true _ _ (free .0) in
+    let apart = both-true _ _ (named .0) in
+    let below = both-true _ _ (apart .0) in
+    record { a-below = below .0; b-below = below .1; apart = apart .1; named = named .1; free = free .1 }
+
+-- a name's limit is R or B, so what is below it is small
+limit-most : (c : Counts) (k : ℕ) → InRange c → limitOf c k ≤ 32
+limit-most c k range = go (eqb k 3)
+  where
+    go : (t : Bool) → cond t (c .buttons) (c .relays) ≤ 32
+    go true = range .most-buttons
+    go false = range .most-relays
+
+-- a wire carries no name, which is told as 0
+wire-name : (k : Kind) → kindNumber k ≡ 0 → 0 ≡ nameOf k
+wire-name k wire = ap nameOf (sym (kind-of-wire (nameOf k)) ∙ ap (λ (n : ℕ). kindOf n (nameOf k)) (sym wire) ∙ kind-of-parts k)
+
+-- a name's bytes read back
+name-reads : (c : Counts) (k : Kind) (s : List ℕ) (at next : ℕ) → InRange c → nameFine c k ≡ true → Stands s at next (nameBytes k) → nameAt c (kindNumber k) s at ≡ found (nameOf k) next
+unfolding nameAt nameFine nameBytes
+name-reads c k s at next range = by (eqb (kindNumber k) 0) refl
+  where
+    limit : ℕ
+    limit = limitOf c (kindNumber k)
+
+    by : (t : Bool) → eqb (kindNumber k) 0 ≡ t → (t || ltb (nameOf k) limit) ≡ true → Stands s at next (cond t [] (numberBytes (nameOf k))) → cond t (found 0 at) (wanted (λ v. ltb v limit) noSuchName s at) ≡ found (nameOf k) next
+    by true wire fine here =
+        let same : at ≡ next = omega (arith, here .ends) in
+        λ i. found (wire-name k (eqb-true (kindNumber k) 0 wire) i) (same i)
+    by false some below here = wanted-reads (λ v. ltb v limit) noSuchName s at next (nameOf k) (omega (arith, ltb-true (nameOf k) limit below, limit-most c (kindNumber k) range)) below here
+
+pub part-reads : (c : Counts) (w : Windings) (p : Part) (s : List ℕ) (at next : ℕ) → InRange c → partFine c w p ≡ true → Stands s at next (partBytes p) → partAt c w s at ≡ found p next
+unfolding partBytes
+part-reads c w p s at next range fine here =
+    let rules = part-rules c w p fine in
+    let k = kindNumber (p .kind) in
+    let ka = at + length (numberBytes k) in
+    let most : k ≤ 6 = kind-number-most (p .kind) in
+    let first = stands-first s at next (numberBytes k) (numberBytes (p .a) ++ (numberBytes (p .b) ++ nameBytes (p .kind))) here in
+    let after-kind = stands-second s at next (numberBytes k) (numberBytes (p .a) ++ (numberBytes (p .b) ++ nameBytes (p .kind))) here in
+    let ab = ka + length (numberBytes (p .a)) in
+    let second = stands-first s ka next (numberBytes (p .a)) (numberBytes (p .b) ++ nameBytes (p .kind)) after-kind in
+    let after-a = stands-second s ka next (numberBytes (p .a)) (numberBytes (p .b) ++ nameBytes (p .kind)) after-kind in
+    let bn = ab + length (numberBytes (p .b)) in
+    let third = stands-first s ab next (numberBytes (p .b)) (nameBytes (p .kind)) after-a in
+    let fourth = stands-second s ab next (numberBytes (p .b)) (nameBytes (p .kind)) after-a in
+    let kinds = wanted-reads (inRange 0 6) noSuchKind s at ka k (omega arith) (range-within 0 6 k (omega arith) most) first in
+    let as-a = wanted-reads (terminalFine c) noSuchTerminal s ka ab (p .a) (omega (arith, ltb-true (p .a) (c .terminals) (rules .a-below), range .most-terminals)) (rules .a-below) second in
+    let as-b = wanted-reads (terminalFine c) noSuchTerminal s ab bn (p .b) (omega (arith, ltb-true (p .b) (c .terminals) (rules .b-below), range .most-terminals)) (rules .b-below) third in
+    let names = name-reads c (p .kind) s bn next range (rules .named) fourth in
+    let same = kind-of-parts (p .kind) in
+    sym (part-found c w s at k ka kinds (p .a) ab as-a (p .b) bn as-b (eqb-false _ _ (not-true _ (rules .apart))) (nameOf (p .kind)) next names (ap (windingFree w) same ∙ rules .free))
+    ∙ part-as _ _ next refl refl same
+
+-- a name that was read is below its limit and stands there by its bytes; a wire carries none
+record NameRead (c : Counts) (k : ℕ) (s : List ℕ) (at : ℕ) (n : Found ℕ) : Type 0 where
+  fine : nameFine c (kindOf k (n .value)) ≡ true
+  stands : Bytes s → Stands s at (n .next) (nameBytes (kindOf k (n .value)))
+
+name-read : (c : Counts) (k : ℕ) (s : List ℕ) (at : ℕ) → k ≤ 6 → Gives (NameRead c k s at) (nameAt c k s at)
+unfolding nameAt nameFine nameBytes
+name-read c k s at most = by (eqb k 0) refl
+  where
+    by : (t : Bool) → eqb k 0 ≡ t → Gives (NameRead c k s at) (cond t (found 0 at) (wanted (λ n. ltb n (limitOf c k)) noSuchName s at))
+    by true wire = record { fine = rw (kind-number-of k 0 most, wire) refl; stands = λ bytes. rw (kind-number-of k 0 most, wire) (stands-none s at) }
+    by false some =
+        wanted-gives (NameRead c k s at) (λ n. ltb n (limitOf c k)) noSuchName s at (λ n read below.
+        let number = kind-number-of k (n .value) most in
+        let name = kind-name-of k (n .value) (let carried = eqb-false k 0 some in omega (arith, carried)) most in
+        record { fine = rw (number, some, name) below; stands = λ bytes. rw (number, some, name) (number-stands s at n read bytes) })
+
+-- a part that was read breaks no rule of 5 to 8 and stands there by its bytes
+pub record PartRead (c : Counts) (w : Windings) (s : List ℕ) (at : ℕ) (p : Found Part) : Type 0 where
+  pub fine : partFine c w (p .value) ≡ true
+  pub stands : Bytes s → Stands s at (p .next) (partBytes (p .value))
+
+pub part-read : (c : Counts) (w : Windings) (s : List ℕ) (at : ℕ) → Gives (PartRead c w s at) (partAt c w s at)
+unfolding partAt partFine partFits partBytes
+part-read c w s at =
+    wanted-then _ (inRange 0 6) noSuchKind s at _ (λ k k-read kind.
+    wanted-then _ (terminalFine c) noSuchTerminal s (k .next) _ (λ a a-read a-below.
+    wanted-then _ (terminalFine c) noSuchTerminal s (a .next) _ (λ b b-read b-below.
+    gives-unless _ (endsFine (a .value) (b .value)) endsEqual (a .next) _ (λ apart.
+    let most = range-bounds 0 6 (k .value) kind .1 in
+    gives-then (NameRead c (k .value) s (b .next)) _ (nameAt c (k .value) s (b .next)) _ (name-read c (k .value) s (b .next) most) (λ n name.
+    gives-unless _ (windingFree w (kindOf (k .value) (n .value))) windingTaken (b .next) _ (λ free.
+    record {
+      fine = true-both (true-both (true-both (true-both a-below b-below) apart) (name .fine)) free;
+      stands = λ bytes.
+          rw (kind-number-of (k .value) (n .value) most)
+          (stands-append s at (k .next) (n .next) _ _ (number-stands s at k k-read bytes)
+          (stands-append s (k .next) (a .next) (n .next) _ _ (number-stands s (k .next) a a-read bytes)
+          (stands-append s (a .next) (b .next) (n .next) _ _ (number-stands s (a .next) b b-read bytes) (name .stands bytes))));
+    }))))))

@@ -1,0 +1,3 @@
+-- The statements, in reading order.
+pub mod RoundTrip
+pub mod FileRefusals

@@ -1,0 +1,124 @@
+-- What live, dead and undecided mean, stated over the call `judge::judge`: whatever it answers under its promise. Rule book: "Live, with the first such chain shown, exactly if the winding is live and its effort is at most W. Dead exactly if it is dead and its effort is at most W. Undecided otherwise."
+--     Judges b s r n w v     `judge` was called on board b, state s, winding n of relay r and allowance w, and answered v
+--     Accepted b s r n e     the call is not refused, and e is the winding judged
+--     chainsOf b s           the list of all chains of board b in state s
+--     TheChains              that list holds exactly the rule book's chains, in dictionary order, each once
+--     IsLive b s e           "A winding between a and b is live if some chain ends at 1 and has a and b side by side, in either order"
+--     effortOf b s e         its effort
+--     LiveExactly, DeadExactly, UndecidedExactly    the three verdicts
+--     LiveShows              live shows the first chain that shows the winding, and the effort is the number of chains up to and including it
+--     DeadCounts             dead reports the number of all chains
+--     UndecidedReports       undecided reports W, and no chain
+--     AsPublished            live is what document 000 calls current carrying, dead that it is not
+use Prim.Native.Nat.{ℕ, _+_, _<_, _≤_}
+use mathlib.Core.Path.{_≡_}
+use mathlib.Core.Logic.{_⊎_, _↔_}
+use mathlib.Core.Bool.{true}
+use mathlib.Core.List.{List, [], _∷_, _++_}
+use lib.ListN.{length}
+use Rattle.lists.specs.Members.{_∈_, Once}
+use Rattle.number.specs.Outcomes.{given}
+use Rattle.board.specs.declared.Board.{Board}
+use Rattle.board.specs.Rules.{boardFine}
+use Rattle.state.specs.declared.State.{State}
+use Rattle.neighbours.specs.Neighbours.{Joined, joined, neighbours}
+use Rattle.chains.specs.Chains.{IsChain, Before, InOrder, Shows, Live}
+use Rattle.chains.specs.ChainList.{chains, shows}
+use Rattle.judge_means.specs.Circuits.{WindingCarries}
+use Rattle.search.specs.declared.Winding.{Winding}
+use Rattle.search.specs.declared.Verdict.{Verdict}
+use Rattle.search.specs.declared.Finding.the-variants as said
+use Rattle.search.specs.Verdicts.{effort, places, toldVerdict}
+use Rattle.judge.specs.declared.Which.{Which}
+use Rattle.judge.specs.Judging.{judgeable, judging}
+
+abbrev pub Judges : Board → State → ℕ → Which → ℕ → Verdict → Type 0
+Judges b s r n w v = toldVerdict v ≡ judging b s r n w
+
+abbrev pub Accepted : Board → State → ℕ → Which → Winding → Type 0
+Accepted b s r n e = judgeable b s r n ≡ given e
+
+abbrev pub chainsOf : Board → State → List (List ℕ)
+chainsOf b s = chains (joined (neighbours b s)) (b .counts .terminals)
+
+abbrev pub ChainOf : Board → State → List ℕ → Type 0
+ChainOf b s c = IsChain (Joined b s) (b .counts .terminals) c
+
+abbrev pub IsLive : Board → State → Winding → Type 0
+IsLive b s e = Live (Joined b s) (b .counts .terminals) (e .a) (e .b)
+
+abbrev pub effortOf : Board → State → Winding → ℕ
+effortOf b s e = effort (shows (e .a) (e .b)) (chainsOf b s)
+
+pub record AllChains (b : Board) (s : State) : Type 0 where
+  pub exactly : (c : List ℕ) → c ∈ chainsOf b s ↔ ChainOf b s c
+  pub ordered : InOrder (chainsOf b s)
+  pub once : Once (chainsOf b s)
+
+abbrev pub TheChains : Type 0
+TheChains = (b : Board) (s : State) → boardFine b ≡ true → AllChains b s
+
+abbrev pub LiveExactly : Type 0
+LiveExactly =
+    (b : Board) (s : State) (r : ℕ) (n : Which) (w : ℕ) (e : Winding) (v : Verdict)
+    → Judges b s r n w v
+    → Accepted b s r n e
+    → v .finding ≡ said.Live ↔ IsLive b s e × (effortOf b s e ≤ w)
+
+abbrev pub DeadExactly : Type 0
+DeadExactly =
+    (b : Board) (s : State) (r : ℕ) (n : Which) (w : ℕ) (e : Winding) (v : Verdict)
+    → Judges b s r n w v
+    → Accepted b s r n e
+    → v .finding ≡ said.Dead ↔ ¬ (IsLive b s e) × (effortOf b s e ≤ w)
+
+abbrev pub UndecidedExactly : Type 0
+UndecidedExactly =
+    (b : Board) (s : State) (r : ℕ) (n : Which) (w : ℕ) (e : Winding) (v : Verdict)
+    → Judges b s r n w v
+    → Accepted b s r n e
+    → v .finding ≡ said.Undecided ↔ w < effortOf b s e
+
+-- what a live verdict v on winding e shows: the first chain that shows it, and how many chains there are up to it
+pub record FirstChain (b : Board) (s : State) (e : Winding) (v : Verdict) : Type 0 where
+  pub chain : List ℕ
+  pub its-length : v .length ≡ length chain
+  pub its-places : v .terminals ≡ places chain
+  pub is-chain : ChainOf b s chain
+  pub showing : Shows (e .a) (e .b) chain
+  pub first : (d : List ℕ) → ChainOf b s d → Shows (e .a) (e .b) d → (d ≡ chain) ⊎ Before chain d
+  pub early : List (List ℕ)
+  pub late : List (List ℕ)
+  pub among : chainsOf b s ≡ early ++ (chain ∷ late)
+  pub counted : v .effort ≡ length early + 1
+
+abbrev pub LiveShows : Type 0
+LiveShows =
+    (b : Board) (s : State) (r : ℕ) (n : Which) (w : ℕ) (e : Winding) (v : Verdict)
+    → Judges b s r n w v
+    → Accepted b s r n e
+    → v .finding ≡ said.Live
+    → FirstChain b s e v
+
+abbrev pub DeadCounts : Type 0
+DeadCounts =
+    (b : Board) (s : State) (r : ℕ) (n : Which) (w : ℕ) (e : Winding) (v : Verdict)
+    → Judges b s r n w v
+    → Accepted b s r n e
+    → v .finding ≡ said.Dead
+    → (v .effort ≡ length (chainsOf b s)) × ((v .length ≡ 0) × (v .terminals ≡ places []))
+
+abbrev pub UndecidedReports : Type 0
+UndecidedReports =
+    (b : Board) (s : State) (r : ℕ) (n : Which) (w : ℕ) (e : Winding) (v : Verdict)
+    → Judges b s r n w v
+    → Accepted b s r n e
+    → v .finding ≡ said.Undecided
+    → (v .effort ≡ w) × ((v .length ≡ 0) × (v .terminals ≡ places []))
+
+abbrev pub AsPublished : Type 0
+AsPublished =
+    (b : Board) (s : State) (r : ℕ) (n : Which) (w : ℕ) (e : Winding) (v : Verdict)
+    → Judges b s r n w v
+    → Accepted b s r n e
+    → (v .finding ≡ said.Live → WindingCarries b s (e .a) (e .b)) × (v .finding ≡ said.Dead → ¬ (WindingCarries b s (e .a) (e .b)))

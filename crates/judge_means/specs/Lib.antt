@@ -1,0 +1,5 @@
+-- The published model's words, and the statements, in reading order.
+pub mod Circuits
+pub mod Exactness
+pub mod Allowances
+pub mod Eleven

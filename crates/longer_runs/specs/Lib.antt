@@ -1,2 +1,0 @@
--- The statement.
-pub mod LongerRuns

@@ -1,2 +1,0 @@
--- The published model's words.
-pub mod Circuits

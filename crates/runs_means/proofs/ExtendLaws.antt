@@ -1,0 +1,98 @@
+-- Two runs of one row of relays, the second by a stepper that comes to what the first one's does wherever that is not undecided, and with no less room: the second goes on from the first. Nothing here knows what is below a step.
+use Prim.Native.Nat.{ℕ, zero, suc, _≤_}
+use native.Mathlib.Omega.{arith}
+use mathlib.Core.Path.{_≡_, refl, sym, ap, _∙_}
+use mathlib.Core.Logic.{_⊎_, inl, inr}
+use mathlib.Core.List.{[], _∷_, append-nil}
+use Rattle.state.specs.declared.State.{State}
+use Rattle.moves.specs.Steps as step
+use Rattle.runs.specs.Looks.{Stepper, Ending, idle, spent, undecided, conflict, Look, quiet, halts, moves, byteOf, lookFrom}
+use Rattle.runs.specs.Runs.{Run, ends, logged, runOf}
+use Rattle.runs.proofs.RunLaws.{run-quiet, run-halts, run-spent, run-moves}
+use Rattle.runs_means.specs.LongerRuns.{Begins}
+
+-- g comes to what f comes to, wherever f is not undecided
+abbrev pub Settles : Stepper → Stepper → Type 0
+Settles f g = (s : State) (r : ℕ) → (f s r ≡ step.undecided) ⊎ (g s r ≡ f s r)
+
+-- a run that ends with this word is the same with more room and more allowance
+abbrev pub Final : Ending → Type 0
+Final e = (e ≡ idle) ⊎ (e ≡ conflict)
+
+-- the run y starts with every move of x, and is the same run where x's word is final
+pub record GoesOn (x y : Run) : Type 0 where
+  pub starts : Begins (x .bytes) (y .bytes)
+  pub stands : Final (x .word) → y ≡ x
+
+-- ---- a look
+
+-- the look at k relays from r up is undecided by f, at some relay q, or is the same by g
+abbrev Looks : Stepper → Stepper → State → ℕ → ℕ → Type 0
+Looks f g s k r = ((q : ℕ) × (lookFrom f s k r ≡ halts undecided q)) ⊎ (lookFrom g s k r ≡ lookFrom f s k r)
+
+module _ (f g : Stepper) (settles : Settles f g) where
+  look-settles : (s : State) (k r : ℕ) → Looks f g s k r
+  unfolding lookFrom
+  look-settles s zero r = inr refl
+  look-settles s (suc k) r = by-step (settles s r) (look-settles s k (suc r))
+    where
+      by-move : (m : step.Move) → f s r ≡ m → g s r ≡ m → Looks f g s k (suc r) → Looks f g s (suc k) r
+      by-move step.rests e d (inl (q, u)) = inl (q, rw e u)
+      by-move step.rests e d (inr same) = inr (rw (e, d) same)
+      by-move step.undecided e d next = inl (r, rw e refl)
+      by-move step.conflict e d next = inr (rw (e, d) refl)
+      by-move step.drew e d next = inr (rw (e, d) refl)
+      by-move step.dropped e d next = inr (rw (e, d) refl)
+
+      by-step : (f s r ≡ step.undecided) ⊎ (g s r ≡ f s r) → Looks f g s k (suc r) → Looks f g s (suc k) r
+      by-step (inl u) next = inl (r, rw u refl)
+      by-step (inr same) next = by-move (f s r) refl same next
+
+-- ---- a run
+
+-- a run that ends with no move made and no final word
+goes-on-unfinal : (x y : Run) (e : Ending) (s : State) (r : ℕ) → x ≡ ends e s r → (Final e → ⊥) → GoesOn x y
+goes-on-unfinal x y e s r is never =
+    record {
+      starts = record { rest = y .bytes; whole = rw is refl };
+      stands = λ final. absurd (never (rw is at final));
+    }
+
+goes-on-same : (x y : Run) → y ≡ x → GoesOn x y
+goes-on-same x y same = record { starts = record { rest = []; whole = ap (λ (z : Run). z .bytes) same ∙ sym (append-nil (x .bytes)) }; stands = λ final. same }
+
+goes-on-logged : (c : ℕ) (x y : Run) → GoesOn x y → GoesOn (logged c x) (logged c y)
+goes-on-logged c x y on =
+    record {
+      starts = record { rest = on .starts .rest; whole = ap (_∷_ c) (on .starts .whole) };
+      stands = λ final. ap (logged c) (on .stands final);
+    }
+
+spent-unfinal : Final spent → ⊥
+spent-unfinal (inl e) = let z : _≡_ {A = ℕ} 0 1 = cc in omega arith
+spent-unfinal (inr e) = let z : _≡_ {A = ℕ} 0 1 = cc in omega arith
+
+undecided-unfinal : Final undecided → ⊥
+undecided-unfinal (inl e) = let z : _≡_ {A = ℕ} 0 1 = cc in omega arith
+undecided-unfinal (inr e) = let z : _≡_ {A = ℕ} 0 1 = cc in omega arith
+
+-- ---- the second run goes on from the first
+
+module _ (f g : Stepper) (settles : Settles f g) (k : ℕ) where
+  -- by what the first look comes to; a move is left to the room that the two runs have
+  goes-on-look : (n m : ℕ) (s : State) → ((mv : step.Move) (r : ℕ) → lookFrom f s k 0 ≡ moves mv r → lookFrom g s k 0 ≡ moves mv r → GoesOn (runOf f k n s) (runOf g k m s)) → GoesOn (runOf f k n s) (runOf g k m s)
+  goes-on-look n m s on = by-looks (look-settles f g settles s k 0)
+    where
+      by-look : (l : Look) → lookFrom f s k 0 ≡ l → lookFrom g s k 0 ≡ l → GoesOn (runOf f k n s) (runOf g k m s)
+      by-look quiet e d = goes-on-same _ _ (run-quiet g k s m d ∙ sym (run-quiet f k s n e))
+      by-look (halts w r) e d = goes-on-same _ _ (run-halts g k s m w r d ∙ sym (run-halts f k s n w r e))
+      by-look (moves mv r) e d = on mv r e d
+
+      by-looks : Looks f g s k 0 → GoesOn (runOf f k n s) (runOf g k m s)
+      by-looks (inl (q, u)) = goes-on-unfinal _ _ undecided s q (run-halts f k s n undecided q u) undecided-unfinal
+      by-looks (inr same) = by-look (lookFrom f s k 0) refl same
+
+  pub run-goes-on : (n m : ℕ) (s : State) → n ≤ m → GoesOn (runOf f k n s) (runOf g k m s)
+  run-goes-on zero m s more = goes-on-look zero m s (λ mv r e d. goes-on-unfinal _ _ spent s r (run-spent f k s mv r e) spent-unfinal)
+  run-goes-on (suc n) zero s more = absurd (omega arith)
+  run-goes-on (suc n) (suc m) s more = goes-on-look (suc n) (suc m) s (λ mv r e d. rw (run-moves f k s n mv r e, run-moves g k s m mv r d) (goes-on-logged (byteOf r mv) _ _ (run-goes-on n m (step.made s r mv) (omega arith))))

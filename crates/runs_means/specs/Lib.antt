@@ -1,0 +1,3 @@
+-- The statements, in reading order.
+pub mod LongerRuns
+pub mod Courses

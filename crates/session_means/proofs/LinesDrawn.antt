@@ -1,0 +1,24 @@
+-- The theorem: in every session the last number of an event's line is the sum over the relays drawn in the state that it leaves. That state fits the board, so its word of drawn relays is the sum.
+use Prim.Native.Nat.{ℕ, suc}
+use mathlib.Core.Path.{refl, subst, _∙_}
+use mathlib.Core.List.{List, _∷_}
+use Rattle.state.specs.declared.State.{State}
+use Rattle.file_means.proofs.GivesLaws.{Gives}
+use Rattle.lines.specs.Lines.{Line, event, closing}
+use Rattle.events.specs.Events.{Shown}
+use Rattle.events.proofs.DrawnLaws.{drawn-is-sum}
+use Rattle.session.specs.Sessions.{Head, sessionLines}
+use Rattle.session_means.specs.LinesDrawn.{Shows, SumsFrom, LinesDrawn}
+use Rattle.session_means.proofs.EventFits.{ShownFits}
+use Rattle.session_means.proofs.LinesWalk.{Along, HeadFine, head-fine, head-walk}
+
+shown-sum : (h : Head) (e : ℕ) (t : State) (x : Shown) (ls : List Line) → Shows h e t x → ShownFits (h .board) x → SumsFrom h (suc e) (x .1) ls → SumsFrom h e t (x .0 ∷ ls)
+shown-sum h e t (event n o m d, u) ls shows so on = (u, (record { shows = shows; fits = so .fits; sum = so .drawn ∙ drawn-is-sum (h .board .counts) u (so .fits) }, on))
+shown-sum h e t (closing n p, u) ls shows so on = absurd (so .drawn)
+
+along-drawn : (h : Head) → Along h (SumsFrom h)
+along-drawn h = record { none = λ e t. tt; closes = λ e t n p. refl; shown = shown-sum h }
+
+pub lines-drawn : LinesDrawn
+unfolding sessionLines
+lines-drawn s h read = rw read (head-walk h s (subst (Gives HeadFine) read (head-fine s)) (SumsFrom (h .value)) (along-drawn (h .value)))

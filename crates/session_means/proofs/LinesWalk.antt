@@ -1,0 +1,76 @@
+-- The lines of a session, one after the other, for whatever is to be shown of them: by induction on the events, with the state before each fitting the board. The theorems are its instances.
+use Prim.Native.Nat.{ℕ, zero, suc, _/_}
+use mathlib.Core.Path.{_≡_, refl}
+use mathlib.Core.Bool.{Bool, true, false, cond}
+use mathlib.Core.List.{List, [], _∷_}
+use lib.Dec.{leb, ltb}
+use lib.ListN.{length}
+use Rattle.number.specs.Outcomes.{Outcome, given, refused, Found}
+use Rattle.number.specs.Refusals.{noSuchName}
+use Rattle.number.specs.Numbers.{numberAt}
+use Rattle.board.specs.Rules.{boardFine}
+use Rattle.state.specs.declared.State.{State}
+use Rattle.state.specs.States.{freshState, stateFine}
+use Rattle.state.proofs.StateLaws.{fresh-fits}
+use Rattle.board_reader.specs.Reading.{reading}
+use Rattle.file_means.proofs.GivesLaws.{Gives, gives-then, gives-after, wanted-gives}
+use Rattle.file_means.proofs.BoardTrip.{BoardRead}
+use Rattle.file_means.proofs.ReadFine.{read-fine}
+use Rattle.lines.specs.Lines.{Line, closing}
+use Rattle.events.specs.Events.{Shown, eventAt, eventLine}
+use Rattle.session.specs.Sessions.{Head, withAllowance, headAt, eventLines, linesFrom, headLines}
+use Rattle.session_means.specs.LinesDrawn.{Shows}
+use Rattle.session_means.proofs.EventFits.{ShownFits, ran-fits, event-fits}
+
+-- what is to be shown of the lines from event e on, in state t: of none, of the line that ends a session, and of an event's line before others
+pub record Along (h : Head) (Q : ℕ → State → List Line → Type 0) : Type 0 where
+  pub none : (e : ℕ) (t : State) → Q e t []
+  pub closes : (e : ℕ) (t : State) (n p : ℕ) → Q e t (closing n p ∷ [])
+  pub shown : (e : ℕ) (t : State) (x : Shown) (ls : List Line) → Shows h e t x → ShownFits (h .board) x → Q (suc e) (x .1) ls → Q e t (x .0 ∷ ls)
+
+-- ---- the events
+
+module _ (h : Head) (s : List ℕ) (fine : boardFine (h .board) ≡ true) (Q : ℕ → State → List Line → Type 0) (so : Along h Q) where
+  -- the event's button is one of the board's
+  abbrev Named : Found ℕ → Type 0
+  Named v = ltb (v .value / 2) (h .board .counts .buttons) ≡ true
+
+  event-named : (at : ℕ) → Gives Named (eventAt (h .board) s at)
+  unfolding eventAt
+  event-named at = wanted-gives Named (λ v. ltb (v / 2) (h .board .counts .buttons)) noSuchName s at (λ v read below. below)
+
+  -- event e, in state t that fits, and the lines after it
+  event-walk : (e : ℕ) (t : State) (o : Outcome (Found ℕ)) (go : State → ℕ → List Line) → stateFine (h .board .counts) t ≡ true → Gives Named o
+      → ((u : State) (next : ℕ) → stateFine (h .board .counts) u ≡ true → Q (suc (suc e)) u (go u next)) → Q (suc e) t (eventLines o (eventLine (h .board) (h .allowance) (suc e) t) go)
+  event-walk e t (given v) go fits named on =
+      let x = eventLine (h .board) (h .allowance) (suc e) t (v .value) in
+      let after = event-fits (h .board) fine (h .allowance) (suc e) t (v .value) fits named in
+      so .shown (suc e) t x _ (v .value, refl) after (on (x .1) (v .next) (after .fits))
+  event-walk e t (refused n p) go fits named on = so .closes (suc e) t n p
+
+  unless-over : (e : ℕ) (t : State) (over : Bool) (ls : List Line) → Q e t ls → Q e t (cond over [] ls)
+  unless-over e t true ls all = so .none e t
+  unless-over e t false ls all = all
+
+  lines-walk : (k : ℕ) (t : State) (e at : ℕ) → stateFine (h .board .counts) t ≡ true → Q (suc e) t (linesFrom k (h .board) (h .allowance) s t (suc e) at)
+  unfolding linesFrom
+  lines-walk zero t e at fits = so .none (suc e) t
+  lines-walk (suc k) t e at fits =
+      unless-over (suc e) t (leb (length s) at) _
+      (event-walk e t (eventAt (h .board) s at) (λ u next. linesFrom k (h .board) (h .allowance) s u (suc (suc e)) next) fits (event-named at)
+      (λ u next after. lines-walk k u (suc e) next after))
+
+-- ---- the session
+
+abbrev pub HeadFine : Found Head → Type 0
+HeadFine h = boardFine (h .value .board) ≡ true
+
+pub head-fine : (s : List ℕ) → Gives HeadFine (headAt s)
+unfolding headAt withAllowance
+head-fine s = gives-then (BoardRead s (reading s .0)) HeadFine (reading s .1) _ (read-fine s) (λ at was. gives-after HeadFine (numberAt s at) _ (λ w read. was .fine))
+
+pub head-walk : (h : Found Head) (s : List ℕ) → HeadFine h → (Q : ℕ → State → List Line → Type 0) → Along (h .value) Q → Q 0 freshState (headLines (given h) s)
+unfolding headLines
+head-walk h s fine Q so =
+    let first = ran-fits (h .value .board) fine (h .value .allowance) 0 freshState (fresh-fits (h .value .board .counts)) in
+    so .shown 0 freshState _ _ refl first (lines-walk (h .value) s fine Q so (length s) _ 0 (h .next) (first .fits))

@@ -1,0 +1,56 @@
+-- A session that was opened has all its lines still to come, and numbers them as the definition does.
+use Prim.Native.Nat.{ℕ, _<_, _≤_}
+use native.Mathlib.Omega.{arith}
+use mathlib.Core.Path.{_≡_, refl, sym, ap, _∙_}
+use mathlib.Core.Bool.{Bool, true, false}
+use mathlib.Core.List.{List}
+use lib.Dec.{leb}
+use lib.ListN.{length}
+use borrow.Author.Tests.{leb-true, leb-false}
+use Rattle.number.specs.Outcomes.{Outcome, given, refused, Found}
+use Rattle.number.specs.Refusals.{inputTooLong}
+use Rattle.number.specs.Numbers.{numberAt}
+use Rattle.number.proofs.OutcomeLaws.{refused-never, handed}
+use Rattle.board.specs.declared.Board.{Board}
+use Rattle.board_reader.specs.Reading.{longestInput, answered, reading}
+use Rattle.board_reader.proofs.ReadLaws.{reading-long}
+use Rattle.session.specs.Sessions.{Head, withAllowance, headAt, headLines, sessionLines}
+use Rattle.session.specs.Carried.{opened, opening}
+use Rattle.session.specs.ToCome.{toComeAt, toCome}
+use Rattle.session_means.proofs.StillLaws.{stillAt, still, Numbered}
+
+opened-still : (o : Outcome (Found Head)) (s : List ℕ) → still (opened o) s ≡ headLines o s
+unfolding opened headLines still stillAt
+opened-still (given h) s = refl
+opened-still (refused n p) s = refl
+
+pub opening-still : (s : List ℕ) → still (opening s) s ≡ sessionLines s
+unfolding opening sessionLines
+opening-still s = opened-still (headAt s) s
+
+long-refused : (s : List ℕ) → longestInput < length s → reading s .1 ≡ refused inputTooLong 0
+unfolding answered
+long-refused s long = ap (λ (x : Board × Outcome ℕ). x .1) (sym (reading-long s long))
+
+-- an input whose board was read is not too long
+read-short : (s : List ℕ) (at : ℕ) → reading s .1 ≡ given at → length s ≤ longestInput
+read-short s at read = by (leb (length s) longestInput) refl
+  where
+    by : (t : Bool) → leb (length s) longestInput ≡ t → length s ≤ longestInput
+    by true e = leb-true (length s) longestInput e
+    by false e = absurd (refused-never inputTooLong 0 at (sym (long-refused s (leb-false (length s) longestInput e)) ∙ read))
+
+head-short : (s : List ℕ) (h : Found Head) → headAt s ≡ given h → length s ≤ longestInput
+unfolding headAt
+head-short s h e =
+    let board = handed (reading s .1) (λ at. withAllowance (reading s .0) (numberAt s at)) h e in
+    read-short s (board .value) (board .first)
+
+opened-numbered : (o : Outcome (Found Head)) (s : List ℕ) → ((h : Found Head) → o ≡ given h → length s ≤ longestInput) → Numbered (opened o) s
+unfolding opened toCome toComeAt
+opened-numbered (given h) s short = omega (arith, short h refl)
+opened-numbered (refused n p) s short = omega arith
+
+pub opening-numbered : (s : List ℕ) → Numbered (opening s) s
+unfolding opening
+opening-numbered s = opened-numbered (headAt s) s (head-short s)

@@ -1,0 +1,4 @@
+-- The statements, in reading order.
+pub mod HandedLines
+pub mod EventRefusals
+pub mod LinesDrawn

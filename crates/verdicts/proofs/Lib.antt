@@ -1,4 +1,0 @@
--- The theorems, by subject.
-pub mod Exact
-pub mod Allowed
-pub mod Elevens

@@ -1,4 +1,0 @@
--- The statements, in reading order.
-pub mod Exactness
-pub mod Allowances
-pub mod Eleven
