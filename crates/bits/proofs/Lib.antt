@@ -2,4 +2,3 @@
 pub mod BoolLaws
 pub mod SetLaws
 pub mod LowestLaws
-pub mod Once

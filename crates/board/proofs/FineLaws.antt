@@ -2,7 +2,7 @@
 use mathlib.Core.Path.{_≡_, refl, ap₂}
 use mathlib.Core.Bool.{true, _&&_}
 use mathlib.Core.List.{List, []}
-use Rattle.windings.specs.Windings.{noWindings, complete, every}
+use Rattle.windings.specs.Windings.{noneWound, complete, every}
 use Rattle.board.specs.declared.Counts.{Counts}
 use Rattle.board.specs.declared.Part.{Part}
 use Rattle.board.specs.declared.Board.{Board}
@@ -19,7 +19,7 @@ pub same-boards-fine : (x y : Board) → sameBoard x y ≡ true → boardFine x 
 unfolding boardFine
 same-boards-fine x y same =
     let equal = same-board-equal x y same in
-    ap₂ (λ (c : Counts) (ps : List Part). countsFine c && partsFine c noWindings ps) (equal .0) (equal .1)
+    ap₂ (λ (c : Counts) (ps : List Part). countsFine c && partsFine c noneWound ps) (equal .0) (equal .1)
 
 pub fine-range : (b : Board) → boardFine b ≡ true → InRange (b .counts)
 unfolding boardFine
@@ -27,7 +27,7 @@ fine-range b fine = counts-in-range (b .counts) (both-true (countsFine (b .count
 
 pub fine-parts-fit : (b : Board) → boardFine b ≡ true → partsFit (b .counts) (partsOf b) ≡ true
 unfolding boardFine
-fine-parts-fit b fine = fine-fit (b .counts) noWindings (partsOf b) (both-true (countsFine (b .counts)) _ fine .1)
+fine-parts-fit b fine = fine-fit (b .counts) noneWound (partsOf b) (both-true (countsFine (b .counts)) _ fine .1)
 
 pub fine-relays-wound : (b : Board) → boardFine b ≡ true → Wound (b .counts .relays) (partsOf b)
 unfolding boardFine

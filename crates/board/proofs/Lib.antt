@@ -4,4 +4,3 @@ pub mod SameLaws
 pub mod PaddedLaws
 pub mod FineLaws
 pub mod WindingLaws
-pub mod Once

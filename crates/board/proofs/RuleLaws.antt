@@ -6,8 +6,8 @@ use mathlib.Core.Bool.{Bool, true, false}
 use lib.Dec.{leb, leb·zero}
 use lib.ListN.{length, getD, take, drop}
 use borrow.Author.Tests.{le-leb, leb-true, lt-ltb, le-ltb, eq-eqb, ne-eqb}
-use Rattle.windings.specs.declared.Windings.{Windings}
-use Rattle.windings.specs.Windings.{noWindings, windingFree, gained, complete}
+use Rattle.windings.specs.declared.WoundSoFar.{WoundSoFar}
+use Rattle.windings.specs.Windings.{noneWound, windingFree, gained, complete}
 use Rattle.board.specs.declared.Counts.{Counts}
 use Rattle.board.specs.declared.Part.{Part}
 use Rattle.board.specs.declared.Board.{Board}
@@ -44,7 +44,7 @@ unfolding countsFine inRange
 counts-fine-last c low high relays buttons = simp (leb·zero, le-leb 2 (c .terminals) low, le-leb (c .terminals) 64 high, le-leb (c .relays) 32 relays, le-leb (c .buttons) 32 buttons)
 
 -- a part's tests one after the other: the first that fails decides, and the last is the answer
-module _ (c : Counts) (w : Windings) (p : Part) where
+module _ (c : Counts) (w : WoundSoFar) (p : Part) where
   pub part-a-off : c .terminals ≤ p .a → false ≡ partFine c w p
   unfolding partFine partFits
   part-a-off a = simp (le-ltb (p .a) (c .terminals) a)
@@ -73,16 +73,16 @@ module _ (c : Counts) (w : Windings) (p : Part) where
   unfolding partsFine
   parts-on ps fine = simp fine
 
-parts-end : (c : Counts) (w : Windings) → partsFine c w [] ≡ complete (c .relays) w
+parts-end : (c : Counts) (w : WoundSoFar) → partsFine c w [] ≡ complete (c .relays) w
 unfolding partsFine
 parts-end c w = refl
 
 -- a walk along the first n parts of l: at place i, `all` is what the parts from there on come to after the windings w
-module _ (c : Counts) (w : Windings) (l : List Part) (n i : ℕ) (all : Bool) (long : n ≤ length l) (here : all ≡ partsFine c w (drop i (take n l))) where
+module _ (c : Counts) (w : WoundSoFar) (l : List Part) (n i : ℕ) (all : Bool) (long : n ≤ length l) (here : all ≡ partsFine c w (drop i (take n l))) where
   pub parts-walk-off : i < n → partFine c w (getD l i blank) ≡ false → false ≡ all
   parts-walk-off below off = sym (here ∙ ap (partsFine c w) (first-from blank l n long i below) ∙ parts-off c w (getD l i blank) (drop (i + 1) (take n l)) off)
 
-  pub parts-walk-on : (w′ : Windings) → i < n → partFine c w (getD l i blank) ≡ true → w′ ≡ gained w (getD l i blank .kind) → all ≡ partsFine c w′ (drop (i + 1) (take n l))
+  pub parts-walk-on : (w′ : WoundSoFar) → i < n → partFine c w (getD l i blank) ≡ true → w′ ≡ gained w (getD l i blank .kind) → all ≡ partsFine c w′ (drop (i + 1) (take n l))
   parts-walk-on w′ below fine more = here ∙ ap (partsFine c w) (first-from blank l n long i below) ∙ parts-on c w (getD l i blank) (drop (i + 1) (take n l)) fine ∙ ap (λ v. partsFine c v (drop (i + 1) (take n l))) (sym more)
 
   pub parts-walk-end : n ≤ i → complete (c .relays) w ≡ all
@@ -92,6 +92,6 @@ pub board-counts-off : (b : Board) → countsFine (b .counts) ≡ false → fals
 unfolding boardFine
 board-counts-off b off = simp off
 
-pub board-fine-last : (b : Board) → countsFine (b .counts) ≡ true → partsFine (b .counts) noWindings (partsOf b) ≡ boardFine b
+pub board-fine-last : (b : Board) → countsFine (b .counts) ≡ true → partsFine (b .counts) noneWound (partsOf b) ≡ boardFine b
 unfolding boardFine
 board-fine-last b fine = simp fine

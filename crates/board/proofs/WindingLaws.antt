@@ -13,8 +13,8 @@ use Rattle.bits.specs.Sets.{member, including}
 use Rattle.bits.proofs.SetLaws.{member-including-same, member-including-other, member-none}
 use Rattle.kinds.specs.declared.Kind.{Kind}
 use Rattle.kinds.specs.declared.Kind.the-variants.{Wire, Upper, Lower, Button, Regular, Drawing, Dropping}
-use Rattle.windings.specs.declared.Windings.{Windings}
-use Rattle.windings.specs.Windings.{noWindings, windingFree, gained, wound, complete}
+use Rattle.windings.specs.declared.WoundSoFar.{WoundSoFar}
+use Rattle.windings.specs.Windings.{noneWound, windingFree, gained, wound, complete}
 use Rattle.board.specs.declared.Part.{Part}
 use Rattle.board.specs.declared.Counts.{Counts}
 use Rattle.board.specs.Rules.{terminalFine, endsFine, nameFine, partFits, partFine, partsFine}
@@ -49,12 +49,12 @@ absent-room s n r clear =
 -- ---- what a part's kind does to the windings of a relay r
 
 -- relay r is of at most one sort so far
-record Apart (w : Windings) (r : ℕ) : Type 0 where
+record MostOneSort (w : WoundSoFar) (r : ℕ) : Type 0 where
   pub drawing : worth (member (w .regular) r) + worth (member (w .drawing) r) ≤ 1
   pub dropping : worth (member (w .regular) r) + worth (member (w .dropping) r) ≤ 1
 
 -- a part of kind k that is free and names a relay counts for r where it carries r, and nowhere else
-record Gain (w : Windings) (k : Kind) (r : ℕ) : Type 0 where
+record Gain (w : WoundSoFar) (k : Kind) (r : ℕ) : Type 0 where
   pub regular : worth (member (gained w k .regular) r) ≡ worth (member (w .regular) r) + worth (carries 4 r k)
   pub drawing : worth (member (gained w k .drawing) r) ≡ worth (member (w .drawing) r) + worth (carries 5 r k)
   pub dropping : worth (member (gained w k .dropping) r) ≡ worth (member (w .dropping) r) + worth (carries 6 r k)
@@ -65,7 +65,7 @@ in-neither s t n free =
     let both = both-true (not (member s n)) (not (member t n)) free in
     (not-true _ (both .0), not-true _ (both .1))
 
-regular-free : (w : Windings) (n : ℕ) → windingFree w (Regular n) ≡ true → (member (w .regular) n ≡ false) × (member (w .drawing) n ≡ false) × (member (w .dropping) n ≡ false)
+regular-free : (w : WoundSoFar) (n : ℕ) → windingFree w (Regular n) ≡ true → (member (w .regular) n ≡ false) × (member (w .drawing) n ≡ false) × (member (w .dropping) n ≡ false)
 regular-free w n free =
     let both = both-true (not (member (w .regular) n)) (not (member (w .drawing) n) && not (member (w .dropping) n)) free in
     let others = in-neither (w .drawing) (w .dropping) n (both .1) in
@@ -75,7 +75,7 @@ regular-free w n free =
 named-room : (c : Counts) (n : ℕ) → c .relays ≤ 32 → ltb n (c .relays) ≡ true → n < 64
 named-room c n few named = omega (arith, ltb-true n (c .relays) named)
 
-module _ (c : Counts) (few : c .relays ≤ 32) (w : Windings) (r : ℕ) where
+module _ (c : Counts) (few : c .relays ≤ 32) (w : WoundSoFar) (r : ℕ) where
   gain : (k : Kind) → nameFine c k ≡ true → windingFree w k ≡ true → Gain w k r
   unfolding nameFine carries
   gain Wire named free = record { regular = omega arith; drawing = omega arith; dropping = omega arith }
@@ -87,7 +87,7 @@ module _ (c : Counts) (few : c .relays ≤ 32) (w : Windings) (r : ℕ) where
   gain (Dropping n) named free = record { regular = omega arith; drawing = omega arith; dropping = including-worth (w .dropping) n r (named-room c n few named) (in-neither (w .regular) (w .dropping) n free .1) }
 
 -- a relay stays of at most one sort
-apart-gained : (w : Windings) (r : ℕ) (k : Kind) → windingFree w k ≡ true → Gain w k r → Apart w r → Apart (gained w k) r
+apart-gained : (w : WoundSoFar) (r : ℕ) (k : Kind) → windingFree w k ≡ true → Gain w k r → MostOneSort w r → MostOneSort (gained w k) r
 unfolding carries
 apart-gained w r Wire free more apart = apart
 apart-gained w r (Upper n) free more apart = apart
@@ -120,15 +120,15 @@ sums-same : {x y z x′ y′ z′ : ℕ} → x ≡ x′ → y ≡ y′ → z ≡
 sums-same p q r (inl (x, y, z)) = inl (sym p ∙ x, sym q ∙ y, sym r ∙ z)
 sums-same p q r (inr (x, y, z)) = inr (sym p ∙ x, sym q ∙ y, sym r ∙ z)
 
-abbrev OneSort : Windings → ℕ → List Part → Type 0
+abbrev OneSort : WoundSoFar → ℕ → List Part → Type 0
 OneSort w r ps = Sums (worth (member (w .regular) r) + windingsOf 4 r ps) (worth (member (w .drawing) r) + windingsOf 5 r ps) (worth (member (w .dropping) r) + windingsOf 6 r ps)
 
 -- a part's 1 moves from the parts to the windings
-sort-before : (w : Windings) (r : ℕ) (p : Part) (ps : List Part) → Gain w (p .kind) r → OneSort (gained w (p .kind)) r ps → OneSort w r (p ∷ ps)
+sort-before : (w : WoundSoFar) (r : ℕ) (p : Part) (ps : List Part) → Gain w (p .kind) r → OneSort (gained w (p .kind)) r ps → OneSort w r (p ∷ ps)
 unfolding windingsOf
 sort-before w r p ps more = sums-same (omega (arith, more .regular)) (omega (arith, more .drawing)) (omega (arith, more .dropping))
 
-sort-after : (w : Windings) (r : ℕ) (p : Part) (ps : List Part) → Gain w (p .kind) r → OneSort w r (p ∷ ps) → OneSort (gained w (p .kind)) r ps
+sort-after : (w : WoundSoFar) (r : ℕ) (p : Part) (ps : List Part) → Gain w (p .kind) r → OneSort w r (p ∷ ps) → OneSort (gained w (p .kind)) r ps
 unfolding windingsOf
 sort-after w r p ps more = sums-same (omega (arith, more .regular)) (omega (arith, more .drawing)) (omega (arith, more .dropping))
 
@@ -162,7 +162,7 @@ dropping-sums : (g s : Bool) (one x y z : ℕ) → one ≡ 1 → Sums (worth g +
 dropping-sums g s one x y z e (inl (p, q, r)) = absurd (omega arith)
 dropping-sums g s one x y z e (inr (p, q, r)) = true-both (worth-none g (omega arith)) (worth-none s (omega arith))
 
-module _ (c : Counts) (w : Windings) (ps : List Part) where
+module _ (c : Counts) (w : WoundSoFar) (ps : List Part) where
   sorted-free : (a b : ℕ) (k : Kind) → nameFine c k ≡ true → ((r : ℕ) → r < c .relays → OneSort w r (record { a = a; b = b; kind = k } ∷ ps)) → windingFree w k ≡ true
   unfolding nameFine windingsOf carries
   sorted-free a b Wire named sorts = refl
@@ -175,11 +175,11 @@ module _ (c : Counts) (w : Windings) (ps : List Part) where
 
 -- ---- along the parts
 
-part-splits : (c : Counts) (w : Windings) (p : Part) → partFine c w p ≡ true → (partFits c p ≡ true) × (windingFree w (p .kind) ≡ true)
+part-splits : (c : Counts) (w : WoundSoFar) (p : Part) → partFine c w p ≡ true → (partFits c p ≡ true) × (windingFree w (p .kind) ≡ true)
 unfolding partFine
 part-splits c w p fine = both-true (partFits c p) (windingFree w (p .kind)) fine
 
-splits-part : (c : Counts) (w : Windings) (p : Part) → partFits c p ≡ true → windingFree w (p .kind) ≡ true → partFine c w p ≡ true
+splits-part : (c : Counts) (w : WoundSoFar) (p : Part) → partFits c p ≡ true → windingFree w (p .kind) ≡ true → partFine c w p ≡ true
 unfolding partFine
 splits-part c w p fits free = true-both fits free
 
@@ -187,7 +187,7 @@ pub part-named : (c : Counts) (p : Part) → partFits c p ≡ true → nameFine 
 unfolding partFits
 part-named c p fits = both-true (terminalFine c (p .a) && terminalFine c (p .b) && endsFine (p .a) (p .b)) (nameFine c (p .kind)) fits .1
 
-fine-sort : (c : Counts) → c .relays ≤ 32 → (r : ℕ) → r < c .relays → (w : Windings) (ps : List Part) → Apart w r → partsFine c w ps ≡ true → OneSort w r ps
+fine-sort : (c : Counts) → c .relays ≤ 32 → (r : ℕ) → r < c .relays → (w : WoundSoFar) (ps : List Part) → MostOneSort w r → partsFine c w ps ≡ true → OneSort w r ps
 unfolding partsFine complete windingsOf
 fine-sort c few r below w [] apart fine = end-sums (member (w .regular) r) (member (w .drawing) r) (member (w .dropping) r) (every-below (wound w) (c .relays) r fine below) (apart .drawing) (apart .dropping)
 fine-sort c few r below w (p ∷ ps) apart fine =
@@ -196,7 +196,7 @@ fine-sort c few r below w (p ∷ ps) apart fine =
     let more = gain c few w r (p .kind) (part-named c p (part .0)) (part .1) in
     sort-before w r p ps more (fine-sort c few r below (gained w (p .kind)) ps (apart-gained w r (p .kind) (part .1) more apart) (both .1))
 
-sort-fine : (c : Counts) → c .relays ≤ 32 → (w : Windings) (ps : List Part) → partsFit c ps ≡ true → ((r : ℕ) → r < c .relays → OneSort w r ps) → partsFine c w ps ≡ true
+sort-fine : (c : Counts) → c .relays ≤ 32 → (w : WoundSoFar) (ps : List Part) → partsFit c ps ≡ true → ((r : ℕ) → r < c .relays → OneSort w r ps) → partsFine c w ps ≡ true
 unfolding partsFine partsFit complete windingsOf
 sort-fine c few w [] fit sorts = below-every (wound w) (c .relays) (λ r below. sums-end (member (w .regular) r) (member (w .drawing) r) (member (w .dropping) r) (sorts r below))
 sort-fine c few w (p ∷ ps) fit sorts =
@@ -212,19 +212,19 @@ sort-fine c few w (p ∷ ps) fit sorts =
 none-sum : (r n : ℕ) → worth (member 0 r) + n ≡ n
 none-sum r n = rw (member-none r) (omega arith)
 
-pub fine-fit : (c : Counts) (w : Windings) (ps : List Part) → partsFine c w ps ≡ true → partsFit c ps ≡ true
+pub fine-fit : (c : Counts) (w : WoundSoFar) (ps : List Part) → partsFine c w ps ≡ true → partsFit c ps ≡ true
 unfolding partsFine partsFit
 fine-fit c w [] fine = refl
 fine-fit c w (p ∷ ps) fine =
     let both = both-true (partFine c w p) (partsFine c (gained w (p .kind)) ps) fine in
     true-both (part-splits c w p (both .0) .0) (fine-fit c (gained w (p .kind)) ps (both .1))
 
-pub fine-wound : (c : Counts) (ps : List Part) → c .relays ≤ 32 → partsFine c noWindings ps ≡ true → Wound (c .relays) ps
+pub fine-wound : (c : Counts) (ps : List Part) → c .relays ≤ 32 → partsFine c noneWound ps ≡ true → Wound (c .relays) ps
 fine-wound c ps few fine r below =
     sums-same (none-sum r (windingsOf 4 r ps)) (none-sum r (windingsOf 5 r ps)) (none-sum r (windingsOf 6 r ps))
-    (fine-sort c few r below noWindings ps (record { drawing = rw (member-none r) (omega arith); dropping = rw (member-none r) (omega arith) }) fine)
+    (fine-sort c few r below noneWound ps (record { drawing = rw (member-none r) (omega arith); dropping = rw (member-none r) (omega arith) }) fine)
 
-pub wound-fine : (c : Counts) (ps : List Part) → c .relays ≤ 32 → Wound (c .relays) ps → partsFit c ps ≡ true → partsFine c noWindings ps ≡ true
+pub wound-fine : (c : Counts) (ps : List Part) → c .relays ≤ 32 → Wound (c .relays) ps → partsFit c ps ≡ true → partsFine c noneWound ps ≡ true
 wound-fine c ps few wound fit =
-    sort-fine c few noWindings ps fit
+    sort-fine c few noneWound ps fit
     (λ r below. sums-same (sym (none-sum r (windingsOf 4 r ps))) (sym (none-sum r (windingsOf 5 r ps))) (sym (none-sum r (windingsOf 6 r ps))) (wound r below))

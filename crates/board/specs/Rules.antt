@@ -2,7 +2,7 @@
 --     countsFine c        3: T is 2 to 64, R 0 to 32, B 0 to 32 and C 0 to 256
 --     terminalFine c x    5: terminal x is below T
 --     endsFine a b        6: the two ends differ
---     limitOf c k         what a name carried by a kind of number k must be below: B for a button (kind 3), else R
+--     limitOf c k         what a name carried by a kind of number k must be below: B for a button, else R
 --     nameFine c k        7: the relay or button that kind k carries is below R or B
 --     partFits c p        5 to 7 of the part p, on which no other part bears
 --     partFine c w p      5 to 8 of the part p after parts that gave the windings w
@@ -13,9 +13,9 @@ use mathlib.Core.Bool.{Bool, cond, not, _&&_, _||_}
 use mathlib.Core.List.{List, [], _∷_}
 use lib.Dec.{ltb, leb, eqb}
 use Rattle.kinds.specs.declared.Kind.{Kind}
-use Rattle.windings.specs.declared.Windings.{Windings}
-use Rattle.kinds.specs.Kinds.{kindNumber, nameOf}
-use Rattle.windings.specs.Windings.{noWindings, windingFree, gained, complete}
+use Rattle.windings.specs.declared.WoundSoFar.{WoundSoFar}
+use Rattle.kinds.specs.Kinds.{kindNumber, nameOf, buttonKind}
+use Rattle.windings.specs.Windings.{noneWound, windingFree, gained, complete}
 use Rattle.board.specs.declared.Part.{Part}
 use Rattle.board.specs.declared.Counts.{Counts}
 use Rattle.board.specs.declared.Board.{Board}
@@ -51,7 +51,7 @@ abbrev pub endsFine : ℕ → ℕ → Bool
 endsFine a b = not (eqb a b)
 
 abbrev pub limitOf : Counts → ℕ → ℕ
-limitOf c k = cond (eqb k 3) (c .buttons) (c .relays)
+limitOf c k = cond (eqb k buttonKind) (c .buttons) (c .relays)
 
 unfoldable pub nameFine : Counts → Kind → Bool
 nameFine c k = eqb (kindNumber k) 0 || ltb (nameOf k) (limitOf c (kindNumber k))
@@ -59,12 +59,12 @@ nameFine c k = eqb (kindNumber k) 0 || ltb (nameOf k) (limitOf c (kindNumber k))
 unfoldable pub partFits : Counts → Part → Bool
 partFits c p = terminalFine c (p .a) && terminalFine c (p .b) && endsFine (p .a) (p .b) && nameFine c (p .kind)
 
-unfoldable pub partFine : Counts → Windings → Part → Bool
+unfoldable pub partFine : Counts → WoundSoFar → Part → Bool
 partFine c w p = partFits c p && windingFree w (p .kind)
 
-unfoldable pub partsFine : Counts → Windings → List Part → Bool
+unfoldable pub partsFine : Counts → WoundSoFar → List Part → Bool
 partsFine c w [] = complete (c .relays) w
 partsFine c w (p ∷ ps) = partFine c w p && partsFine c (gained w (p .kind)) ps
 
 unfoldable pub boardFine : Board → Bool
-boardFine b = countsFine (b .counts) && partsFine (b .counts) noWindings (partsOf b)
+boardFine b = countsFine (b .counts) && partsFine (b .counts) noneWound (partsOf b)

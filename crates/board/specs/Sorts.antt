@@ -13,7 +13,7 @@ use mathlib.Core.Bool.{Bool, true, cond, _&&_}
 use mathlib.Core.List.{List, [], _∷_}
 use lib.Dec.{eqb}
 use Rattle.kinds.specs.declared.Kind.{Kind}
-use Rattle.kinds.specs.Kinds.{kindNumber, nameOf}
+use Rattle.kinds.specs.Kinds.{kindNumber, nameOf, regularKind, drawingKind, droppingKind}
 use Rattle.board.specs.declared.Part.{Part}
 use Rattle.board.specs.declared.Counts.{Counts}
 use Rattle.board.specs.Rules.{partFits}
@@ -26,10 +26,10 @@ windingsOf j r [] = 0
 windingsOf j r (p ∷ ps) = cond (carries j r (p .kind)) 1 0 + windingsOf j r ps
 
 abbrev pub isRegular : ℕ → List Part → Type 0
-isRegular r ps = (windingsOf 4 r ps ≡ 1) × (windingsOf 5 r ps ≡ 0) × (windingsOf 6 r ps ≡ 0)
+isRegular r ps = (windingsOf regularKind r ps ≡ 1) × (windingsOf drawingKind r ps ≡ 0) × (windingsOf droppingKind r ps ≡ 0)
 
 abbrev pub isSteel : ℕ → List Part → Type 0
-isSteel r ps = (windingsOf 4 r ps ≡ 0) × (windingsOf 5 r ps ≡ 1) × (windingsOf 6 r ps ≡ 1)
+isSteel r ps = (windingsOf regularKind r ps ≡ 0) × (windingsOf drawingKind r ps ≡ 1) × (windingsOf droppingKind r ps ≡ 1)
 
 abbrev pub Wound : ℕ → List Part → Type 0
 Wound n ps = (r : ℕ) → r < n → isRegular r ps ⊎ isSteel r ps

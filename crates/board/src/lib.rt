@@ -3,12 +3,12 @@
 ghost use mathlib.Core.Path.{_≡_};
 ghost use Prim.Native.Nat.{_≤_};
 ghost use lib.ListN.{take};
-ghost use Rattle.windings.specs.Windings.{noWindings};
-ghost use Rattle.board.specs.Parts.{mostParts, emptyBoard};
+ghost use Rattle.windings.specs.Windings.{noneWound};
+ghost use Rattle.board.specs.Parts.{mostParts, blank, emptyBoard};
 ghost use Rattle.board.specs.Rules.{limitOf, nameFine, countsFine, partFine, partsFine, boardFine};
 ghost use Rattle.board.specs.Same.{sameCounts, samePart, sameParts, sameBoard};
 use kinds::Kind;
-use windings::Windings;
+use windings::WoundSoFar;
 
 // The rule book's limits on a board's counts.
 pub const LEAST_TERMINALS: u8 = 2;
@@ -46,10 +46,21 @@ pub struct Board {
 pub fn limit(counts: Counts, kind: u32) -> u8
     ensures { λ r. ⌜ r ≡ limitOf counts kind ⌝ }
 {
-    if kind == 3 {
+    if kind == kinds::BUTTON_KIND {
         counts.buttons
     } else {
         counts.relays
+    }
+}
+
+// What fills the places past C of a board that was read.
+pub fn blank() -> Part
+    ensures { λ r. ⌜ r ≡ blank ⌝ }
+{
+    Part {
+        a: 0,
+        b: 0,
+        kind: Kind::Wire,
     }
 }
 
@@ -57,18 +68,14 @@ pub fn limit(counts: Counts, kind: u32) -> u8
 pub fn empty() -> Board
     ensures { λ r. ⌜ r ≡ emptyBoard ⌝ }
 {
-    let blank = Part {
-        a: 0,
-        b: 0,
-        kind: Kind::Wire,
-    };
+    let filler = blank();
     let counts = Counts {
         terminals: LEAST_TERMINALS,
         relays: 0,
         buttons: 0,
         parts: 0,
     };
-    let parts = [blank; 256];
+    let parts = [filler; 256];
     Board { counts, parts }
 }
 
@@ -103,7 +110,7 @@ fn counts_fine(counts: Counts) -> bool
 }
 
 // Whether a part breaks none of 5 to 8 after parts that gave these windings.
-fn part_fine(counts: Counts, windings: Windings, part: Part) -> bool
+fn part_fine(counts: Counts, windings: WoundSoFar, part: Part) -> bool
     ensures { λ r. ⌜ r ≡ partFine counts windings part ⌝ }
 {
     if counts.terminals <= part.a {
@@ -126,10 +133,10 @@ fn part_fine(counts: Counts, windings: Windings, part: Part) -> bool
 // Whether the first C parts break none of 5 to 9.
 fn parts_fine(parts: [Part; 256], counts: Counts) -> bool
     requires { ⌜ counts .parts ≤ mostParts ⌝ }
-    ensures { λ r. ⌜ r ≡ partsFine counts noWindings (take (counts .parts) parts) ⌝ }
+    ensures { λ r. ⌜ r ≡ partsFine counts noneWound (take (counts .parts) parts) ⌝ }
 {
     let count = counts.parts;
-    let mut windings = Windings::none();
+    let mut windings = WoundSoFar::none();
     let mut i = 0;
     while i < count {
         let part = parts[i];

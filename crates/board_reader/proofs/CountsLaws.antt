@@ -12,14 +12,14 @@ use Rattle.number.specs.declared.Refusal.{Refusal}
 use Rattle.board.specs.declared.Counts.{Counts}
 use Rattle.board.specs.Rules.{inRange, countsFine}
 use Rattle.bits.proofs.BoolLaws.{true-both}
-use Rattle.board_reader.specs.Reading.{wanted, countsAt, toldAnswer}
-use Rattle.board_reader.specs.Steps.{foundAt, placeOf, toldCounts}
+use Rattle.board_reader.specs.Reading.{wanted, countsAt, toldReadAnswer}
+use Rattle.board_reader.specs.Steps.{foundAt, placeOf, toldCountsRead}
 use Rattle.board_reader.specs.declared.counts.CountsRead.{CountsRead}
-use Rattle.number.proofs.OutcomeLaws.{given-same, handed}
+use Rattle.number.proofs.OutcomeLaws.{given-injective, handed}
 use Rattle.board_reader.proofs.FieldLaws.{wanted-found, range-bounds}
 
 -- a refused count as the answer on all four
-pub no-counts-told : (a : CountsRead) (x : Number) (r : Refusal) → toldAnswer (a .answer) ≡ placeOf (toldNumber x) → x ≡ Refused r → toldCounts a ≡ refused (r .number) (r .place)
+pub no-counts-told : (a : CountsRead) (x : Number) (r : Refusal) → toldReadAnswer (a .answer) ≡ placeOf (toldNumber x) → x ≡ Refused r → toldCountsRead a ≡ refused (r .number) (r .place)
 no-counts-told a x r h e = ap (foundAt (a .counts)) (h ∙ ap (λ (y : Number). placeOf (toldNumber y)) e)
 
 -- a count that was found is at most its limit
@@ -71,7 +71,7 @@ counts-found s c next h =
     let r = handed (countAt 0 32 s (t .value .next)) _ _ (t .then) in
     let b = handed (countAt 0 32 s (r .value .next)) _ _ (r .then) in
     let p = handed (countAt 0 256 s (b .value .next)) _ _ (b .then) in
-    let same = given-same _ _ (p .then) in
+    let same = given-injective _ _ (p .then) in
     record {
       relays-at = t .value .next;
       buttons-at = r .value .next;

@@ -15,7 +15,7 @@ use Rattle.board.specs.declared.Counts.{Counts}
 use Rattle.bits.proofs.BoolLaws.{both-true}
 use Rattle.board.specs.Rules.{inRange, limitOf}
 use Rattle.board_reader.specs.Reading.{wanted, nameAt}
-use Rattle.number.proofs.OutcomeLaws.{given-same, handed, passed}
+use Rattle.number.proofs.OutcomeLaws.{given-injective, handed, passed}
 
 module _ (ok : ℕ → Bool) (n : ℕ) (s : List ℕ) (at : ℕ) where
   pub wanted-refused : (k p : ℕ) → numberAt s at ≡ refused k p → wanted ok n s at ≡ refused k p
@@ -46,7 +46,7 @@ unfolding wanted
 wanted-found ok n s at v next h =
     let number = handed (numberAt s at) (λ f. unless (ok (f .value)) n at >> given f) (record { value = v; next = next }) h in
     let fine = passed (ok (number .value .value)) n at (given (number .value)) (record { value = v; next = next }) (number .then) in
-    let same : number .value ≡ record { value = v; next = next } = given-same _ _ (fine .1) in
+    let same : number .value ≡ record { value = v; next = next } = given-injective _ _ (fine .1) in
     (ap (λ (f : Found ℕ). ok (f .value)) (sym same) ∙ fine .0, number .first ∙ fine .1)
 
 module _ (low high v : ℕ) where

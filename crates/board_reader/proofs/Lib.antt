@@ -4,4 +4,4 @@ pub mod FieldLaws
 pub mod PartLaws
 pub mod PartsLaws
 pub mod ReadLaws
-pub mod Once
+pub mod ToldLaws

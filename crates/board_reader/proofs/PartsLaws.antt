@@ -7,15 +7,15 @@ use mathlib.Core.List.{List, [], _∷_, _++_, append-nil, append-assoc}
 use lib.ListN.{length, set, replicate, length-append}
 use Rattle.number.specs.Outcomes.{Outcome, given, refused, Found, found, _>>=_}
 use Rattle.number.specs.Refusals.{windingLacking}
-use Rattle.windings.specs.declared.Windings.{Windings}
-use Rattle.windings.specs.Windings.{noWindings, gained, complete}
+use Rattle.windings.specs.declared.WoundSoFar.{WoundSoFar}
+use Rattle.windings.specs.Windings.{noneWound, gained, complete}
 use Rattle.board.specs.declared.Counts.{Counts}
 use Rattle.board.specs.declared.Part.{Part}
 use Rattle.board.specs.declared.Board.{Board}
 use Rattle.board.specs.Parts.{blank, padded, emptyBoard}
 use Rattle.board.proofs.PaddedLaws.{padded-set}
-use Rattle.board_reader.specs.Reading.{partAt, partsAt, boardFrom, answered, toldAnswer, toldRead}
-use Rattle.board_reader.specs.Steps.{foundAt, toldPart}
+use Rattle.board_reader.specs.Reading.{partAt, partsAt, boardFrom, answered, toldReadAnswer, toldBoardRead}
+use Rattle.board_reader.specs.Steps.{foundAt, toldPartRead}
 use Rattle.board_reader.specs.declared.ReadAnswer.{ReadAnswer}
 use Rattle.board_reader.specs.declared.ReadAnswer.the-variants.{Read, Refused}
 use Rattle.board_reader.specs.declared.BoardRead.{BoardRead}
@@ -35,7 +35,7 @@ after-more : (ps : List Part) (p : Part) (o : Outcome (Found (List Part))) → a
 after-more ps p (given f) = ap (λ (l : List Part). found l (f .next)) (sym (append-assoc ps (p ∷ []) (f .value)))
 after-more ps p (refused k q) = refl
 
-module _ (c : Counts) (n : ℕ) (w : Windings) (s : List ℕ) (at : ℕ) where
+module _ (c : Counts) (n : ℕ) (w : WoundSoFar) (s : List ℕ) (at : ℕ) where
   parts-next : (p : Part) (next : ℕ) → partAt c w s at ≡ found p next → partsAt c (suc n) w s at ≡ (partsAt c n (gained w (p .kind)) s next >>= λ f. found (p ∷ f .value) (f .next))
   unfolding partsAt
   parts-next p next h = rw h
@@ -44,7 +44,7 @@ module _ (c : Counts) (n : ℕ) (w : Windings) (s : List ℕ) (at : ℕ) where
   unfolding partsAt
   parts-stop k p h = rw h
 
-module _ (c : Counts) (w : Windings) (s : List ℕ) (at : ℕ) where
+module _ (c : Counts) (w : WoundSoFar) (s : List ℕ) (at : ℕ) where
   parts-lacking : complete (c .relays) w ≡ false → partsAt c 0 w s at ≡ refused windingLacking at
   unfolding partsAt
   parts-lacking h = rw h
@@ -54,13 +54,13 @@ module _ (c : Counts) (w : Windings) (s : List ℕ) (at : ℕ) where
   parts-done h = rw h
 
 -- all the parts are those read so far, which fill the array, and then those from `at` on after the windings w
-pub record Walk (c : Counts) (s : List ℕ) (start : ℕ) (parts : List Part) (w : Windings) (at i : ℕ) : Type 0 where
+pub record Walk (c : Counts) (s : List ℕ) (start : ℕ) (parts : List Part) (w : WoundSoFar) (at i : ℕ) : Type 0 where
   pub so-far : List Part
   pub counted : length so-far ≡ i
   pub array : parts ≡ padded so-far
-  pub rest : partsAt c (c .parts) noWindings s start ≡ after so-far (partsAt c (c .parts - i) w s at)
+  pub rest : partsAt c (c .parts) noneWound s start ≡ after so-far (partsAt c (c .parts - i) w s at)
 
-pub walk-start : (c : Counts) (s : List ℕ) (start : ℕ) (p : Part) (w : Windings) → p ≡ blank → w ≡ noWindings → Walk c s start (replicate 256 p) w start 0
+pub walk-start : (c : Counts) (s : List ℕ) (start : ℕ) (p : Part) (w : WoundSoFar) → p ≡ blank → w ≡ noneWound → Walk c s start (replicate 256 p) w start 0
 unfolding padded
 walk-start c s start p w filler none =
     let whole : c .parts - 0 ≡ c .parts = omega arith in
@@ -68,11 +68,11 @@ walk-start c s start p w filler none =
       so-far = [];
       counted = refl;
       array = ap (replicate 256) filler;
-      rest = rw (whole, none) (after-none (partsAt c (c .parts) noWindings s start));
+      rest = rw (whole, none) (after-none (partsAt c (c .parts) noneWound s start));
     }
 
-module _ (c : Counts) (s : List ℕ) (start : ℕ) (parts : List Part) (w : Windings) (at i : ℕ) (walk : Walk c s start parts w at i) where
-  pub walk-on : (p : Part) (next : ℕ) (w′ : Windings) → i < c .parts → c .parts ≤ 256 → partAt c w s at ≡ found p next → w′ ≡ gained w (p .kind) → Walk c s start (set parts i p) w′ next (i + 1)
+module _ (c : Counts) (s : List ℕ) (start : ℕ) (parts : List Part) (w : WoundSoFar) (at i : ℕ) (walk : Walk c s start parts w at i) where
+  pub walk-on : (p : Part) (next : ℕ) (w′ : WoundSoFar) → i < c .parts → c .parts ≤ 256 → partAt c w s at ≡ found p next → w′ ≡ gained w (p .kind) → Walk c s start (set parts i p) w′ next (i + 1)
   walk-on p next w′ below most here more =
       let ps = walk .so-far in
       let one : c .parts - i ≡ suc (c .parts - (i + 1)) = omega arith in
@@ -85,20 +85,20 @@ module _ (c : Counts) (s : List ℕ) (start : ℕ) (parts : List Part) (w : Wind
             ∙ ap (λ (n : ℕ). after ps (partsAt c n w s at)) one
             ∙ ap (after ps) (parts-next c (c .parts - (i + 1)) w s at p next here)
             ∙ after-more ps p (partsAt c (c .parts - (i + 1)) (gained w (p .kind)) s next)
-            ∙ ap (λ (v : Windings). after (ps ++ (p ∷ [])) (partsAt c (c .parts - (i + 1)) v s next)) (sym more);
+            ∙ ap (λ (v : WoundSoFar). after (ps ++ (p ∷ [])) (partsAt c (c .parts - (i + 1)) v s next)) (sym more);
       }
 
-  pub walk-refused : (k p : ℕ) → i < c .parts → partAt c w s at ≡ refused k p → partsAt c (c .parts) noWindings s start ≡ refused k p
+  pub walk-refused : (k p : ℕ) → i < c .parts → partAt c w s at ≡ refused k p → partsAt c (c .parts) noneWound s start ≡ refused k p
   walk-refused k p below here =
       let one : c .parts - i ≡ suc (c .parts - (i + 1)) = omega arith in
       walk .rest ∙ ap (λ (n : ℕ). after (walk .so-far) (partsAt c n w s at)) one ∙ ap (after (walk .so-far)) (parts-stop c (c .parts - (i + 1)) w s at k p here)
 
-  pub walk-lacking : c .parts ≤ i → complete (c .relays) w ≡ false → partsAt c (c .parts) noWindings s start ≡ refused windingLacking at
+  pub walk-lacking : c .parts ≤ i → complete (c .relays) w ≡ false → partsAt c (c .parts) noneWound s start ≡ refused windingLacking at
   walk-lacking past off =
       let none : c .parts - i ≡ 0 = omega arith in
       walk .rest ∙ ap (λ (n : ℕ). after (walk .so-far) (partsAt c n w s at)) none ∙ ap (after (walk .so-far)) (parts-lacking c w s at off)
 
-  pub walk-end : c .parts ≤ i → complete (c .relays) w ≡ true → partsAt c (c .parts) noWindings s start ≡ found (walk .so-far) at
+  pub walk-end : c .parts ≤ i → complete (c .relays) w ≡ true → partsAt c (c .parts) noneWound s start ≡ found (walk .so-far) at
   walk-end past fine =
       let none : c .parts - i ≡ 0 = omega arith in
       walk .rest
@@ -107,16 +107,16 @@ module _ (c : Counts) (s : List ℕ) (start : ℕ) (parts : List Part) (w : Wind
       ∙ ap (λ (l : List Part). found l at) (append-nil (walk .so-far))
 
 -- what a part's answer says of the outcome that it tells
-pub part-stopped : (o : Outcome (Found Part)) (a : PartRead) (r : Refusal) → a .answer ≡ Refused r → toldPart a ≡ o → o ≡ refused (r .number) (r .place)
-part-stopped o a r e h = sym h ∙ ap (λ (b : ReadAnswer). foundAt (a .part) (toldAnswer b)) e
+pub part-stopped : (o : Outcome (Found Part)) (a : PartRead) (r : Refusal) → a .answer ≡ Refused r → toldPartRead a ≡ o → o ≡ refused (r .number) (r .place)
+part-stopped o a r e h = sym h ∙ ap (λ (b : ReadAnswer). foundAt (a .part) (toldReadAnswer b)) e
 
-pub part-went : (o : Outcome (Found Part)) (a : PartRead) (next : ℕ) → a .answer ≡ Read next → toldPart a ≡ o → o ≡ found (a .part) next
-part-went o a next e h = sym h ∙ ap (λ (b : ReadAnswer). foundAt (a .part) (toldAnswer b)) e
+pub part-went : (o : Outcome (Found Part)) (a : PartRead) (next : ℕ) → a .answer ≡ Read next → toldPartRead a ≡ o → o ≡ found (a .part) next
+part-went o a next e h = sym h ∙ ap (λ (b : ReadAnswer). foundAt (a .part) (toldReadAnswer b)) e
 
 -- a refused read: the empty board with the refusal
-pub answer-refused : (r : BoardRead) (a : ReadAnswer) (k p : ℕ) → r .board ≡ emptyBoard → r .answer ≡ a → toldAnswer a ≡ refused k p → toldRead r ≡ answered (refused k p)
+pub answer-refused : (r : BoardRead) (a : ReadAnswer) (k p : ℕ) → r .board ≡ emptyBoard → r .answer ≡ a → toldReadAnswer a ≡ refused k p → toldBoardRead r ≡ answered (refused k p)
 unfolding answered
-answer-refused r a k p board answer told = λ i. (board i, (ap toldAnswer answer ∙ told) i)
+answer-refused r a k p board answer told = λ i. (board i, (ap toldReadAnswer answer ∙ told) i)
 
 -- the outcome on a board, from the outcome on its parts
 module _ (c : Counts) (o : Outcome (Found (List Part))) where

@@ -7,23 +7,23 @@ use borrow.Author.Tests.{le-leb, lt-leb}
 use Rattle.number.specs.Outcomes.{Outcome, given, refused, Found, found}
 use Rattle.number.specs.Refusals.{inputTooLong}
 use Rattle.number.specs.declared.Refusal.{Refusal}
-use Rattle.windings.specs.Windings.{noWindings}
+use Rattle.windings.specs.Windings.{noneWound}
 use Rattle.board.specs.declared.Counts.{Counts}
 use Rattle.board.specs.declared.Board.{Board}
 use Rattle.board.specs.Parts.{emptyBoard}
-use Rattle.board_reader.specs.Reading.{countsAt, partsAt, boardFrom, boardAt, answered, reading, toldAnswer}
-use Rattle.board_reader.specs.Steps.{foundAt, toldCounts}
+use Rattle.board_reader.specs.Reading.{countsAt, partsAt, boardFrom, boardAt, answered, reading, toldReadAnswer}
+use Rattle.board_reader.specs.Steps.{foundAt, toldCountsRead}
 use Rattle.board_reader.specs.declared.ReadAnswer.{ReadAnswer}
 use Rattle.board_reader.specs.declared.ReadAnswer.the-variants.{Read, Refused}
 use Rattle.board_reader.specs.declared.counts.CountsRead.{CountsRead}
 use Rattle.number.proofs.OutcomeLaws.{refused-never}
 
 -- what the answer on the counts says of the outcome that it tells
-pub counts-stopped : (o : Outcome (Found Counts)) (a : CountsRead) (r : Refusal) → a .answer ≡ Refused r → toldCounts a ≡ o → o ≡ refused (r .number) (r .place)
-counts-stopped o a r e h = sym h ∙ ap (λ (b : ReadAnswer). foundAt (a .counts) (toldAnswer b)) e
+pub counts-stopped : (o : Outcome (Found Counts)) (a : CountsRead) (r : Refusal) → a .answer ≡ Refused r → toldCountsRead a ≡ o → o ≡ refused (r .number) (r .place)
+counts-stopped o a r e h = sym h ∙ ap (λ (b : ReadAnswer). foundAt (a .counts) (toldReadAnswer b)) e
 
-pub counts-went : (o : Outcome (Found Counts)) (a : CountsRead) (next : ℕ) → a .answer ≡ Read next → toldCounts a ≡ o → o ≡ found (a .counts) next
-counts-went o a next e h = sym h ∙ ap (λ (b : ReadAnswer). foundAt (a .counts) (toldAnswer b)) e
+pub counts-went : (o : Outcome (Found Counts)) (a : CountsRead) (next : ℕ) → a .answer ≡ Read next → toldCountsRead a ≡ o → o ≡ found (a .counts) next
+counts-went o a next e h = sym h ∙ ap (λ (b : ReadAnswer). foundAt (a .counts) (toldReadAnswer b)) e
 
 module _ (s : List ℕ) where
   pub reading-long : 65536 < length s → answered (refused inputTooLong 0) ≡ reading s
@@ -40,10 +40,10 @@ module _ (s : List ℕ) where
       let stopped : refused k p ≡ boardAt s = rw h in
       ap answered stopped ∙ reading-board short
 
-  pub reading-went : (c : Counts) (at : ℕ) → length s ≤ 65536 → countsAt s ≡ found c at → answered (boardFrom c (partsAt c (c .parts) noWindings s at)) ≡ reading s
+  pub reading-went : (c : Counts) (at : ℕ) → length s ≤ 65536 → countsAt s ≡ found c at → answered (boardFrom c (partsAt c (c .parts) noneWound s at)) ≡ reading s
   unfolding boardAt
   reading-went c at short h =
-      let went : boardFrom c (partsAt c (c .parts) noWindings s at) ≡ boardAt s = rw h in
+      let went : boardFrom c (partsAt c (c .parts) noneWound s at) ≡ boardAt s = rw h in
       ap answered went ∙ reading-board short
 
 -- a refused read returns the empty board

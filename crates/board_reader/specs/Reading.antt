@@ -7,7 +7,7 @@
 --     boardFrom c o       the board of counts c with the parts that were read
 --     boardAt s             the board at the start of the input, and the place just after it
 --     reading s             what reading answers: "a refused read returns number, place and the empty board"
---     toldRead              the answer's cases in the rule book's numbers
+--     toldBoardRead              the answer's cases in the rule book's numbers
 use Prim.Native.Nat.{ℕ, zero, suc}
 use mathlib.Core.Bool.{Bool, cond}
 use mathlib.Core.List.{List, [], _∷_}
@@ -16,9 +16,9 @@ use lib.ListN.{length}
 use Rattle.number.specs.Outcomes.{Outcome, given, refused, Found, found, _>>=_, _>>_, unless}
 use Rattle.number.specs.Refusals.{outOfRange, noSuchKind, noSuchTerminal, endsEqual, noSuchName, windingTaken, windingLacking, inputTooLong}
 use Rattle.number.specs.Numbers.{numberAt}
-use Rattle.windings.specs.declared.Windings.{Windings}
-use Rattle.kinds.specs.Kinds.{kindOf}
-use Rattle.windings.specs.Windings.{noWindings, windingFree, gained, complete}
+use Rattle.windings.specs.declared.WoundSoFar.{WoundSoFar}
+use Rattle.kinds.specs.Kinds.{kindOf, lastKind}
+use Rattle.windings.specs.Windings.{noneWound, windingFree, gained, complete}
 use Rattle.board.specs.declared.Part.{Part}
 use Rattle.board.specs.declared.Counts.{Counts}
 use Rattle.board.specs.declared.Board.{Board}
@@ -42,13 +42,10 @@ countsAt s = do
   c ← wanted (inRange 0 mostParts) outOfRange s (b .next)
   found (record { terminals = t .value; relays = r .value; buttons = b .value; parts = c .value }) (c .next)
 
-abbrev pub lastKind : ℕ
-lastKind = 6
-
 unfoldable pub nameAt : Counts → ℕ → List ℕ → ℕ → Outcome (Found ℕ)
 nameAt c k s at = cond (eqb k 0) (found 0 at) (wanted (λ n. ltb n (limitOf c k)) noSuchName s at)
 
-unfoldable pub partAt : Counts → Windings → List ℕ → ℕ → Outcome (Found Part)
+unfoldable pub partAt : Counts → WoundSoFar → List ℕ → ℕ → Outcome (Found Part)
 partAt c w s at = do
   k ← wanted (inRange 0 lastKind) noSuchKind s at
   a ← wanted (terminalFine c) noSuchTerminal s (k .next)
@@ -58,7 +55,7 @@ partAt c w s at = do
   unless (windingFree w (kindOf (k .value) (n .value))) windingTaken (b .next)
   found (record { a = a .value; b = b .value; kind = kindOf (k .value) (n .value) }) (n .next)
 
-unfoldable pub partsAt : Counts → ℕ → Windings → List ℕ → ℕ → Outcome (Found (List Part))
+unfoldable pub partsAt : Counts → ℕ → WoundSoFar → List ℕ → ℕ → Outcome (Found (List Part))
 partsAt c zero w s at = do
   unless (complete (c .relays) w) windingLacking at
   found [] at
@@ -78,7 +75,7 @@ boardFrom c o = do
 unfoldable pub boardAt : List ℕ → Outcome (Found Board)
 boardAt s = do
   c ← countsAt s
-  boardFrom (c .value) (partsAt (c .value) (c .value .parts) noWindings s (c .next))
+  boardFrom (c .value) (partsAt (c .value) (c .value .parts) noneWound s (c .next))
 
 abbrev pub longestInput : ℕ
 longestInput = 65_536
@@ -92,9 +89,9 @@ reading s = answered (do
   unless (leb (length s) longestInput) inputTooLong 0
   boardAt s)
 
-abbrev pub toldAnswer : ReadAnswer → Outcome ℕ
-toldAnswer (Read next) = given next
-toldAnswer (Refused r) = refused (r .number) (r .place)
+abbrev pub toldReadAnswer : ReadAnswer → Outcome ℕ
+toldReadAnswer (Read next) = given next
+toldReadAnswer (Refused r) = refused (r .number) (r .place)
 
-abbrev pub toldRead : BoardRead → Board × Outcome ℕ
-toldRead r = (r .board, toldAnswer (r .answer))
+abbrev pub toldBoardRead : BoardRead → Board × Outcome ℕ
+toldBoardRead r = (r .board, toldReadAnswer (r .answer))

@@ -5,7 +5,7 @@ use Prim.Native.Nat.{ℕ}
 use Rattle.number.specs.Outcomes.{Outcome, given, refused, Found, found}
 use Rattle.board.specs.declared.Part.{Part}
 use Rattle.board.specs.declared.Counts.{Counts}
-use Rattle.board_reader.specs.Reading.{toldAnswer}
+use Rattle.board_reader.specs.Reading.{toldReadAnswer}
 use Rattle.board_reader.specs.declared.parts.PartRead.{PartRead}
 use Rattle.board_reader.specs.declared.counts.CountsRead.{CountsRead}
 
@@ -17,8 +17,8 @@ abbrev pub placeOf : {A : Type 0} → Outcome (Found A) → Outcome ℕ
 placeOf (given f) = given (f .next)
 placeOf (refused n p) = refused n p
 
-abbrev pub toldPart : PartRead → Outcome (Found Part)
-toldPart r = foundAt (r .part) (toldAnswer (r .answer))
+abbrev pub toldPartRead : PartRead → Outcome (Found Part)
+toldPartRead r = foundAt (r .part) (toldReadAnswer (r .answer))
 
-abbrev pub toldCounts : CountsRead → Outcome (Found Counts)
-toldCounts r = foundAt (r .counts) (toldAnswer (r .answer))
+abbrev pub toldCountsRead : CountsRead → Outcome (Found Counts)
+toldCountsRead r = foundAt (r .counts) (toldReadAnswer (r .answer))

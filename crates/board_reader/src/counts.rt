@@ -6,8 +6,8 @@ use number::Number;
 ghost use mathlib.Core.Path.{_≡_};
 ghost use Rattle.number.specs.Numbers.{toldNumber};
 ghost use Rattle.number.specs.Refusals.{outOfRange};
-ghost use Rattle.board_reader.specs.Reading.{wanted, countsAt, toldAnswer};
-ghost use Rattle.board_reader.specs.Steps.{placeOf, toldCounts};
+ghost use Rattle.board_reader.specs.Reading.{wanted, countsAt, toldReadAnswer};
+ghost use Rattle.board_reader.specs.Steps.{placeOf, toldCountsRead};
 ghost use Rattle.board.specs.Rules.{inRange};
 
 // The counts that were read, where the answer is no refusal.
@@ -18,7 +18,7 @@ pub struct CountsRead {
 
 // A count's answer that is a refusal, as that of all four.
 fn no_counts(number: Number) -> CountsRead
-    ensures { λ r. ⌜ toldAnswer (r .answer) ≡ placeOf (toldNumber number) ⌝ }
+    ensures { λ r. ⌜ toldReadAnswer (r .answer) ≡ placeOf (toldNumber number) ⌝ }
 {
     let counts = Counts {
         terminals: 0,
@@ -41,7 +41,7 @@ fn read_count(s: &[u8], at: usize, low: u32, high: u32) -> Number
 
 // T, R, B and C at the start of the input.
 pub fn read_counts(s: &[u8]) -> CountsRead
-    ensures { λ r. ⌜ toldCounts r ≡ countsAt (now (s .entry)) ⌝ }
+    ensures { λ r. ⌜ toldCountsRead r ≡ countsAt (now (s .entry)) ⌝ }
 {
     let terminals_read = read_count(
         s,

@@ -7,7 +7,7 @@ ghost use lib.Dec.{ltb};
 ghost use Rattle.number.specs.Numbers.{toldNumber};
 ghost use Rattle.number.specs.Outcomes.{refused};
 ghost use Rattle.board.specs.Rules.{inRange};
-ghost use Rattle.board_reader.specs.Reading.{wanted, toldAnswer};
+ghost use Rattle.board_reader.specs.Reading.{wanted, toldReadAnswer};
 ghost use Rattle.board_reader.specs.Steps.{placeOf};
 
 // The number at a place, refused by `refusal` there unless it is from low to high.
@@ -52,7 +52,7 @@ pub fn read_below(s: &[u8], at: usize, limit: u32, refusal: u32) -> Number
 
 // A number's answer without its value: where it ends, or its refusal.
 pub fn place_of(number: Number) -> ReadAnswer
-    ensures { λ r. ⌜ toldAnswer r ≡ placeOf (toldNumber number) ⌝ }
+    ensures { λ r. ⌜ toldReadAnswer r ≡ placeOf (toldNumber number) ⌝ }
 {
     match number {
         Number::Read(_, next) => ReadAnswer::Read(next),
@@ -62,7 +62,7 @@ pub fn place_of(number: Number) -> ReadAnswer
 
 // A refusal by number at a place.
 pub fn refuse(number: u32, place: usize) -> ReadAnswer
-    ensures { λ r. ⌜ toldAnswer r ≡ refused number place ⌝ }
+    ensures { λ r. ⌜ toldReadAnswer r ≡ refused number place ⌝ }
 {
     ReadAnswer::Refused(Refusal { number, place })
 }

@@ -7,17 +7,16 @@ use board::Counts;
 use board::Part;
 use kinds::Kind;
 use number::Number;
-use windings::Windings;
+use windings::WoundSoFar;
 ghost use mathlib.Core.Path.{_≡_};
 ghost use Prim.Native.Nat.{_≤_};
 ghost use Rattle.number.specs.Numbers.{toldNumber};
 ghost use Rattle.number.specs.Refusals.{noSuchTerminal};
-ghost use Rattle.kinds.specs.Kinds.{kindOf};
-ghost use Rattle.windings.specs.Windings.{noWindings};
-ghost use Rattle.board.specs.Parts.{mostParts, blank, emptyBoard};
+ghost use Rattle.windings.specs.Windings.{noneWound};
+ghost use Rattle.board.specs.Parts.{mostParts, emptyBoard};
 ghost use Rattle.board.specs.Rules.{terminalFine};
-ghost use Rattle.board_reader.specs.Reading.{wanted, nameAt, partAt, partsAt, boardFrom, answered, toldRead};
-ghost use Rattle.board_reader.specs.Steps.{toldPart};
+ghost use Rattle.board_reader.specs.Reading.{wanted, nameAt, partAt, partsAt, boardFrom, answered, toldBoardRead};
+ghost use Rattle.board_reader.specs.Steps.{toldPartRead};
 
 // The part that was read, where the answer is no refusal.
 pub struct PartRead {
@@ -25,25 +24,11 @@ pub struct PartRead {
     pub answer: ReadAnswer,
 }
 
-// The highest kind number.
-const LAST_KIND: u32 = 6;
-
-// The part in every place that no part was read into.
-fn filler() -> Part
-    ensures { λ r. ⌜ r ≡ blank ⌝ }
-{
-    Part {
-        a: 0,
-        b: 0,
-        kind: Kind::Wire,
-    }
-}
-
 // A refused part.
 fn no_part(answer: ReadAnswer) -> PartRead
     ensures { λ r. ⌜ r .answer ≡ answer ⌝ }
 {
-    let part = filler();
+    let part = board::blank();
     PartRead { part, answer }
 }
 
@@ -53,21 +38,6 @@ pub fn no_board(answer: ReadAnswer) -> BoardRead
 {
     let board = board::empty();
     BoardRead { board, answer }
-}
-
-// The kind of this number, up to 6, that carries a relay or button.
-fn kind_of(number: u32, name: u8) -> Kind
-    ensures { λ r. ⌜ r ≡ kindOf number name ⌝ }
-{
-    match number {
-        0 => Kind::Wire,
-        1 => Kind::Upper(name),
-        2 => Kind::Lower(name),
-        3 => Kind::Button(name),
-        4 => Kind::Regular(name),
-        5 => Kind::Drawing(name),
-        _ => Kind::Dropping(name),
-    }
 }
 
 // The terminal at a place, refused by 5 there unless it is below T.
@@ -90,10 +60,10 @@ fn read_name(s: &[u8], at: usize, counts: Counts, kind: u32) -> Number
 }
 
 // The part at a place, after parts that gave these windings.
-fn read_part(s: &[u8], at: usize, counts: Counts, windings: Windings) -> PartRead
-    ensures { λ r. ⌜ toldPart r ≡ partAt counts windings (now (s .entry)) at ⌝ }
+fn read_part(s: &[u8], at: usize, counts: Counts, windings: WoundSoFar) -> PartRead
+    ensures { λ r. ⌜ toldPartRead r ≡ partAt counts windings (now (s .entry)) at ⌝ }
 {
-    let kind_read = fields::read_within(s, at, 0, LAST_KIND, number::NO_SUCH_KIND);
+    let kind_read = fields::read_within(s, at, 0, kinds::LAST_KIND, number::NO_SUCH_KIND);
     let Number::Read(kind_number, a_at) = kind_read else {
         return no_part(fields::place_of(kind_read));
     };
@@ -112,7 +82,7 @@ fn read_part(s: &[u8], at: usize, counts: Counts, windings: Windings) -> PartRea
     let Number::Read(name, next) = name_read else {
         return no_part(fields::place_of(name_read));
     };
-    let kind = kind_of(kind_number, name as u8);
+    let kind = Kind::of(kind_number, name as u8);
     if !windings.free(kind) {
         return no_part(fields::refuse(number::WINDING_TAKEN, name_at));
     }
@@ -130,11 +100,11 @@ fn read_part(s: &[u8], at: usize, counts: Counts, windings: Windings) -> PartRea
 // The parts from a place on, and with them the board.
 pub fn read_parts(s: &[u8], start: usize, counts: Counts) -> BoardRead
     requires { ⌜ counts .parts ≤ mostParts ⌝ }
-    ensures { λ r. ⌜ toldRead r ≡ answered (boardFrom counts (partsAt counts (counts .parts) noWindings (now (s .entry)) start)) ⌝ }
+    ensures { λ r. ⌜ toldBoardRead r ≡ answered (boardFrom counts (partsAt counts (counts .parts) noneWound (now (s .entry)) start)) ⌝ }
 {
-    let blank = filler();
-    let mut parts = [blank; 256];
-    let mut windings = Windings::none();
+    let filler = board::blank();
+    let mut parts = [filler; 256];
+    let mut windings = WoundSoFar::none();
     let mut at = start;
     let count = counts.parts;
     let mut i = 0;

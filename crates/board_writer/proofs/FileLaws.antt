@@ -8,14 +8,14 @@ use borrow.Author.Tests.{ltb-true, leb-true, leb-false}
 use lib.Dec.{eqb, ltb, leb}
 use lib.ListN.{length, take, drop, length-append, length-take}
 use lib.Seq.{take-all}
-use Rattle.number.specs.declared.Refusal.{Refusal}
+use Rattle.number.proofs.OutcomeLaws.{refusal-equal}
 use Rattle.number.specs.Outcomes.{Outcome, given, refused}
 use Rattle.number.specs.Refusals.{brokenBoard, bufferTooShort}
 use Rattle.number.specs.Numbers.{Bytes, numberBytes}
 use Rattle.number.proofs.NumberLaws.{number-bytes-one, number-bytes-length-two, number-bytes-are-bytes}
 use Rattle.kinds.specs.declared.Kind.{Kind}
 use Rattle.kinds.specs.Kinds.{kindNumber, nameOf}
-use Rattle.windings.specs.Windings.{noWindings}
+use Rattle.windings.specs.Windings.{noneWound}
 use Rattle.board.specs.declared.Part.{Part}
 use Rattle.board.specs.declared.Counts.{Counts}
 use Rattle.board.specs.declared.Board.{Board}
@@ -99,7 +99,7 @@ board-file-bound b fine =
       arith,
       board-bytes-sum b,
       counts-bytes-few (b .counts) fit,
-      parts-bytes-few (b .counts) (partsOf b) fit (fine-fit (b .counts) noWindings (partsOf b) (both .1)),
+      parts-bytes-few (b .counts) (partsOf b) fit (fine-fit (b .counts) noneWound (partsOf b) (both .1)),
       length-take (b .counts .parts) (b .parts),
     )
 
@@ -204,9 +204,6 @@ writing-given b out n out′ is =
 
 -- ---- an answer is known by what it tells
 
-refusal-once : (r q : Refusal) → r .number ≡ q .number → r .place ≡ q .place → r ≡ q
-refusal-once r q e f = λ i. record { number = e i; place = f i }
-
 -- whatever `write` answers, the bytes that it says were written begin the buffer, and the rest stays
 pub write-bytes : (b : Board) (out out′ : List ℕ) (w : Written) → _≡_ {A = Outcome ℕ × List ℕ} (toldWritten w, out′) (writing b out) → out′ ≡ take (bytesWritten w) (boardBytes b) ++ drop (bytesWritten w) out
 write-bytes b out out′ (Count n) wrote =
@@ -214,11 +211,11 @@ write-bytes b out out′ (Count n) wrote =
     was .begins ∙ ap (λ (l : List ℕ). l ++ drop n out) (sym (take-all n (boardBytes b) (omega (arith, was .count))))
 write-bytes b out out′ (Refused r) wrote = writing-refused b out (r .number) (r .place) out′ (sym wrote) .0
 
-pub told-written-once : (x y : Written) → toldWritten x ≡ toldWritten y → x ≡ y
-told-written-once (Count n) (Count m) e = cc
-told-written-once (Count n) (Refused q) e = cc
-told-written-once (Refused r) (Count m) e = cc
-told-written-once (Refused r) (Refused q) e = ap Refused (refusal-once r q (cc) (cc))
+pub told-written-injective : (x y : Written) → toldWritten x ≡ toldWritten y → x ≡ y
+told-written-injective (Count n) (Count m) e = cc
+told-written-injective (Count n) (Refused q) e = cc
+told-written-injective (Refused r) (Count m) e = cc
+told-written-injective (Refused r) (Refused q) e = ap Refused (refusal-equal r q (cc) (cc))
 
 -- ---- boards that are the same are written the same
 

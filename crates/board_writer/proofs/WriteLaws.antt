@@ -14,7 +14,7 @@ use Rattle.number.specs.declared.NumberWritten.{NumberWritten}
 use Rattle.number.specs.declared.NumberWritten.the-variants.{Next, Refused}
 use Rattle.number.specs.Outcomes.{Outcome, given, refused}
 use Rattle.number.specs.Refusals.{brokenBoard, bufferTooShort}
-use Rattle.number.specs.Numbers.{numberBytes, numberWriting, toldWritten, largest}
+use Rattle.number.specs.Numbers.{numberBytes, numberWriting, toldNumberWritten, largest}
 use Rattle.number.proofs.Buffers.{sets-append, sets-at-zero}
 use Rattle.number.proofs.NumberLaws.{number-written}
 use Rattle.kinds.specs.declared.Kind.{Kind}
@@ -33,20 +33,20 @@ use Rattle.board_writer.proofs.PieceLaws.{ToCome, to-come-room, to-come
 
 -- ---- a number that has room: `write_number` writes it, and does not refuse it
 
-module _ (v : ℕ) (out : List ℕ) (at : ℕ) {out′ : List ℕ} (x : NumberWritten) (small : v ≤ largest) (room : at + length (numberBytes v) ≤ length out) (wrote : _≡_ {A = Outcome ℕ × List ℕ} (toldWritten x, out′) (numberWriting v out at)) where
-  told : _≡_ {A = Outcome ℕ × List ℕ} (toldWritten x, out′) (given (at + length (numberBytes v)), sets out at (numberBytes v))
+module _ (v : ℕ) (out : List ℕ) (at : ℕ) {out′ : List ℕ} (x : NumberWritten) (small : v ≤ largest) (room : at + length (numberBytes v) ≤ length out) (wrote : _≡_ {A = Outcome ℕ × List ℕ} (toldNumberWritten x, out′) (numberWriting v out at)) where
+  told : _≡_ {A = Outcome ℕ × List ℕ} (toldNumberWritten x, out′) (given (at + length (numberBytes v)), sets out at (numberBytes v))
   told = wrote ∙ number-written v out at small room
 
   pub put-next : {next : ℕ} → x ≡ Next next → (next ≡ at + length (numberBytes v)) × (out′ ≡ sets out at (numberBytes v))
   put-next {next} is =
-      let answer : toldWritten x ≡ given (at + length (numberBytes v)) = ap (λ (p : Outcome ℕ × List ℕ). p .0) told in
-      let same : given next ≡ given (at + length (numberBytes v)) = ap toldWritten (sym is) ∙ answer in
+      let answer : toldNumberWritten x ≡ given (at + length (numberBytes v)) = ap (λ (p : Outcome ℕ × List ℕ). p .0) told in
+      let same : given next ≡ given (at + length (numberBytes v)) = ap toldNumberWritten (sym is) ∙ answer in
       (cc, ap (λ (p : Outcome ℕ × List ℕ). p .1) told)
 
   pub put-never-refused : {r : Refusal} → x ≡ Refused r → ⊥
   put-never-refused {r} is =
-      let answer : toldWritten x ≡ given (at + length (numberBytes v)) = ap (λ (p : Outcome ℕ × List ℕ). p .0) told in
-      let same : refused (r .number) (r .place) ≡ given (at + length (numberBytes v)) = ap toldWritten (sym is) ∙ answer in
+      let answer : toldNumberWritten x ≡ given (at + length (numberBytes v)) = ap (λ (p : Outcome ℕ × List ℕ). p .0) told in
+      let same : refused (r .number) (r .place) ≡ given (at + length (numberBytes v)) = ap toldNumberWritten (sym is) ∙ answer in
       let z : _≡_ {A = ℕ} 0 1 = cc in omega arith
 
 -- ---- counts and parts as rows of numbers

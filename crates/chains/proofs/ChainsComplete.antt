@@ -12,7 +12,7 @@ use Rattle.bits.proofs.BoolLaws.{true-both, by-test}
 use Rattle.lists.specs.Members.{_∈_, All}
 use Rattle.lists.proofs.MemberLaws.{all-member, member-append-right, once-apart}
 use Rattle.chains.specs.Chains.{minus, steps, ending, IsChain}
-use Rattle.chains.specs.ChainList.{Tested, isIn, free, beyond, chains}
+use Rattle.chains.specs.ChainList.{Tested, isIn, canFollow, beyond, chains}
 use Rattle.chains.proofs.StepLaws.{ending-next, isIn-member}
 use Rattle.chains.proofs.TriesLaws.{tries-member}
 use Rattle.chains.proofs.ChainMaps.{chain-short}
@@ -31,8 +31,8 @@ module _ (j : ℕ → ℕ → Bool) (t : ℕ) where
     across-goes-on : eqb (ending (x ∷ p)) minus ≡ false
     across-goes-on = ne-eqb (ending (x ∷ p)) minus (step-across (λ (s : ℕ × ℕ). ¬ (s .0 ≡ minus)) x p n q (chain .stops))
 
-    across-free : free j (x ∷ p) (ending (x ∷ p)) n ≡ true
-    unfolding free
+    across-free : canFollow j (x ∷ p) (ending (x ∷ p)) n ≡ true
+    unfolding canFollow
     across-free =
         let joined = step-across (λ (s : ℕ × ℕ). Tested j (s .0) (s .1)) x p n q (chain .linked) in
         let new = once-apart (x ∷ p) n q (chain .once) in
@@ -44,7 +44,7 @@ module _ (j : ℕ → ℕ → Bool) (t : ℕ) where
     -- what is among the chains that go on from n is among those that go on from p
     across-member : (f : ℕ) (c : List ℕ) → c ∈ (((x ∷ p) ++ (n ∷ [])) ∷ beyond j t f ((x ∷ p) ++ (n ∷ [])) n) → c ∈ beyond j t (suc f) (x ∷ p) (ending (x ∷ p))
     unfolding beyond
-    across-member f c m = rw across-goes-on (tries-member _ (free j (x ∷ p) (ending (x ∷ p))) c t 0 n (omega arith) (omega (arith, across-below)) across-free m)
+    across-member f c m = rw across-goes-on (tries-member _ (canFollow j (x ∷ p) (ending (x ∷ p))) c t 0 n (omega arith) (omega (arith, across-below)) across-free m)
 
   beyond-complete : (f x : ℕ) (p : List ℕ) (n : ℕ) (q : List ℕ) → length q < f → IsChain (Tested j) t ((x ∷ p) ++ (n ∷ q)) → ((x ∷ p) ++ (n ∷ q)) ∈ beyond j t f (x ∷ p) (ending (x ∷ p))
   beyond-complete zero x p n q enough chain = absurd (omega arith)

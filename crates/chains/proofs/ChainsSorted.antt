@@ -6,9 +6,9 @@ use mathlib.Core.List.{List, [], _∷_, _++_, append-assoc}
 use lib.Dec.{eqb}
 use Rattle.lists.specs.Members.{All, Once}
 use Rattle.lists.proofs.MemberLaws.{all-map}
-use Rattle.chains.specs.Chains.{plus, minus, Before, InOrder}
-use Rattle.chains.specs.ChainList.{free, tries, beyond, chains}
-use Rattle.chains.proofs.OrderLaws.{before-longer, before-higher, in-order-append, in-order-once}
+use Rattle.chains.specs.Chains.{plus, minus, Before, Sorted}
+use Rattle.chains.specs.ChainList.{canFollow, tries, beyond, chains}
+use Rattle.chains.proofs.OrderLaws.{before-longer, before-higher, in-order-append, sorted-once}
 use Rattle.chains.proofs.TriesLaws.{cond-all, tries-all}
 
 -- c goes on from p to n
@@ -30,7 +30,7 @@ longer-before p c h = rw (h .onto .same) (before-longer p (h .next) (h .onto .re
 onto-before : (p : List ℕ) (n m : ℕ) (c d : List ℕ) → n < m → Onto p n c → Onto p m d → Before c d
 onto-before p n m c d lower h k = rw (h .same, k .same) (before-higher p n m (h .rest) (k .rest) lower)
 
-cond-sorted : (b : Bool) (k l : List (List ℕ)) → InOrder k → InOrder l → InOrder (cond b k l)
+cond-sorted : (b : Bool) (k l : List (List ℕ)) → Sorted k → Sorted l → Sorted (cond b k l)
 cond-sorted true k l hk hl = hk
 cond-sorted false k l hk hl = hl
 
@@ -39,7 +39,7 @@ module _ (p : List ℕ) (go : ℕ → List (List ℕ)) (ok : ℕ → Bool) (goes
   tries-later : (k n : ℕ) (c : List ℕ) → Onto p n c → All (Before c) (tries go ok k (suc n))
   tries-later k n c here = tries-all go ok (Before c) k (suc n) (λ m later upto fits. all-map (Onto p m) (Before c) (λ d there. onto-before p n m c d later here there) (go m) (goes m))
 
-  tries-sorted : ((m : ℕ) → InOrder (go m)) → (k n : ℕ) → InOrder (tries go ok k n)
+  tries-sorted : ((m : ℕ) → Sorted (go m)) → (k n : ℕ) → Sorted (tries go ok k n)
   unfolding tries
   tries-sorted sorted zero n = tt
   tries-sorted sorted (suc k) n =
@@ -61,25 +61,25 @@ module _ (j : ℕ → ℕ → Bool) (t : ℕ) where
   unfolding beyond
   beyond-longer zero p x = tt
   beyond-longer (suc f) p x =
-      cond-all (Longer p) (eqb x minus) [] (tries (across f p) (free j p x) t 0) (λ on. tt) (λ off.
-      tries-all (across f p) (free j p x) (Longer p) t 0 (λ n from upto fits.
+      cond-all (Longer p) (eqb x minus) [] (tries (across f p) (canFollow j p x) t 0) (λ on. tt) (λ off.
+      tries-all (across f p) (canFollow j p x) (Longer p) t 0 (λ n from upto fits.
       all-map (Onto p n) (Longer p) (λ c h. record { next = n; onto = h }) (across f p n) (across-onto f p n (beyond-longer f (p ++ (n ∷ [])) n))))
 
   beyond-later : (f : ℕ) (p : List ℕ) (x : ℕ) → All (Before p) (beyond j t f p x)
   beyond-later f p x = all-map (Longer p) (Before p) (longer-before p) (beyond j t f p x) (beyond-longer f p x)
 
-  beyond-sorted : (f : ℕ) (p : List ℕ) (x : ℕ) → InOrder (beyond j t f p x)
+  beyond-sorted : (f : ℕ) (p : List ℕ) (x : ℕ) → Sorted (beyond j t f p x)
   unfolding beyond
   beyond-sorted zero p x = tt
   beyond-sorted (suc f) p x =
-      cond-sorted (eqb x minus) [] (tries (across f p) (free j p x) t 0) tt
-      (tries-sorted p (across f p) (free j p x)
+      cond-sorted (eqb x minus) [] (tries (across f p) (canFollow j p x) t 0) tt
+      (tries-sorted p (across f p) (canFollow j p x)
       (λ n. across-onto f p n (beyond-longer f (p ++ (n ∷ [])) n))
       (λ n. (beyond-later f (p ++ (n ∷ [])) n, beyond-sorted f (p ++ (n ∷ [])) n)) t 0)
 
-  pub chains-sorted : InOrder (chains j t)
+  pub chains-sorted : Sorted (chains j t)
   unfolding chains
   chains-sorted = (beyond-later _ (plus ∷ []) plus, beyond-sorted _ (plus ∷ []) plus)
 
   pub chains-once : Once (chains j t)
-  chains-once = in-order-once (chains j t) chains-sorted
+  chains-once = sorted-once (chains j t) chains-sorted

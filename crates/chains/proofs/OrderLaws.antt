@@ -6,7 +6,7 @@ use mathlib.Core.Logic.{_⊎_, inl, inr, ⊎-map}
 use mathlib.Core.List.{List, [], _∷_, _++_}
 use Rattle.lists.specs.Members.{All, Once}
 use Rattle.lists.proofs.MemberLaws.{all-append, all-member}
-use Rattle.chains.specs.Chains.{Before, InOrder}
+use Rattle.chains.specs.Chains.{Before, Sorted}
 
 -- a list comes before its extensions
 pub before-longer : (p : List ℕ) (n : ℕ) (q : List ℕ) → Before p (p ++ (n ∷ q))
@@ -55,11 +55,11 @@ before-total (x ∷ c) (y ∷ d) = by-heads (compared x y) (before-total c d)
     by-heads (inr (inr l)) r = inr (inr (inl l))
 
 -- two lists in order, one after the other, are in order if each of the first comes before each of the second
-pub in-order-append : (k l : List (List ℕ)) → InOrder k → InOrder l → All (λ (c : List ℕ). All (Before c) l) k → InOrder (k ++ l)
+pub in-order-append : (k l : List (List ℕ)) → Sorted k → Sorted l → All (λ (c : List ℕ). All (Before c) l) k → Sorted (k ++ l)
 in-order-append [] l hk hl across = hl
 in-order-append (c ∷ k) l hk hl across = (all-append (Before c) k l (hk .0) (across .0), in-order-append k l (hk .1) hl (across .1))
 
 -- what is in order holds nothing twice
-pub in-order-once : (l : List (List ℕ)) → InOrder l → Once l
-in-order-once [] h = tt
-in-order-once (c ∷ l) h = (λ m. before-irreflexive c (all-member (Before c) l c (h .0) m), in-order-once l (h .1))
+pub sorted-once : (l : List (List ℕ)) → Sorted l → Once l
+sorted-once [] h = tt
+sorted-once (c ∷ l) h = (λ m. before-irreflexive c (all-member (Before c) l c (h .0) m), sorted-once l (h .1))

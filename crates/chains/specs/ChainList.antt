@@ -1,7 +1,7 @@
 -- The list of all chains, and the test whether a chain shows a winding: what the walk follows. In these, j x y tests whether x and y are joined.
 --     Tested j x y         the test says that x and y are joined
 --     isIn n p             n is among the terminals p
---     free j p x n         a chain p that ends at x can go on to n: n is joined to x and not yet in p
+--     canFollow j p x n         a chain p that ends at x can go on to n: n is joined to x and not yet in p
 --     tries go ok k n      what `go` makes of n, n + 1, … (k numbers), of each that is `ok`, one after the other
 --     beyond j t f p x     the chains that begin with p, which ends at x, and go on by at most f terminals more
 --     chains j t           all chains on a board of t terminals
@@ -23,8 +23,8 @@ unfoldable pub isIn : ℕ → List ℕ → Bool
 isIn n [] = false
 isIn n (x ∷ p) = eqb n x || isIn n p
 
-unfoldable pub free : (ℕ → ℕ → Bool) → List ℕ → ℕ → ℕ → Bool
-free j p x n = j x n && not (isIn n p)
+unfoldable pub canFollow : (ℕ → ℕ → Bool) → List ℕ → ℕ → ℕ → Bool
+canFollow j p x n = j x n && not (isIn n p)
 
 unfoldable pub tries : (ℕ → List (List ℕ)) → (ℕ → Bool) → ℕ → ℕ → List (List ℕ)
 tries go ok zero n = []
@@ -32,7 +32,7 @@ tries go ok (suc k) n = cond (ok n) (go n) [] ++ tries go ok k (suc n)
 
 unfoldable pub beyond : (ℕ → ℕ → Bool) → ℕ → ℕ → List ℕ → ℕ → List (List ℕ)
 beyond j t zero p x = []
-beyond j t (suc f) p x = cond (eqb x minus) [] (tries (λ (n : ℕ). (p ++ (n ∷ [])) ∷ beyond j t f (p ++ (n ∷ [])) n) (free j p x) t 0)
+beyond j t (suc f) p x = cond (eqb x minus) [] (tries (λ (n : ℕ). (p ++ (n ∷ [])) ∷ beyond j t f (p ++ (n ∷ [])) n) (canFollow j p x) t 0)
 
 unfoldable pub chains : (ℕ → ℕ → Bool) → ℕ → List (List ℕ)
 chains j t = (plus ∷ []) ∷ beyond j t (t - 1) (plus ∷ []) plus

@@ -2,12 +2,12 @@
 --     plus, minus        "Terminal 0 is plus, terminal 1 is minus"
 --     steps c            the pairs of terminals that stand side by side in c, each with the later one second
 --     ending c           the terminal that c ends at
---     Begins c           c begins with 0
+--     BeginsAtPlus c           c begins with 0
 --     Linked J c         neighbours in c are each joined, where J x y says that x and y are
 --     StopsAtMinus c     c ends where it reaches 1: no step leaves 1
 --     IsChain J t c      c is a chain on a board of t terminals; its `once` is "holds no terminal twice"
 --     Before c d         "Chains are in dictionary order: a chain comes before its extensions, and the lower terminal number before the higher"
---     InOrder cs         each of cs comes before every later one
+--     Sorted cs         each of cs comes before every later one
 --     Shows a b c        c "ends at 1 and has a and b side by side, in either order"
 --     Live J t a b       "A winding between a and b is live if some chain" shows it
 use Prim.Native.Nat.{ℕ, _<_}
@@ -39,9 +39,9 @@ abbrev pub ending : List ℕ → ℕ
 ending [] = plus
 ending (x ∷ c) = endingFrom x c
 
-abbrev pub Begins : List ℕ → Type 0
-Begins [] = ⊥
-Begins (x ∷ c) = x ≡ plus
+abbrev pub BeginsAtPlus : List ℕ → Type 0
+BeginsAtPlus [] = ⊥
+BeginsAtPlus (x ∷ c) = x ≡ plus
 
 abbrev pub Linked : (ℕ → ℕ → Type 0) → List ℕ → Type 0
 Linked J c = All (λ (s : ℕ × ℕ). J (s .0) (s .1)) (steps c)
@@ -50,7 +50,7 @@ abbrev pub StopsAtMinus : List ℕ → Type 0
 StopsAtMinus c = All (λ (s : ℕ × ℕ). ¬ (s .0 ≡ minus)) (steps c)
 
 pub record IsChain (J : ℕ → ℕ → Type 0) (t : ℕ) (c : List ℕ) : Type 0 where
-  pub begins : Begins c
+  pub begins : BeginsAtPlus c
   pub inside : All (λ (x : ℕ). x < t) c
   pub once : Once c
   pub linked : Linked J c
@@ -62,9 +62,9 @@ Before [] (y ∷ d) = Unit {0}
 Before (x ∷ c) [] = ⊥
 Before (x ∷ c) (y ∷ d) = (x < y) ⊎ ((x ≡ y) × Before c d)
 
-abbrev pub InOrder : List (List ℕ) → Type 0
-InOrder [] = Unit {0}
-InOrder (c ∷ cs) = All (Before c) cs × InOrder cs
+abbrev pub Sorted : List (List ℕ) → Type 0
+Sorted [] = Unit {0}
+Sorted (c ∷ cs) = All (Before c) cs × Sorted cs
 
 abbrev pub Shows : ℕ → ℕ → List ℕ → Type 0
 Shows a b c = (ending c ≡ minus) × (((a, b) ∈ steps c) ⊎ ((b, a) ∈ steps c))

@@ -20,7 +20,7 @@ use Rattle.board_writer.specs.Writing.{writing}
 use Rattle.search.specs.declared.Winding.{Winding}
 use Rattle.judge.specs.declared.Which.{Which}
 use Rattle.judge.specs.RelayWindings.{windingOf}
-use Rattle.judge.specs.Judging.{judgeable}
+use Rattle.judge.specs.Judging.{windingFor}
 use Rattle.judge.proofs.SoughtLaws.{winding-refused}
 use Rattle.moves.specs.Moving.{movable}
 use Rattle.runs.specs.Running.{longestLog, runnable}
@@ -76,8 +76,8 @@ module _ (b : Board) (s : State) where
   winding-by k r (given v) e = refl
   winding-by k r (refused n p) e = ap against (sym e ∙ winding-refused k r (partsOf b) n p e)
 
-  pub judgeable-first : (r : ℕ) (k : Which) → against (judgeable b s r k) ≡ firstNo (judgeLines b s r k)
-  unfolding judgeable
+  pub judgeable-first : (r : ℕ) (k : Which) → against (windingFor b s r k) ≡ firstNo (judgeLines b s r k)
+  unfolding windingFor
   judgeable-first r k = against-after (usable b s) (windingOf k r (partsOf b)) ∙ usable-first b s _ _ (winding-by k r (windingOf k r (partsOf b)) refl)
 
 -- ---- writing into a buffer: k bytes are written and it becomes l, unless a line stands against it

@@ -16,13 +16,13 @@ use Rattle.board_writer.specs.declared.Written.{Written}
 use Rattle.board_writer.specs.declared.Written.the-variants.{Bytes, Refused}
 use Rattle.board_writer.specs.Writing.{toldWritten, bytesWritten}
 use Rattle.search.specs.declared.Winding.{Winding}
-use Rattle.search.specs.Verdicts.{settled, unsettled, firstShown, effort, weighed, judgement, unanswered, places}
+use Rattle.search.specs.Verdicts.{settled, unsettled, firstShown, effort, weighed, verdictBy, unanswered, places}
 use Rattle.judge.specs.Judging.{verdictOn}
 use Rattle.moves.specs.Steps.{Move}
 use Rattle.runs.specs.Runs.{noRelay}
 use Rattle.runs.specs.Running.{unrun, ran, ranOn}
 use Rattle.lines.specs.Lines.{longestLine}
-use Rattle.session.specs.Carried.{Carried, Coming, line, none, nextOf}
+use Rattle.session.specs.Carried.{Session, Coming, line, no-line, nextOf}
 use Rattle.session.specs.HandingOut.{handedBy, handing}
 use Rattle.demands.specs.EveryCallComesBack.{against, firstNo, lineLines}
 
@@ -47,49 +47,50 @@ nothing-written (Bytes k) n p e = absurd (refused-never n p k (sym e))
 nothing-written (Refused r) n p e = refl
 
 -- ---- judging
-settled-given : (e : ℕ) (c : Option (List ℕ)) → against (settled e c .word) ≡ given tt
+settled-given : (e : ℕ) (c : Option (List ℕ)) → against (settled e c .finding) ≡ given tt
 settled-given e (some c) = refl
 settled-given e none = refl
 
-weighed-given : (t : List ℕ → Bool) (cs : List (List ℕ)) (w : ℕ) → against (weighed t cs w .word) ≡ given tt
+weighed-given : (t : List ℕ → Bool) (cs : List (List ℕ)) (w : ℕ) → against (weighed t cs w .finding) ≡ given tt
 unfolding weighed
 weighed-given t cs w = by (leb (effort t cs) w)
   where
-    by : (within : Bool) → against ((cond within (settled (effort t cs) (firstShown t cs)) (unsettled w)) .word) ≡ given tt
+    by : (within : Bool) → against ((cond within (settled (effort t cs) (firstShown t cs)) (unsettled w)) .finding) ≡ given tt
     by true = settled-given (effort t cs) (firstShown t cs)
     by false = refl
 
-judged-given : (b : Board) (s : State) (w : ℕ) (v : Winding) → against (verdictOn b s w (given v) .word) ≡ given tt
-unfolding judgement
+judged-given : (b : Board) (s : State) (w : ℕ) (v : Winding) → against (verdictOn b s (given v) w .finding) ≡ given tt
+unfolding verdictBy
 judged-given b s w v = weighed-given _ _ w
 
 module _ (b : Board) (s : State) (w : ℕ) where
-  pub verdict-against : (o : Outcome Winding) → against (verdictOn b s w o .word) ≡ against o
+  pub verdict-against : (o : Outcome Winding) → against (verdictOn b s o w .finding) ≡ against o
   verdict-against (given v) = judged-given b s w v
   verdict-against (refused n p) = refl
 
-  pub verdict-refused : (o : Outcome Winding) (n p : ℕ) → verdictOn b s w o .word ≡ refused n p → verdictOn b s w o ≡ unanswered n p
+  pub verdict-refused : (o : Outcome Winding) (n p : ℕ) → verdictOn b s o w .finding ≡ refused n p → verdictOn b s o w ≡ unanswered n p
   verdict-refused (given v) n p e = absurd (refused-never n p tt (sym (ap against e) ∙ judged-given b s w v))
-  verdict-refused (refused m q) n p e = λ i. record { word = e i; effort = 0; length = 0; places = places [] }
+  verdict-refused (refused m q) n p e = λ i. record { finding = e i; effort = 0; length = 0; places = places [] }
 
   -- ---- running
+
   module _ (log : List ℕ) where
-    pub ran-against : (o : Outcome (Unit {0})) → against (ranOn b s w log o .word) ≡ o
+    pub ran-against : (o : Outcome (Unit {0})) → against (ranOn b s log o w .word) ≡ o
     unfolding ran
     ran-against (given u) = refl
     ran-against (refused n p) = refl
 
-    pub ran-refused : (o : Outcome (Unit {0})) (n p : ℕ) → ranOn b s w log o .word ≡ refused n p → ranOn b s w log o ≡ unrun n p s log
+    pub ran-refused : (o : Outcome (Unit {0})) (n p : ℕ) → ranOn b s log o w .word ≡ refused n p → ranOn b s log o w ≡ unrun n p s log
     unfolding ran
     ran-refused (given u) n p e = absurd (refused-never n p _ (sym e))
     ran-refused (refused m q) n p e = λ i. record { word = e i; moves = 0; state = s; relay = noRelay; log = log }
 
 -- ---- handing out a line
-module _ (z : Carried) (s out : List ℕ) where
-  handed-given : (x : Carried × Coming) → against (handedBy x out .answer) ≡ given tt
+module _ (z : Session) (s out : List ℕ) where
+  handed-given : (x : Session × Coming) → against (handedBy x out .answer) ≡ given tt
   unfolding handedBy
   handed-given (y, line l) = refl
-  handed-given (y, none) = refl
+  handed-given (y, no-line) = refl
 
   pub handing-against : against (handing z s out .answer) ≡ firstNo (lineLines out)
   unfolding handing firstNo

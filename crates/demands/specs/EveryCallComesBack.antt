@@ -42,11 +42,11 @@ use Rattle.moves.specs.Moving as move
 use Rattle.moves_means.specs.SingleMoves.{Moves}
 use Rattle.runs.specs.declared.Ran.{Ran}
 use Rattle.runs.specs.Runs.{noRelay}
-use Rattle.runs.specs.Running.{longestLog, toldWord}
+use Rattle.runs.specs.Running.{longestLog, toldEnding}
 use Rattle.runs_means.specs.LongerRuns.{Runs}
 use Rattle.lines.specs.declared.Line.{Line}
 use Rattle.lines.specs.declared.LineWritten.{LineWritten}
-use Rattle.lines.specs.Lines.{longestLine, lineWriting, toldLine, toldLength}
+use Rattle.lines.specs.Lines.{longestLine, lineWriting, toldLine, toldLineWritten}
 use Rattle.session.specs.declared.Session.{Session}
 use Rattle.session.specs.declared.Handed.{Handed}
 use Rattle.session.specs.HandingOut as handing
@@ -95,27 +95,27 @@ lineLines out = (leb longestLine (length out), bufferTooShort) ∷ []
 pub record InOrder : Type 0 where
   pub reads : FileRefused
   pub eleven : ElevenExactly
-  pub writes-number : (v : ℕ) (out out′ : List ℕ) (at : ℕ) (x : NumberWritten) → _≡_ {A = Outcome ℕ × List ℕ} (number.toldWritten x, out′) (number.numberWriting v out at) → against (number.toldWritten x) ≡ firstNo (numberLines v out at)
-  pub writes-line : (l : Line) (out out′ : List ℕ) (x : LineWritten) → _≡_ {A = Outcome ℕ × List ℕ} (toldLength x, out′) (lineWriting (toldLine l) out) → against (toldLength x) ≡ firstNo (lineLines out)
+  pub writes-number : (v : ℕ) (out out′ : List ℕ) (at : ℕ) (x : NumberWritten) → _≡_ {A = Outcome ℕ × List ℕ} (number.toldNumberWritten x, out′) (number.numberWriting v out at) → against (number.toldNumberWritten x) ≡ firstNo (numberLines v out at)
+  pub writes-line : (l : Line) (out out′ : List ℕ) (x : LineWritten) → _≡_ {A = Outcome ℕ × List ℕ} (toldLineWritten x, out′) (lineWriting (toldLine l) out) → against (toldLineWritten x) ≡ firstNo (lineLines out)
   pub writes : (b : Board) (out out′ : List ℕ) (w : Written) → Wrote b out w out′ → against (toldWritten w) ≡ firstNo (writeLines b out)
   pub pushes : (b : Board) (s : State) (n : ℕ) (x : Pressed) → toldPressed x ≡ pushing b s n → toldPress (x .answer) ≡ firstNo (pushLines b s n)
   pub releases : (b : Board) (s : State) (n : ℕ) (x : Pressed) → toldPressed x ≡ releasing b s n → toldPress (x .answer) ≡ firstNo (releaseLines b s n)
   pub judges : (b : Board) (s : State) (r : ℕ) (k : Which) (w : ℕ) (v : Verdict) → Judges b s r k w v → against (toldFinding (v .finding)) ≡ firstNo (judgeLines b s r k)
-  pub moves : (b : Board) (s : State) (r w : ℕ) (a : Moved) → Moves b s r w a → against (move.toldAnswer (a .answer)) ≡ firstNo (moveLines b s r)
-  pub runs : (b : Board) (s : State) (w : ℕ) (log log′ : List ℕ) (a : Ran) → Runs b s w log a log′ → against (toldWord (a .word)) ≡ firstNo (runLines b s log)
-  pub hands : (z : Session) (s out out′ : List ℕ) (r : Handed) → Called z s out r out′ → against (handing.toldAnswer (r .answer)) ≡ firstNo (lineLines out)
+  pub moves : (b : Board) (s : State) (r w : ℕ) (a : Moved) → Moves b s r w a → against (move.toldMoveAnswer (a .answer)) ≡ firstNo (moveLines b s r)
+  pub runs : (b : Board) (s : State) (w : ℕ) (log log′ : List ℕ) (a : Ran) → Runs b s log w a log′ → against (toldEnding (a .word)) ≡ firstNo (runLines b s log)
+  pub hands : (z : Session) (s out out′ : List ℕ) (r : Handed) → Called z s out r out′ → against (handing.toldHandOut (r .answer)) ≡ firstNo (lineLines out)
 
 pub record AsLent : Type 0 where
-  pub reads : (s : List ℕ) (r : BoardRead) (n p : ℕ) → WasRead s r → read.toldAnswer (r .answer) ≡ refused n p → r .board ≡ emptyBoard
-  pub writes-number : (v : ℕ) (out out′ : List ℕ) (at : ℕ) (x : NumberWritten) (n p : ℕ) → _≡_ {A = Outcome ℕ × List ℕ} (number.toldWritten x, out′) (number.numberWriting v out at) → number.toldWritten x ≡ refused n p → out′ ≡ out
-  pub writes-line : (l : Line) (out out′ : List ℕ) (x : LineWritten) (n p : ℕ) → _≡_ {A = Outcome ℕ × List ℕ} (toldLength x, out′) (lineWriting (toldLine l) out) → toldLength x ≡ refused n p → out′ ≡ out
+  pub reads : (s : List ℕ) (r : BoardRead) (n p : ℕ) → WasRead s r → read.toldReadAnswer (r .answer) ≡ refused n p → r .board ≡ emptyBoard
+  pub writes-number : (v : ℕ) (out out′ : List ℕ) (at : ℕ) (x : NumberWritten) (n p : ℕ) → _≡_ {A = Outcome ℕ × List ℕ} (number.toldNumberWritten x, out′) (number.numberWriting v out at) → number.toldNumberWritten x ≡ refused n p → out′ ≡ out
+  pub writes-line : (l : Line) (out out′ : List ℕ) (x : LineWritten) (n p : ℕ) → _≡_ {A = Outcome ℕ × List ℕ} (toldLineWritten x, out′) (lineWriting (toldLine l) out) → toldLineWritten x ≡ refused n p → out′ ≡ out
   pub writes : (b : Board) (out out′ : List ℕ) (w : Written) (n p : ℕ) → Wrote b out w out′ → toldWritten w ≡ refused n p → (out′ ≡ out) × (bytesWritten w ≡ 0)
   pub pushes : (b : Board) (s : State) (k : ℕ) (x : Pressed) (n p : ℕ) → toldPressed x ≡ pushing b s k → toldPress (x .answer) ≡ refused n p → x .state ≡ s
   pub releases : (b : Board) (s : State) (k : ℕ) (x : Pressed) (n p : ℕ) → toldPressed x ≡ releasing b s k → toldPress (x .answer) ≡ refused n p → x .state ≡ s
   pub judges : (b : Board) (s : State) (r : ℕ) (k : Which) (w : ℕ) (v : Verdict) (n p : ℕ) → Judges b s r k w v → toldFinding (v .finding) ≡ refused n p → (v .effort ≡ 0) × ((v .length ≡ 0) × (v .terminals ≡ places []))
-  pub moves : (b : Board) (s : State) (r w : ℕ) (a : Moved) (n p : ℕ) → Moves b s r w a → move.toldAnswer (a .answer) ≡ refused n p → a .state ≡ s
-  pub runs : (b : Board) (s : State) (w : ℕ) (log log′ : List ℕ) (a : Ran) (n p : ℕ) → Runs b s w log a log′ → toldWord (a .word) ≡ refused n p → (a .state ≡ s) × ((a .moves ≡ 0) × ((a .relay ≡ noRelay) × (log′ ≡ log)))
-  pub hands : (z : Session) (s out out′ : List ℕ) (r : Handed) (n p : ℕ) → Called z s out r out′ → handing.toldAnswer (r .answer) ≡ refused n p → (r .session ≡ z) × (out′ ≡ out)
+  pub moves : (b : Board) (s : State) (r w : ℕ) (a : Moved) (n p : ℕ) → Moves b s r w a → move.toldMoveAnswer (a .answer) ≡ refused n p → a .state ≡ s
+  pub runs : (b : Board) (s : State) (w : ℕ) (log log′ : List ℕ) (a : Ran) (n p : ℕ) → Runs b s log w a log′ → toldEnding (a .word) ≡ refused n p → (a .state ≡ s) × ((a .moves ≡ 0) × ((a .relay ≡ noRelay) × (log′ ≡ log)))
+  pub hands : (z : Session) (s out out′ : List ℕ) (r : Handed) (n p : ℕ) → Called z s out r out′ → handing.toldHandOut (r .answer) ≡ refused n p → (r .session ≡ z) × (out′ ≡ out)
 
 pub record EveryCallComesBack : Type 0 where
   pub in-order : InOrder

@@ -12,7 +12,7 @@ use Rattle.bits.specs.Sets as bits
 use Rattle.number.specs.Numbers as number
 use Rattle.kinds.specs.declared.Kind.{Kind}
 use Rattle.kinds.specs.Kinds as kinds
-use Rattle.windings.specs.declared.Windings.{Windings}
+use Rattle.windings.specs.declared.WoundSoFar.{WoundSoFar}
 use Rattle.windings.specs.Windings as windings
 use Rattle.board.specs.declared.Counts.{Counts}
 use Rattle.board.specs.declared.Board.{Board}
@@ -31,7 +31,7 @@ use Rattle.search.specs.Verdicts as search
 use Rattle.judge.specs.declared.Which.{Which}
 use Rattle.judge.specs.RelayWindings as windings-of
 use Rattle.judge.specs.Judging as judge
-use Rattle.moves.specs.declared.Motion.{Motion}
+use Rattle.moves.specs.declared.Move.{Move}
 use Rattle.moves.specs.Steps as steps
 use Rattle.moves.specs.Moving as moves
 use Rattle.runs.specs.Running as runs
@@ -52,8 +52,8 @@ abbrev pub OneLent : {A R : Type 0} → (R → List ℕ → A) → A → Type 0
 OneLent {A} {R} told a = (x y : R) (k l : List ℕ) → told x k ≡ a → told y l ≡ a → (x ≡ y) × (k ≡ l)
 
 -- an answer as an outcome, with what it leaves in the buffer
-abbrev pub beside : {R : Type 0} → (R → Outcome ℕ) → R → List ℕ → Outcome ℕ × List ℕ
-beside told x l = (told x, l)
+abbrev pub withBuffer : {R : Type 0} → (R → Outcome ℕ) → R → List ℕ → Outcome ℕ × List ℕ
+withBuffer told x l = (told x, l)
 
 pub record OneAnswer : Type 0 where
   pub bits-has : (s n : ℕ) → One itself (bits.member s n)
@@ -65,14 +65,16 @@ pub record OneAnswer : Type 0 where
   pub bits-wide : (x p q : ℕ) → (p ≡ x) × (p < 256) → (q ≡ x) × (q < 256) → p ≡ q
   pub number-read-number : (s : List ℕ) (at : ℕ) → One number.toldNumber (number.numberAt s at)
   pub number-number-length : (v : ℕ) → One itself (length (number.numberBytes v))
-  pub number-write-number : (v : ℕ) (out : List ℕ) (at : ℕ) → OneLent (beside number.toldWritten) (number.numberWriting v out at)
+  pub number-write-number : (v : ℕ) (out : List ℕ) (at : ℕ) → OneLent (withBuffer number.toldNumberWritten) (number.numberWriting v out at)
+  pub kinds-of : (k n : ℕ) → One itself (kinds.kindOf k n)
   pub kinds-number : (k : Kind) → One itself (kinds.kindNumber k)
   pub kinds-name : (k : Kind) → One itself (kinds.nameOf k)
-  pub windings-none : One itself windings.noWindings
-  pub windings-free : (w : Windings) (k : Kind) → One itself (windings.windingFree w k)
-  pub windings-with : (w : Windings) (k : Kind) → One itself (windings.gained w k)
-  pub windings-complete : (w : Windings) (n : ℕ) → One itself (windings.complete n w)
+  pub windings-none : One itself windings.noneWound
+  pub windings-free : (w : WoundSoFar) (k : Kind) → One itself (windings.windingFree w k)
+  pub windings-with : (w : WoundSoFar) (k : Kind) → One itself (windings.gained w k)
+  pub windings-complete : (w : WoundSoFar) (n : ℕ) → One itself (windings.complete n w)
   pub board-limit : (c : Counts) (k : ℕ) → One itself (rules.limitOf c k)
+  pub board-blank : One itself parts.blank
   pub board-empty : One itself parts.emptyBoard
   pub board-check : (b : Board) → One itself (rules.boardFine b)
   pub board-same : (b c : Board) → One itself (same.sameBoard b c)
@@ -84,19 +86,19 @@ pub record OneAnswer : Type 0 where
   pub state-fits : (s : State) (c : Counts) → One itself (state.stateFine c s)
   pub presses-push : (b : Board) (s : State) (n : ℕ) → One presses.toldPressed (presses.pushing b s n)
   pub presses-release : (b : Board) (s : State) (n : ℕ) → One presses.toldPressed (presses.releasing b s n)
-  pub board-reader-read : (s : List ℕ) → One reader.toldRead (reader.reading s)
-  pub board-writer-write : (b : Board) (out : List ℕ) → OneLent (beside writer.toldWritten) (writer.writing b out)
+  pub board-reader-read : (s : List ℕ) → One reader.toldBoardRead (reader.reading s)
+  pub board-writer-write : (b : Board) (out : List ℕ) → OneLent (withBuffer writer.toldWritten) (writer.writing b out)
   pub neighbours-conducts : (k : Kind) (s : State) → One itself (conduction.conducts s k)
   pub neighbours-neighbours : (b : Board) (s : State) → One itself (neighbours.neighbours b s)
-  pub search-search : (near : List ℕ) (t : ℕ) (v : Winding) (w : ℕ) → One search.toldVerdict (search.judged near t v w)
+  pub search-search : (near : List ℕ) (t : ℕ) (v : Winding) (w : ℕ) → One search.toldVerdict (search.verdictBy near (search.inSets t) v w)
   pub judge-winding : (b : Board) (r : ℕ) (k : Which) → One windings-of.toldSought (windings-of.windingOf k r (parts.partsOf b))
   pub judge-judge : (b : Board) (s : State) (r : ℕ) (k : Which) (w : ℕ) → One search.toldVerdict (judge.judging b s r k w)
-  pub moves-step : (near : List ℕ) (b : Board) (s : State) (r w : ℕ) → One steps.toldMotion (steps.stepBy near b (state.isDrawn s r) r w)
-  pub moves-after : (s : State) (r : ℕ) (m : Motion) → One itself (steps.made s r (steps.toldMotion m))
+  pub moves-step : (near : List ℕ) (b : Board) (s : State) (r w : ℕ) → One steps.toldMove (steps.stepBy near b (state.isDrawn s r) r w)
+  pub moves-after : (s : State) (r : ℕ) (m : Move) → One itself (steps.made s r (steps.toldMove m))
   pub moves-move-relay : (b : Board) (s : State) (r w : ℕ) → One moves.toldMoved (moves.moving b s r w)
-  pub runs-run : (b : Board) (s : State) (w : ℕ) (log : List ℕ) → OneLent runs.toldRan (runs.running b s w log)
-  pub lines-write-line : (l : Line) (out : List ℕ) → OneLent (beside lines.toldLength) (lines.lineWriting (lines.toldLine l) out)
-  pub events-run-line : (b : Board) (w e : ℕ) (s : State) → One events.toldShown (events.ranLine b w e s)
-  pub events-event-line : (b : Board) (w e : ℕ) (s : State) (v : ℕ) → One events.toldShown (events.eventLine b w e s v)
-  pub session-begin : (s : List ℕ) → One session.toldSession (session.opening s)
-  pub session-next-line : (z : Session) (s out : List ℕ) → OneLent handing.toldHanded (handing.handing (session.toldSession z) s out)
+  pub runs-run : (b : Board) (s : State) (log : List ℕ) (w : ℕ) → OneLent runs.toldRan (runs.running b s log w)
+  pub lines-write-line : (l : Line) (out : List ℕ) → OneLent (withBuffer lines.toldLineWritten) (lines.lineWriting (lines.toldLine l) out)
+  pub events-run-line : (b : Board) (e : ℕ) (s : State) (w : ℕ) → One events.toldShown (events.ranLine b e s w)
+  pub events-event-line : (b : Board) (e : ℕ) (s : State) (v w : ℕ) → One events.toldShown (events.eventLine b e s v w)
+  pub session-begin : (s : List ℕ) → One session.toldSession (session.beginning s)
+  pub session-next-line : (z : Session) (s out : List ℕ) → OneLent handing.toldHanded (handing.nextLine (session.toldSession z) s out)

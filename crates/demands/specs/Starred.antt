@@ -8,7 +8,7 @@
 --       moves b s w t m           `move_relay` of relay 0: the word m, and the state t
 --       runs b s w log e m t r l  `run` over the lent log: the word e, m moves, the state t, the relay r, and the log l afterwards
 --       prints s x                a session and all that it prints
---     Holds x                   the row's call comes to its answer
+--     RowHolds x                   the row's call comes to its answer
 --     starred, Starred          the table; every row of it holds
 use Prim.Native.Nat.{ℕ}
 use mathlib.Core.Path.{_≡_}
@@ -26,7 +26,7 @@ use Rattle.board.specs.Parts.{padded, emptyBoard}
 use Rattle.state.specs.declared.State.{State}
 use Rattle.state.specs.States.{freshState, withDrawn, withPushed, withReleased}
 use Rattle.board_reader.specs.Reading.{reading}
-use Rattle.search.specs.Verdicts.{Judgement, settled, unsettled}
+use Rattle.search.specs.Verdicts.{Verdict, settled, unsettled}
 use Rattle.judge.specs.declared.Which.{Which}
 use Rattle.judge.specs.declared.Which.the-variants.{First, Second}
 use Rattle.judge.specs.Judging.{judging}
@@ -102,11 +102,11 @@ pushedBoth = withPushed pushed0 1
 abbrev pub drawn0 : State → State
 drawn0 s = withDrawn s 0
 
-abbrev pub live : ℕ → List ℕ → Judgement
-live e c = settled e (some c)
+abbrev pub liveWith : ℕ → List ℕ → Verdict
+liveWith e c = settled e (some c)
 
-abbrev pub dead : ℕ → Judgement
-dead e = settled e none
+abbrev pub deadWith : ℕ → Verdict
+deadWith e = settled e none
 
 -- a lent log of so many bytes, each 7
 abbrev pub lent : ℕ → List ℕ
@@ -114,17 +114,17 @@ lent n = replicate n 7
 
 pub data Row : Type 0 where
   reads : List ℕ → Board → Outcome ℕ → Row
-  judges : Board → State → Which → ℕ → Judgement → Row
+  judges : Board → State → Which → ℕ → Verdict → Row
   moves : Board → State → ℕ → State → step.Move → Row
   runs : Board → State → ℕ → List ℕ → Ending → ℕ → State → ℕ → List ℕ → Row
   prints : List ℕ → List ℕ → Row
 
-abbrev pub Holds : Row → Type 0
-Holds (reads s b o) = reading s ≡ (b, o)
-Holds (judges b s k w j) = judging b s 0 k w ≡ j
-Holds (moves b s w t m) = moving b s 0 w ≡ (t, given m)
-Holds (runs b s w log e m t r l) = running b s w log ≡ record { word = given e; moves = m; state = t; relay = r; log = l }
-Holds (prints s x) = sessionText s ≡ x
+abbrev pub RowHolds : Row → Type 0
+RowHolds (reads s b o) = reading s ≡ (b, o)
+RowHolds (judges b s k w j) = judging b s 0 k w ≡ j
+RowHolds (moves b s w t m) = moving b s 0 w ≡ (t, given m)
+RowHolds (runs b s w log e m t r l) = running b s log w ≡ record { word = given e; moves = m; state = t; relay = r; log = l }
+RowHolds (prints s x) = sessionText s ≡ x
 
 abbrev pub starred : List Row
 starred =
@@ -135,17 +135,17 @@ starred =
     ∷ reads (1 ∷ 0 ∷ 0 ∷ 0 ∷ []) emptyBoard (refused outOfRange 0)
     ∷ reads (65 ∷ 0 ∷ 0 ∷ 0 ∷ []) emptyBoard (refused outOfRange 0)
     ∷ reads (64 ∷ 0 ∷ 0 ∷ 0 ∷ []) (board 64 0 0 []) (given 4)
-    ∷ judges h1 freshState First 100 (dead 1)
-    ∷ judges h1 pushed0 First 100 (live 3 (0 ∷ 2 ∷ 1 ∷ []))
+    ∷ judges h1 freshState First 100 (deadWith 1)
+    ∷ judges h1 pushed0 First 100 (liveWith 3 (0 ∷ 2 ∷ 1 ∷ []))
     ∷ judges h1 pushed0 First 2 (unsettled 2)
     ∷ prints h2Session h2Lines
     ∷ runs h3 freshState 100 (lent 5) spent 5 (drawn0 freshState) 0 (128 ∷ 0 ∷ 128 ∷ 0 ∷ 128 ∷ [])
     ∷ runs h3 freshState 100 [] spent 0 freshState 0 []
-    ∷ judges h4 freshState First 100 (dead 6)
+    ∷ judges h4 freshState First 100 (deadWith 6)
     ∷ judges h4 freshState First 5 (unsettled 5)
-    ∷ judges h4wired freshState First 100 (dead 7)
-    ∷ judges h5 pushedBoth First 100 (live 3 (0 ∷ 2 ∷ 1 ∷ []))
-    ∷ judges h5 pushedBoth Second 100 (live 5 (0 ∷ 3 ∷ 1 ∷ []))
+    ∷ judges h4wired freshState First 100 (deadWith 7)
+    ∷ judges h5 pushedBoth First 100 (liveWith 3 (0 ∷ 2 ∷ 1 ∷ []))
+    ∷ judges h5 pushedBoth Second 100 (liveWith 5 (0 ∷ 3 ∷ 1 ∷ []))
     ∷ judges h5 pushedBoth Second 4 (unsettled 4)
     ∷ moves h5 pushedBoth 100 pushedBoth step.conflict
     ∷ moves h5 pushedBoth 4 pushedBoth step.undecided
@@ -156,7 +156,7 @@ starred =
     ∷ runs h5 pushed0 100 (lent 2) idle 1 (drawn0 pushed0) noRelay (128 ∷ 7 ∷ [])
     ∷ runs h5 pushed0 100 (lent 1) idle 1 (drawn0 pushed0) noRelay (128 ∷ [])
     ∷ runs h5 (withReleased (drawn0 pushed0) 0) 100 (lent 2) idle 0 (drawn0 freshState) noRelay (lent 2)
-    ∷ judges h6 freshState First 100 (live 3 (0 ∷ 2 ∷ 1 ∷ []))
+    ∷ judges h6 freshState First 100 (liveWith 3 (0 ∷ 2 ∷ 1 ∷ []))
     ∷ runs pair freshState 100 (lent 3) idle 2 (withDrawn (drawn0 freshState) 1) noRelay (128 ∷ 129 ∷ 7 ∷ [])
     ∷ reads (128 ∷ 0 ∷ []) emptyBoard (refused badForm 0)
     ∷ reads (128 ∷ 128 ∷ []) emptyBoard (refused inputEnds 2)
@@ -165,4 +165,4 @@ starred =
     ∷ []
 
 abbrev pub Starred : Type 0
-Starred = All Holds starred
+Starred = All RowHolds starred

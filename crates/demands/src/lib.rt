@@ -1,2 +1,3 @@
 // The front page: the user's three demands as theorems over the public calls, the starred boards as one table, and that
-// every promise allows one answer only. There is no code here; specs/ has the statements, proofs/Demands.antt the theorems.
+// every promise allows one answer only. There is no code here; specs/ has the statements, proofs/ the
+// theorems of the same names.

@@ -4,7 +4,7 @@ use mathlib.Core.Path.{_≡_, ap}
 use mathlib.Core.List.{List}
 use borrow.Author.Tests.{eq-eqb, ne-eqb}
 use Rattle.number.specs.declared.Refusal.{Refusal}
-use Rattle.number.specs.Outcomes.{refused}
+use Rattle.number.specs.Outcomes.{Outcome, refused}
 use Rattle.board.specs.declared.Board.{Board}
 use Rattle.state.specs.declared.State.{State}
 use Rattle.presses.specs.declared.Press.the-variants.{Done, Refused}
@@ -26,19 +26,19 @@ module _ (b : Board) (t : State) (v : ℕ) where
 
 module _ (b : Board) (w e : ℕ) where
   -- a run is told by its word, its moves and its drawn relays, whatever its log holds
-  pub ran-told : (t : State) (r : Ran) (log : List ℕ) → toldRan r log ≡ running b t w sessionLog → tells e (toldRan r log) ≡ ranLine b w e t
+  pub ran-told : (t : State) (r : Ran) (log : List ℕ) → toldRan r log ≡ running b t sessionLog w → tells e (toldRan r log) ≡ ranLine b e t w
   unfolding ranLine
   ran-told t r log ran = ap (tells e) ran
 
   module _ (x : Pressed) where
-    pub pressed-refused : (q : Refusal) → x .answer ≡ Refused q → _≡_ {A = Shown} (event e (refused (q .number) (q .place)) 0 (x .state .drawn), x .state) (pressedLine b w e (toldPressed x))
+    pub pressed-refused : (q : Refusal) → x .answer ≡ Refused q → _≡_ {A = Shown} (event e (refused (q .number) (q .place)) 0 (x .state .drawn), x .state) (pressedLine b e (toldPressed x) w)
     unfolding pressedLine
     pressed-refused q is = rw is
 
-    pub pressed-done : x .answer ≡ Done → ranLine b w e (x .state) ≡ pressedLine b w e (toldPressed x)
+    pub pressed-done : x .answer ≡ Done → ranLine b e (x .state) w ≡ pressedLine b e (toldPressed x) w
     unfolding pressedLine
     pressed-done done = rw done
 
-  pub event-told : (t : State) (v : ℕ) (x : Pressed) → toldPressed x ≡ pressing b t v → pressedLine b w e (toldPressed x) ≡ eventLine b w e t v
+  pub event-told : (t : State) (v : ℕ) (x : Pressed) → toldPressed x ≡ pressing b t v → pressedLine b e (toldPressed x) w ≡ eventLine b e t v w
   unfolding eventLine
-  event-told t v x pressed = ap (pressedLine b w e) pressed
+  event-told t v x pressed = ap (λ (y : State × Outcome (Unit {0})). pressedLine b e y w) pressed

@@ -5,9 +5,9 @@
 --     sessionLog             "a log of 4,096"
 --     Shown                  a line, and the state after what it tells
 --     tells e r              event e tells what a run answers: its word, its moves and the drawn relays
---     ranLine b w e t        event e tells of a run from state t
---     pressedLine b w e x    event e tells of the push or release x: of the run from the state that it leaves, or of its refusal
---     eventLine b w e t v    event e, which is v, in state t
+--     ranLine b e t w        event e tells of a run from state t
+--     pressedLine b e x w    event e tells of the push or release x: of the run from the state that it leaves, or of its refusal
+--     eventLine b e t v w    event e, which is v, in state t
 --     toldShown              the code's line in the rule book's words
 use Prim.Native.Nat.{ℕ, _/_, _%_}
 use mathlib.Core.Bool.{Bool, cond}
@@ -20,7 +20,7 @@ use Rattle.board.specs.declared.Board.{Board}
 use Rattle.state.specs.declared.State.{State}
 use Rattle.presses.specs.Presses.{pushing, releasing}
 use Rattle.board_reader.specs.Reading.{wanted}
-use Rattle.runs.specs.Running.{Told, running}
+use Rattle.runs.specs.Running.{Ran, running}
 use Rattle.lines.specs.Lines.{Line, event, toldLine}
 use Rattle.events.specs.declared.Shown as code
 
@@ -42,18 +42,18 @@ sessionLog = replicate 4096 0
 abbrev pub Shown : Type 0
 Shown = Line × State
 
-abbrev pub tells : ℕ → Told → Shown
+abbrev pub tells : ℕ → Ran → Shown
 tells e r = (event e (r .word) (r .moves) (r .state .drawn), r .state)
 
-unfoldable pub ranLine : Board → ℕ → ℕ → State → Shown
-ranLine b w e t = tells e (running b t w sessionLog)
+unfoldable pub ranLine : Board → ℕ → State → ℕ → Shown
+ranLine b e t w = tells e (running b t sessionLog w)
 
-unfoldable pub pressedLine : Board → ℕ → ℕ → State × Outcome (Unit {0}) → Shown
-pressedLine b w e (t, given u) = ranLine b w e t
-pressedLine b w e (t, refused n p) = (event e (refused n p) 0 (t .drawn), t)
+unfoldable pub pressedLine : Board → ℕ → State × Outcome (Unit {0}) → ℕ → Shown
+pressedLine b e (t, given u) w = ranLine b e t w
+pressedLine b e (t, refused n p) w = (event e (refused n p) 0 (t .drawn), t)
 
-unfoldable pub eventLine : Board → ℕ → ℕ → State → ℕ → Shown
-eventLine b w e t v = pressedLine b w e (pressing b t v)
+unfoldable pub eventLine : Board → ℕ → State → ℕ → ℕ → Shown
+eventLine b e t v w = pressedLine b e (pressing b t v) w
 
 abbrev pub toldShown : code.Shown → Shown
 toldShown r = (toldLine (r .line), r .state)

@@ -7,7 +7,7 @@ use board::Board;
 use lines::Line;
 use presses::Press;
 use presses::Pressed;
-use runs::Word;
+use runs::Ending;
 use state::State;
 
 // The length of the log of a session's runs: the moves that each may make.
@@ -20,11 +20,11 @@ pub struct Shown {
 }
 
 // Runs the board from a state, and tells of it as the event of this number.
-pub fn run_line(board: Board, allowance: u32, event: usize, state: State) -> Shown
-    ensures { λ r. ⌜ toldShown r ≡ ranLine board allowance event state ⌝ }
+pub fn run_line(board: Board, event: usize, state: State, allowance: u32) -> Shown
+    ensures { λ r. ⌜ toldShown r ≡ ranLine board event state allowance ⌝ }
 {
     let mut log = [0u8; LOG_LENGTH];
-    let ran = runs::run(board, state, allowance, &mut log);
+    let ran = runs::run(board, state, &mut log, allowance);
     let word = ran.word;
     let after = ran.state;
     Shown {
@@ -45,24 +45,24 @@ fn press(board: Board, state: State, event: u32) -> Pressed
 }
 
 // Tells of a push or release, as the event of this number: the run after it, or its refusal.
-fn pressed_line(board: Board, allowance: u32, event: usize, pressed: Pressed) -> Shown
-    ensures { λ r. ⌜ toldShown r ≡ pressedLine board allowance event (toldPressed pressed) ⌝ }
+fn pressed_line(board: Board, event: usize, pressed: Pressed, allowance: u32) -> Shown
+    ensures { λ r. ⌜ toldShown r ≡ pressedLine board event (toldPressed pressed) allowance ⌝ }
 {
     let state = pressed.state;
     let answer = pressed.answer;
     if let Press::Refused(refusal) = answer {
         Shown {
-            line: Line::Event(event, Word::Refused(refusal), 0, state.drawn),
+            line: Line::Event(event, Ending::Refused(refusal), 0, state.drawn),
             state,
         }
     } else {
-        run_line(board, allowance, event, state)
+        run_line(board, event, state, allowance)
     }
 }
 
 // Makes an event in a state, and tells of it under its number.
-pub fn event_line(board: Board, allowance: u32, event: usize, state: State, value: u32) -> Shown
-    ensures { λ r. ⌜ toldShown r ≡ eventLine board allowance event state value ⌝ }
+pub fn event_line(board: Board, event: usize, state: State, value: u32, allowance: u32) -> Shown
+    ensures { λ r. ⌜ toldShown r ≡ eventLine board event state value allowance ⌝ }
 {
-    pressed_line(board, allowance, event, press(board, state, value))
+    pressed_line(board, event, press(board, state, value), allowance)
 }

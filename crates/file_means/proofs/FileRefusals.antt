@@ -11,7 +11,7 @@ use Rattle.number.specs.Refusals.{inputTooLong}
 use Rattle.number.proofs.OutcomeLaws.{refused-never}
 use Rattle.board.specs.declared.Board.{Board}
 use Rattle.board_reader.specs.Reading.{boardAt, answered, reading, longestInput}
-use Rattle.file_means.specs.FileRefusals.{Holds, FileRefused}
+use Rattle.file_means.specs.FileRefusals.{LineHolds, FileRefused}
 use Rattle.file_means.proofs.RefusesLaws.{refuses-by, refuses-unless, refuses-each}
 use Rattle.file_means.proofs.RefusedHolds.{board-holds}
 use Rattle.file_means.proofs.HoldsRefused.{holds-board}
@@ -24,7 +24,7 @@ answered-refused (refused k q) n p e = cc
 
 module _ (s : List ℕ) where
   abbrev Line : ℕ → ℕ → Type 0
-  Line n p = ((longestInput < length s) × (n ≡ inputTooLong) × (p ≡ 0)) ⊎ ((length s ≤ longestInput) × Holds s n p)
+  Line n p = ((longestInput < length s) × (n ≡ inputTooLong) × (p ≡ 0)) ⊎ ((length s ≤ longestInput) × LineHolds s n p)
 
   abbrev read : Outcome (Found Board)
   read = unless (leb (length s) longestInput) inputTooLong 0 >> boardAt s
@@ -33,7 +33,7 @@ module _ (s : List ℕ) where
   read-holds n p =
       refuses-by Line read n p (refuses-unless Line (leb (length s) longestInput) inputTooLong 0 (boardAt s)
       (λ long. inl (leb-false _ _ long, refl, refl))
-      (λ short. refuses-each Line (boardAt s) (λ n p e. inr (leb-true _ _ short, refuses-by (Holds s) (boardAt s) n p (board-holds s) e))))
+      (λ short. refuses-each Line (boardAt s) (λ n p e. inr (leb-true _ _ short, refuses-by (LineHolds s) (boardAt s) n p (board-holds s) e))))
 
   holds-read : (n p : ℕ) → Line n p → read ≡ refused n p
   holds-read n p (inl (long, ten, place)) = rw (lt-leb (length s) longestInput long, ten, place)

@@ -11,20 +11,20 @@ use borrow.Author.Tests.{lt-ltb, le-ltb, eqb-false, not-true}
 use Rattle.number.specs.Outcomes.{refused}
 use Rattle.number.specs.Refusals.{outOfRange, noSuchKind, noSuchTerminal, endsEqual, noSuchName, windingTaken, windingLacking}
 use Rattle.number.specs.Numbers.{numberAt}
-use Rattle.kinds.specs.Kinds.{kindOf}
-use Rattle.windings.specs.declared.Windings.{Windings}
-use Rattle.windings.specs.Windings.{noWindings, windingFree, gained, complete}
+use Rattle.kinds.specs.Kinds.{lastKind, kindOf}
+use Rattle.windings.specs.declared.WoundSoFar.{WoundSoFar}
+use Rattle.windings.specs.Windings.{noneWound, windingFree, gained, complete}
 use Rattle.board.specs.declared.Counts.{Counts}
 use Rattle.board.specs.declared.Part.{Part}
 use Rattle.board.specs.Rules.{inRange, terminalFine, limitOf}
-use Rattle.board_reader.specs.Reading.{wanted, countsAt, partAt, partsAt, boardFrom, boardAt, lastKind}
+use Rattle.board_reader.specs.Reading.{wanted, countsAt, partAt, partsAt, boardFrom, boardAt}
 use Rattle.board_reader.proofs.FieldLaws.{wanted-refused, wanted-fails, wanted-passes, wanted-found, range-above, name-carried}
 use Rattle.board_reader.proofs.CountsLaws.{terminals-refused, relays-refused, buttons-refused, parts-refused}
 use Rattle.board_reader.proofs.PartLaws.{kind-refused, a-refused, b-refused, ends-equal, name-refused, winding-refused}
-use Rattle.file_means.specs.FileRefusals.{countFine, CountAt, Reads, Reached, AtKind, AtFirst, AtSecond, AtName, WantedAt, a-count, a-kind, first-end, second-end, a-name, StandsAt, Holds, line1, line2, line3, line4, line5-first, line5-second, line6, line7, line8, line9}
+use Rattle.file_means.specs.FileRefusals.{countFine, CountAt, Reads, Reached, AtKind, AtFirst, AtSecond, AtName, WantedAt, a-count, a-kind, first-end, second-end, a-name, StandsAt, LineHolds, line1, line2, line3, line4, line5-first, line5-second, line6, line7, line8, line9}
 
 -- a refusal after parts that were read is the refusal of all the parts
-reads-refused : (c : Counts) (w : Windings) (s : List ℕ) (from : ℕ) (ps : List Part) (w′ : Windings) (at m n p : ℕ) → Reads c w s from ps w′ at → partsAt c m w′ s at ≡ refused n p → partsAt c (length ps + m) w s from ≡ refused n p
+reads-refused : (c : Counts) (w : WoundSoFar) (s : List ℕ) (from : ℕ) (ps : List Part) (w′ : WoundSoFar) (at m n p : ℕ) → Reads c w s from ps w′ at → partsAt c m w′ s at ≡ refused n p → partsAt c (length ps + m) w s from ≡ refused n p
 unfolding partsAt
 reads-refused c w s from [] w′ at m n p (same, here) e = rw (zero-add m, same, here) e
 reads-refused c w s from (q ∷ ps) w′ at m n p (next, one, later) e = rw (suc-add (length ps) m, one, reads-refused c (gained w (q .kind)) s next ps w′ at m n p later e)
@@ -45,11 +45,11 @@ module _ (s : List ℕ) (n p : ℕ) where
 
   -- ---- the parts
 
-  module _ (c : Counts) (w : Windings) (at : ℕ) where
+  module _ (c : Counts) (w : WoundSoFar) (at : ℕ) where
     board-parts : (ps : List Part) (m : ℕ) → Reached s c ps w at → c .parts ≡ length ps + m → partsAt c m w s at ≡ refused n p → boardAt s ≡ refused n p
     unfolding boardAt boardFrom
     board-parts ps m x all e =
-        let parts = ap (λ (i : ℕ). partsAt c i noWindings s (x .start)) all ∙ reads-refused c noWindings s (x .start) ps w at m n p (x .parts-fine) e in
+        let parts = ap (λ (i : ℕ). partsAt c i noneWound s (x .start)) all ∙ reads-refused c noneWound s (x .start) ps w at m n p (x .parts-fine) e in
         rw (x .counts-fine, parts)
 
     board-part : AtKind s c w at → partAt c w s at ≡ refused n p → boardAt s ≡ refused n p
@@ -63,7 +63,7 @@ module _ (s : List ℕ) (n p : ℕ) where
     board-kind : AtKind s c w at → wanted (inRange 0 lastKind) noSuchKind s at ≡ refused n p → boardAt s ≡ refused n p
     board-kind x e = board-part x (sym (kind-refused c w s at n p e))
 
-  module _ (c : Counts) (w : Windings) (k : ℕ) where
+  module _ (c : Counts) (w : WoundSoFar) (k : ℕ) where
     board-first : (at : ℕ) → AtFirst s c w k at → wanted (terminalFine c) noSuchTerminal s at ≡ refused n p → boardAt s ≡ refused n p
     board-first at x e = board-part c w (x .kind-at) (x .before) (sym (a-refused c w s (x .kind-at) k at (x .kind-fine) n p e))
 
@@ -91,7 +91,7 @@ module _ (s : List ℕ) (n p : ℕ) where
 
 -- ---- 6, 8 and 9, which are no test of one number alone
 
-module _ (s : List ℕ) (c : Counts) (w : Windings) (at : ℕ) where
+module _ (s : List ℕ) (c : Counts) (w : WoundSoFar) (at : ℕ) where
   board-ends : (k a : ℕ) → AtSecond s c w k a at → StandsAt s at a → boardAt s ≡ refused endsEqual at
   board-ends k a x (next, stands) =
       let y = x .before in
@@ -113,7 +113,7 @@ module _ (s : List ℕ) (c : Counts) (w : Windings) (at : ℕ) where
 
 -- ---- every line
 
-pub holds-board : (s : List ℕ) (n p : ℕ) → Holds s n p → boardAt s ≡ refused n p
+pub holds-board : (s : List ℕ) (n p : ℕ) → LineHolds s n p → boardAt s ≡ refused n p
 holds-board s n p (line1 {at} here ends) = board-wanted s n p at here ends
 holds-board s n p (line2 here bad) = board-wanted s n p p here bad
 holds-board s n p (line3 {i} {v} below here (next, stands) off) = board-count s n p i p below here (wanted-fails (countFine i) outOfRange s p v next stands off)

@@ -11,7 +11,7 @@ use Rattle.number.specs.Outcomes.{Found, found}
 use Rattle.number.specs.Refusals.{noSuchKind, noSuchTerminal, endsEqual, noSuchName, windingTaken}
 use Rattle.number.specs.Numbers.{numberBytes, Bytes}
 use Rattle.kinds.specs.declared.Kind.{Kind}
-use Rattle.windings.specs.declared.Windings.{Windings}
+use Rattle.windings.specs.declared.WoundSoFar.{WoundSoFar}
 use Rattle.kinds.specs.Kinds.{kindNumber, nameOf, kindOf}
 use Rattle.windings.specs.Windings.{windingFree}
 use Rattle.board.specs.declared.Part.{Part}
@@ -24,18 +24,18 @@ use Rattle.board_reader.specs.Reading.{wanted, nameAt, partAt}
 use Rattle.board_reader.proofs.FieldLaws.{range-within, range-bounds}
 use Rattle.board_reader.proofs.PartLaws.{part-as, part-found}
 use Rattle.board_writer.specs.File.{nameBytes, partBytes}
-use Rattle.file_means.proofs.StandLaws.{Stands, stands-none, stands-append, stands-first, stands-second, number-stands, wanted-reads}
+use Rattle.file_means.proofs.StandLaws.{StandsTo, stands-none, stands-append, stands-first, stands-second, number-stands, wanted-reads}
 use Rattle.file_means.proofs.GivesLaws.{Gives, gives-then, gives-unless, wanted-gives, wanted-then}
 
 -- the rules of 5 to 8 that a fine part keeps, one by one
-record Rules (c : Counts) (w : Windings) (p : Part) : Type 0 where
+record Rules (c : Counts) (w : WoundSoFar) (p : Part) : Type 0 where
   a-below : terminalFine c (p .a) ≡ true
   b-below : terminalFine c (p .b) ≡ true
   apart : endsFine (p .a) (p .b) ≡ true
   named : nameFine c (p .kind) ≡ true
   free : windingFree w (p .kind) ≡ true
 
-part-rules : (c : Counts) (w : Windings) (p : Part) → partFine c w p ≡ true → Rules c w p
+part-rules : (c : Counts) (w : WoundSoFar) (p : Part) → partFine c w p ≡ true → Rules c w p
 unfolding partFine partFits
 part-rules c w p fine =
     let free = both-true _ _ fine in
@@ -57,20 +57,20 @@ wire-name : (k : Kind) → kindNumber k ≡ 0 → 0 ≡ nameOf k
 wire-name k wire = ap nameOf (sym (kind-of-wire (nameOf k)) ∙ ap (λ (n : ℕ). kindOf n (nameOf k)) (sym wire) ∙ kind-of-parts k)
 
 -- a name's bytes read back
-name-reads : (c : Counts) (k : Kind) (s : List ℕ) (at next : ℕ) → InRange c → nameFine c k ≡ true → Stands s at next (nameBytes k) → nameAt c (kindNumber k) s at ≡ found (nameOf k) next
+name-reads : (c : Counts) (k : Kind) (s : List ℕ) (at next : ℕ) → InRange c → nameFine c k ≡ true → StandsTo s at next (nameBytes k) → nameAt c (kindNumber k) s at ≡ found (nameOf k) next
 unfolding nameAt nameFine nameBytes
 name-reads c k s at next range = by (eqb (kindNumber k) 0) refl
   where
     limit : ℕ
     limit = limitOf c (kindNumber k)
 
-    by : (t : Bool) → eqb (kindNumber k) 0 ≡ t → (t || ltb (nameOf k) limit) ≡ true → Stands s at next (cond t [] (numberBytes (nameOf k))) → cond t (found 0 at) (wanted (λ v. ltb v limit) noSuchName s at) ≡ found (nameOf k) next
+    by : (t : Bool) → eqb (kindNumber k) 0 ≡ t → (t || ltb (nameOf k) limit) ≡ true → StandsTo s at next (cond t [] (numberBytes (nameOf k))) → cond t (found 0 at) (wanted (λ v. ltb v limit) noSuchName s at) ≡ found (nameOf k) next
     by true wire fine here =
         let same : at ≡ next = omega (arith, here .ends) in
         λ i. found (wire-name k (eqb-true (kindNumber k) 0 wire) i) (same i)
     by false some below here = wanted-reads (λ v. ltb v limit) noSuchName s at next (nameOf k) (omega (arith, ltb-true (nameOf k) limit below, limit-most c (kindNumber k) range)) below here
 
-pub part-reads : (c : Counts) (w : Windings) (p : Part) (s : List ℕ) (at next : ℕ) → InRange c → partFine c w p ≡ true → Stands s at next (partBytes p) → partAt c w s at ≡ found p next
+pub part-reads : (c : Counts) (w : WoundSoFar) (p : Part) (s : List ℕ) (at next : ℕ) → InRange c → partFine c w p ≡ true → StandsTo s at next (partBytes p) → partAt c w s at ≡ found p next
 unfolding partBytes
 part-reads c w p s at next range fine here =
     let rules = part-rules c w p fine in
@@ -96,7 +96,7 @@ part-reads c w p s at next range fine here =
 -- a name that was read is below its limit and stands there by its bytes; a wire carries none
 record NameRead (c : Counts) (k : ℕ) (s : List ℕ) (at : ℕ) (n : Found ℕ) : Type 0 where
   fine : nameFine c (kindOf k (n .value)) ≡ true
-  stands : Bytes s → Stands s at (n .next) (nameBytes (kindOf k (n .value)))
+  stands : Bytes s → StandsTo s at (n .next) (nameBytes (kindOf k (n .value)))
 
 name-read : (c : Counts) (k : ℕ) (s : List ℕ) (at : ℕ) → k ≤ 6 → Gives (NameRead c k s at) (nameAt c k s at)
 unfolding nameAt nameFine nameBytes
@@ -111,11 +111,11 @@ name-read c k s at most = by (eqb k 0) refl
         record { fine = rw (number, some, name) below; stands = λ bytes. rw (number, some, name) (number-stands s at n read bytes) })
 
 -- a part that was read breaks no rule of 5 to 8 and stands there by its bytes
-pub record PartRead (c : Counts) (w : Windings) (s : List ℕ) (at : ℕ) (p : Found Part) : Type 0 where
+pub record PartIsFine (c : Counts) (w : WoundSoFar) (s : List ℕ) (at : ℕ) (p : Found Part) : Type 0 where
   pub fine : partFine c w (p .value) ≡ true
-  pub stands : Bytes s → Stands s at (p .next) (partBytes (p .value))
+  pub stands : Bytes s → StandsTo s at (p .next) (partBytes (p .value))
 
-pub part-read : (c : Counts) (w : Windings) (s : List ℕ) (at : ℕ) → Gives (PartRead c w s at) (partAt c w s at)
+pub part-read : (c : Counts) (w : WoundSoFar) (s : List ℕ) (at : ℕ) → Gives (PartIsFine c w s at) (partAt c w s at)
 unfolding partAt partFine partFits partBytes
 part-read c w s at =
     wanted-then _ (inRange 0 6) noSuchKind s at _ (λ k k-read kind.

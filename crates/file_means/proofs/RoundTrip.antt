@@ -22,13 +22,13 @@ use Rattle.board_writer.specs.Writing.{writing}
 use Rattle.board_writer.proofs.WriteLaws.{writing-with-room}
 use Rattle.board_writer.proofs.FileLaws.{board-file-bound, WasWritten, writing-given}
 use Rattle.file_means.specs.RoundTrip.{WriteThenRead, ReadThenWrite}
-use Rattle.file_means.proofs.StandLaws.{Stands}
+use Rattle.file_means.proofs.StandLaws.{StandsTo}
 use Rattle.file_means.proofs.GivesLaws.{Gives}
 use Rattle.file_means.proofs.BoardTrip.{board-reads, BoardRead}
 use Rattle.file_means.proofs.ReadFine.{read-fine}
 
 -- bytes stand at the start of an input that begins with them
-begins : (bytes rest : List ℕ) (n : ℕ) → n ≡ length bytes → Stands (bytes ++ rest) 0 n bytes
+begins : (bytes rest : List ℕ) (n : ℕ) → n ≡ length bytes → StandsTo (bytes ++ rest) 0 n bytes
 begins bytes rest n long = record { there = ap (λ (l : List ℕ). bytes ++ l) (sym (drop-at bytes rest n (sym long))); ends = omega arith }
 
 -- a board's bytes, whatever stands after them, are read as that board

@@ -12,41 +12,41 @@ use Rattle.number.proofs.NumberLaws.{read-written, written-read}
 use Rattle.board_reader.specs.Reading.{wanted}
 use Rattle.board_reader.proofs.FieldLaws.{wanted-passes, wanted-found}
 
-pub record Stands (s : List ℕ) (at next : ℕ) (bytes : List ℕ) : Type 0 where
+pub record StandsTo (s : List ℕ) (at next : ℕ) (bytes : List ℕ) : Type 0 where
   pub there : drop at s ≡ bytes ++ drop next s
   pub ends : next ≡ at + length bytes
 
-pub stands-none : (s : List ℕ) (at : ℕ) → Stands s at at []
+pub stands-none : (s : List ℕ) (at : ℕ) → StandsTo s at at []
 stands-none s at = record { there = refl; ends = omega arith }
 
-pub stands-append : (s : List ℕ) (at mid next : ℕ) (xs ys : List ℕ) → Stands s at mid xs → Stands s mid next ys → Stands s at next (xs ++ ys)
+pub stands-append : (s : List ℕ) (at mid next : ℕ) (xs ys : List ℕ) → StandsTo s at mid xs → StandsTo s mid next ys → StandsTo s at next (xs ++ ys)
 stands-append s at mid next xs ys first second =
     record {
       there = first .there ∙ ap (λ (l : List ℕ). xs ++ l) (second .there) ∙ sym (append-assoc xs ys (drop next s));
       ends = omega (arith, first .ends, second .ends, length-append xs ys);
     }
 
-module _ (s : List ℕ) (at next : ℕ) (xs ys : List ℕ) (both : Stands s at next (xs ++ ys)) where
+module _ (s : List ℕ) (at next : ℕ) (xs ys : List ℕ) (both : StandsTo s at next (xs ++ ys)) where
   past : drop (at + length xs) s ≡ ys ++ drop next s
   past = drop-past s at xs (ys ++ drop next s) (both .there ∙ append-assoc xs ys (drop next s))
 
-  pub stands-first : Stands s at (at + length xs) xs
+  pub stands-first : StandsTo s at (at + length xs) xs
   stands-first = record { there = both .there ∙ append-assoc xs ys (drop next s) ∙ ap (λ (l : List ℕ). xs ++ l) (sym past); ends = refl }
 
-  pub stands-second : Stands s (at + length xs) next ys
+  pub stands-second : StandsTo s (at + length xs) next ys
   stands-second = record { there = past; ends = omega (arith, both .ends, length-append xs ys) }
 
 -- a number's bytes read back to the number, and a number that was read stands there by its bytes
-pub number-reads : (s : List ℕ) (at next v : ℕ) → v ≤ largest → Stands s at next (numberBytes v) → numberAt s at ≡ found v next
+pub number-reads : (s : List ℕ) (at next v : ℕ) → v ≤ largest → StandsTo s at next (numberBytes v) → numberAt s at ≡ found v next
 number-reads s at next v small here = read-written s at v (drop next s) small (here .there) ∙ ap (found v) (sym (here .ends))
 
-pub number-stands : (s : List ℕ) (at : ℕ) (v : Found ℕ) → numberAt s at ≡ given v → Bytes s → Stands s at (v .next) (numberBytes (v .value))
+pub number-stands : (s : List ℕ) (at : ℕ) (v : Found ℕ) → numberAt s at ≡ given v → Bytes s → StandsTo s at (v .next) (numberBytes (v .value))
 number-stands s at v h bytes =
     let read = written-read s at (v .value) (v .next) bytes h in
     record { there = read .bytes; ends = read .next }
 
-pub wanted-reads : (ok : ℕ → Bool) (n : ℕ) (s : List ℕ) (at next v : ℕ) → v ≤ largest → ok v ≡ true → Stands s at next (numberBytes v) → wanted ok n s at ≡ found v next
+pub wanted-reads : (ok : ℕ → Bool) (n : ℕ) (s : List ℕ) (at next v : ℕ) → v ≤ largest → ok v ≡ true → StandsTo s at next (numberBytes v) → wanted ok n s at ≡ found v next
 wanted-reads ok n s at next v small fine here = wanted-passes ok n s at v next (number-reads s at next v small here) fine
 
-pub wanted-stands : (ok : ℕ → Bool) (n : ℕ) (s : List ℕ) (at next v : ℕ) → Bytes s → wanted ok n s at ≡ found v next → Stands s at next (numberBytes v)
+pub wanted-stands : (ok : ℕ → Bool) (n : ℕ) (s : List ℕ) (at next v : ℕ) → Bytes s → wanted ok n s at ≡ found v next → StandsTo s at next (numberBytes v)
 wanted-stands ok n s at next v bytes h = number-stands s at (record { value = v; next = next }) (wanted-found ok n s at v next h .1) bytes

@@ -15,7 +15,7 @@ use Rattle.board.specs.declared.Board.{Board}
 use Rattle.board.specs.Parts.{mostParts}
 use Rattle.board.specs.Rules.{boardFine}
 use Rattle.board.specs.Same.{sameBoard}
-use Rattle.board_reader.specs.Reading.{reading, toldAnswer, toldRead}
+use Rattle.board_reader.specs.Reading.{reading, toldReadAnswer, toldBoardRead}
 use Rattle.board_reader.specs.declared.BoardRead.{BoardRead}
 use Rattle.board_writer.specs.Writing.{writing, toldWritten}
 use Rattle.board_writer.specs.declared.Written.{Written}
@@ -24,7 +24,7 @@ abbrev pub Wrote : Board → List ℕ → Written → List ℕ → Type 0
 Wrote b out w out′ = _≡_ {A = Outcome ℕ × List ℕ} (toldWritten w, out′) (writing b out)
 
 abbrev pub WasRead : List ℕ → BoardRead → Type 0
-WasRead s r = toldRead r ≡ reading s
+WasRead s r = toldBoardRead r ≡ reading s
 
 abbrev pub WriteThenRead : Type 0
 WriteThenRead =
@@ -33,13 +33,13 @@ WriteThenRead =
     → Wrote b out w out′
     → toldWritten w ≡ given n
     → WasRead (take n out′) r
-    → (toldAnswer (r .answer) ≡ given n) × (sameBoard b (r .board) ≡ true)
+    → (toldReadAnswer (r .answer) ≡ given n) × (sameBoard b (r .board) ≡ true)
 
 abbrev pub ReadThenWrite : Type 0
 ReadThenWrite =
     (s out out′ : List ℕ) (n : ℕ) (r : BoardRead) (w : Written)
     → Bytes s
     → WasRead s r
-    → toldAnswer (r .answer) ≡ given n
+    → toldReadAnswer (r .answer) ≡ given n
     → Wrote (r .board) out w out′
     → (boardFine (r .board) ≡ true) × (n ≤ length out → (toldWritten w ≡ given n) × (take n out′ ≡ take n s))

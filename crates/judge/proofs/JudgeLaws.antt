@@ -14,36 +14,36 @@ use Rattle.state.specs.States.{stateFine, usable}
 use Rattle.state.proofs.StateLaws.{usable-fine, usable-given}
 use Rattle.neighbours.specs.Neighbours.{neighbours}
 use Rattle.search.specs.declared.Winding.{Winding}
-use Rattle.search.specs.Verdicts.{judged}
+use Rattle.search.specs.Verdicts.{verdictBy, inSets}
 use Rattle.search.proofs.VerdictLaws.{judged-given}
 use Rattle.judge.specs.declared.Which.{Which}
 use Rattle.judge.specs.RelayWindings.{windingOf}
-use Rattle.judge.specs.Judging.{judgeable, verdictOn, judging}
+use Rattle.judge.specs.Judging.{windingFor, verdictOn, judging}
 
 module _ (b : Board) (s : State) (r : ℕ) (n : Which) where
-  pub judgeable-unusable : (k p : ℕ) → usable b s ≡ refused k p → judgeable b s r n ≡ refused k p
-  unfolding judgeable
+  pub judgeable-unusable : (k p : ℕ) → usable b s ≡ refused k p → windingFor b s r n ≡ refused k p
+  unfolding windingFor
   judgeable-unusable k p unusable = rw unusable refl
 
-  pub judgeable-sought : boardFine b ≡ true → stateFine (b .counts) s ≡ true → judgeable b s r n ≡ windingOf n r (partsOf b)
-  unfolding judgeable
+  pub judgeable-sought : boardFine b ≡ true → stateFine (b .counts) s ≡ true → windingFor b s r n ≡ windingOf n r (partsOf b)
+  unfolding windingFor
   judgeable-sought fine fits = rw (usable-fine b s fine fits) refl
 
   -- where a winding is judged, the board breaks no rule and the winding is the relay's
-  pub judgeable-given : (e : Winding) → judgeable b s r n ≡ given e → (boardFine b ≡ true) × (windingOf n r (partsOf b) ≡ given e)
-  unfolding judgeable
+  pub judgeable-given : (e : Winding) → windingFor b s r n ≡ given e → (boardFine b ≡ true) × (windingOf n r (partsOf b) ≡ given e)
+  unfolding windingFor
   judgeable-given e taken =
       let both = both-given (usable b s) (windingOf n r (partsOf b)) e taken in
       (usable-given b s (both .0) .0, both .1)
 
   -- the call's verdict goes by what is judged
-  pub judging-by : (w : ℕ) (o : Outcome Winding) → judgeable b s r n ≡ o → verdictOn b s w o ≡ judging b s r n w
+  pub judging-by : (w : ℕ) (o : Outcome Winding) → windingFor b s r n ≡ o → verdictOn b s o w ≡ judging b s r n w
   unfolding judging
-  judging-by w o e = ap (verdictOn b s w) (sym e)
+  judging-by w o e = ap (λ (q : Outcome Winding). verdictOn b s q w) (sym e)
 
   pub judging-judged : (w : ℕ) (v : Winding) (near : List ℕ) → boardFine b ≡ true → stateFine (b .counts) s ≡ true → windingOf n r (partsOf b) ≡ given v → near ≡ neighbours b s
-      → judged near (b .counts .terminals) v w ≡ judging b s r n w
+      → verdictBy near (inSets (b .counts .terminals)) v w ≡ judging b s r n w
   judging-judged w v near fine fits found same =
-      ap (λ (k : List ℕ). judged k (b .counts .terminals) v w) same
+      ap (λ (k : List ℕ). verdictBy k (inSets (b .counts .terminals)) v w) same
       ∙ sym (judged-given (neighbours b s) (b .counts .terminals) v w (fine-range b fine .most-terminals))
       ∙ judging-by w (given v) (judgeable-sought fine fits ∙ found)

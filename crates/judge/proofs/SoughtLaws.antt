@@ -7,7 +7,7 @@ use lib.ListN.{length, getD, take, drop}
 use Rattle.bits.proofs.BoolLaws.{by-test}
 use Rattle.number.specs.Outcomes.{Outcome, given, refused}
 use Rattle.number.specs.Refusals.{noSuchWinding}
-use Rattle.number.proofs.OutcomeLaws.{refused-never, given-same}
+use Rattle.number.proofs.OutcomeLaws.{refused-never, given-injective}
 use Rattle.board.specs.declared.Part.{Part}
 use Rattle.board.specs.Parts.{blank}
 use Rattle.lists.proofs.FirstLaws.{taken-from, taken-past, taken-full}
@@ -56,11 +56,11 @@ module _ (w : Which) (r : ℕ) (l : List Part) (n i : ℕ) (all : Outcome Windin
 
 -- ---- two answers that say the same are one
 
-pub told-sought-once : (x y : Sought) → toldSought x ≡ toldSought y → x ≡ y
-told-sought-once (Between v) (Between w) e = ap Between (given-same v w e)
-told-sought-once (Between v) Nowhere e = absurd (refused-never noSuchWinding 0 v (sym e))
-told-sought-once Nowhere (Between w) e = absurd (refused-never noSuchWinding 0 w e)
-told-sought-once Nowhere Nowhere e = refl
+pub told-sought-injective : (x y : Sought) → toldSought x ≡ toldSought y → x ≡ y
+told-sought-injective (Between v) (Between w) e = ap Between (given-injective v w e)
+told-sought-injective (Between v) Nowhere e = absurd (refused-never noSuchWinding 0 v (sym e))
+told-sought-injective Nowhere (Between w) e = absurd (refused-never noSuchWinding 0 w e)
+told-sought-injective Nowhere Nowhere e = refl
 
 -- what an answer says of the winding
 pub told-between : (x : Sought) (v : Winding) (o : Outcome Winding) → x ≡ Between v → toldSought x ≡ o → o ≡ given v

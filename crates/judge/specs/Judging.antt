@@ -1,6 +1,6 @@
 -- Judging as a call. Rule book, calls: "15, 14, 13, 11, 7, 12, 16, those that apply"; "a refused judgement no verdict, effort 0 and length 0".
---     judgeable b s r n      the winding that is judged: winding n of relay r, after refusals 15, 14, 11
---     verdictOn b s w o      the verdict on it within the allowance w, or the refusal
+--     windingFor b s r n      the winding that is judged: winding n of relay r, after refusals 15, 14, 11
+--     verdictOn b s o w      the verdict on it within the allowance w, or the refusal
 --     judging b s r n w      the call
 use Prim.Native.Nat.{ℕ}
 use Rattle.number.specs.Outcomes.{Outcome, given, refused, _>>=_, _>>_}
@@ -10,18 +10,18 @@ use Rattle.state.specs.declared.State.{State}
 use Rattle.state.specs.States.{usable}
 use Rattle.neighbours.specs.Neighbours.{neighbours}
 use Rattle.search.specs.declared.Winding.{Winding}
-use Rattle.search.specs.Verdicts.{Judgement, judgement, unanswered}
+use Rattle.search.specs.Verdicts.{Verdict, verdictBy, unanswered}
 use Rattle.judge.specs.declared.Which.{Which}
 use Rattle.judge.specs.RelayWindings.{windingOf}
 
-unfoldable pub judgeable : Board → State → ℕ → Which → Outcome Winding
-judgeable b s r n = do
+unfoldable pub windingFor : Board → State → ℕ → Which → Outcome Winding
+windingFor b s r n = do
   usable b s
   windingOf n r (partsOf b)
 
-abbrev pub verdictOn : Board → State → ℕ → Outcome Winding → Judgement
-verdictOn b s w (given v) = judgement (neighbours b s) (b .counts .terminals) v w
-verdictOn b s w (refused n p) = unanswered n p
+abbrev pub verdictOn : Board → State → Outcome Winding → ℕ → Verdict
+verdictOn b s (given v) w = verdictBy (neighbours b s) (b .counts .terminals) v w
+verdictOn b s (refused n p) w = unanswered n p
 
-unfoldable pub judging : Board → State → ℕ → Which → ℕ → Judgement
-judging b s r n w = verdictOn b s w (judgeable b s r n)
+unfoldable pub judging : Board → State → ℕ → Which → ℕ → Verdict
+judging b s r n w = verdictOn b s (windingFor b s r n) w

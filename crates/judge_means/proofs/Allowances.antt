@@ -14,9 +14,9 @@ use Rattle.search.specs.declared.Winding.{Winding}
 use Rattle.search.specs.declared.Verdict.{Verdict}
 use Rattle.search.specs.declared.Finding.the-variants as said
 use Rattle.search.specs.Verdicts.{firstShown, effort, places}
-use Rattle.search.proofs.VerdictLaws.{effort-some, told-verdict-once}
+use Rattle.search.proofs.VerdictLaws.{effort-some, told-verdict-injective}
 use Rattle.judge.specs.declared.Which.{Which}
-use Rattle.judge.specs.Judging.{judgeable}
+use Rattle.judge.specs.Judging.{windingFor}
 use Rattle.judge.proofs.JudgeLaws.{judging-by}
 use Rattle.judge_means.specs.Exactness.{Judges}
 use Rattle.judge_means.specs.Allowances.{Settled, LargerAllowance, TurnsAtEffort, EffortSome}
@@ -62,23 +62,23 @@ settled-turns t cs w x v u (says-undecided under is) also (inr h) = absurd (omeg
 -- ---- over the call
 
 -- a refused call settles nothing
-refused-unsettled : (b : Board) (s : State) (r : ℕ) (n : Which) (w : ℕ) (v : Verdict) (k p : ℕ) → Judges b s r n w v → judgeable b s r n ≡ refused k p → Settled v → ⊥
+refused-unsettled : (b : Board) (s : State) (r : ℕ) (n : Which) (w : ℕ) (v : Verdict) (k p : ℕ) → Judges b s r n w v → windingFor b s r n ≡ refused k p → Settled v → ⊥
 refused-unsettled b s r n w v k p told off settled = unsettled settled
   where
     refusal : Verdict
     refusal = record { finding = said.Refused (record { number = k; place = p }); effort = 0; length = 0; terminals = places [] }
 
     is : v ≡ refusal
-    is = told-verdict-once v refusal (told ∙ sym (judging-by b s r n w (refused k p) off))
+    is = told-verdict-injective v refusal (told ∙ sym (judging-by b s r n w (refused k p) off))
 
     unsettled : Settled v → ⊥
     unsettled (inl h) = omega (arith, ranked v refusal said.Live is h)
     unsettled (inr h) = omega (arith, ranked v refusal said.Dead is h)
 
 call-turns : (b : Board) (s : State) (r : ℕ) (n : Which) (w x : ℕ) (v u : Verdict) → Judges b s r n w v → Judges b s r n x u → Settled v → (v .effort ≤ w) × Turned x v u
-call-turns b s r n w x v u told also settled = by-call (judgeable b s r n) refl
+call-turns b s r n w x v u told also settled = by-call (windingFor b s r n) refl
   where
-    by-call : (o : Outcome Winding) → judgeable b s r n ≡ o → (v .effort ≤ w) × Turned x v u
+    by-call : (o : Outcome Winding) → windingFor b s r n ≡ o → (v .effort ≤ w) × Turned x v u
     by-call (given e) taken = settled-turns _ _ w x v u (judged-says b s r n w e v told taken) (judged-says b s r n x e u also taken) settled
     by-call (refused k p) off = absurd (refused-unsettled b s r n w v k p told off settled)
 

@@ -63,13 +63,13 @@ module _ (b : Board) (s : State) where
       (all-map (λ (k : ℕ × ℕ). Joined b s (k .0) (k .1)) (λ (k : ℕ × ℕ). (k .0 < T) × (k .1 < T)) (λ k j. joined-inside b s (k .0) (k .1) fine (part-joined b s (k .0) (k .1) fine j)) (steps p) linked)
 
   path-linked : (p : List ℕ) → Available b s p → Linked (Joined b s) p
-  path-linked p free = placed-steps (Joined b s) p (λ i h. connected-joined (place p i) (place p (i + 1)) (free .connected i h))
+  path-linked p canFollow = placed-steps (Joined b s) p (λ i h. connected-joined (place p i) (place p (i + 1)) (canFollow .connected i h))
 
   -- neg stands only at the end of a path, because nothing repeats
   path-stops : (p : List ℕ) → AvailablePath b s pos neg p → StopsAtMinus p
   path-stops p path =
-      let free = path .available in
-      placed-steps (λ x y. ¬ (x ≡ minus)) p (λ i h e. free .no-repetition i (length p - 1) (omega arith) (omega (arith, free .long)) (omega arith) (e ∙ sym (path .ends)))
+      let canFollow = path .available in
+      placed-steps (λ x y. ¬ (x ≡ minus)) p (λ i h e. canFollow .no-repetition i (length p - 1) (omega arith) (omega (arith, canFollow .long)) (omega arith) (e ∙ sym (path .ends)))
 
   path-chain : (p : List ℕ) → boardFine b ≡ true → AvailablePath b s pos neg p → IsChain (Joined b s) (b .counts .terminals) p × (ending p ≡ minus)
   path-chain p fine path = (

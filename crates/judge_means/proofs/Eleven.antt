@@ -11,7 +11,7 @@ use Rattle.lists.specs.Members.{_∈_}
 use Rattle.bits.proofs.BoolLaws.{both-true, by-test}
 use Rattle.number.specs.Outcomes.{given, refused}
 use Rattle.number.specs.Refusals.{noSuchWinding}
-use Rattle.number.proofs.OutcomeLaws.{refused-never, given-same}
+use Rattle.number.proofs.OutcomeLaws.{refused-never, given-injective}
 use Rattle.kinds.specs.declared.Kind.{Kind}
 use Rattle.kinds.specs.declared.Kind.the-variants.{Wire, Upper, Lower, Button, Regular, Drawing, Dropping}
 use Rattle.kinds.specs.Kinds.{kindNumber, nameOf}
@@ -180,7 +180,7 @@ pub the-winding : TheWinding
 the-winding b s r n e accepted =
     let answer = judgeable-given b s r n e accepted in
     let f = given-found n r (partsOf b) e (answer .1) in
-    let same = given-same (ends (f .part)) e (sym (f .found) ∙ answer .1) in
+    let same = given-injective (ends (f .part)) e (sym (f .found) ∙ answer .1) in
     record {
       part = f .part;
       on-board = f .among;

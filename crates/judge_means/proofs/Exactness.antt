@@ -19,7 +19,7 @@ use Rattle.board.proofs.FineLaws.{fine-range}
 use Rattle.state.specs.declared.State.{State}
 use Rattle.neighbours.specs.Neighbours.{Joined, joined, neighbours}
 use Rattle.neighbours.proofs.JoinedLaws.{joined-part, part-joined}
-use Rattle.chains.specs.Chains.{Before, InOrder, Shows}
+use Rattle.chains.specs.Chains.{Before, Sorted, Shows}
 use Rattle.chains.specs.ChainList.{Tested, shows}
 use Rattle.chains.proofs.ChainMaps.{chain-related}
 use Rattle.chains.proofs.ChainsCorrect.{chains-correct}
@@ -31,11 +31,11 @@ use Rattle.search.specs.declared.Winding.{Winding}
 use Rattle.search.specs.declared.Verdict.{Verdict}
 use Rattle.search.specs.declared.Finding.{Finding}
 use Rattle.search.specs.declared.Finding.the-variants as said
-use Rattle.search.specs.Verdicts.{firstShown, effort, places, settled, weighed, judgement, toldVerdict}
-use Rattle.search.proofs.VerdictLaws.{weighed-within, weighed-short, FirstAt, first-shown-at, first-shown-some, first-shown-none, effort-none, told-verdict-once}
+use Rattle.search.specs.Verdicts.{firstShown, effort, places, settled, weighed, verdictBy, toldVerdict}
+use Rattle.search.proofs.VerdictLaws.{weighed-within, weighed-short, FirstAt, first-shown-at, first-shown-some, first-shown-none, effort-none, told-verdict-injective}
 use Rattle.judge.specs.declared.Which.{Which}
 use Rattle.judge.proofs.JudgeLaws.{judgeable-given, judging-by}
-use Rattle.judge_means.specs.Exactness.{Judges, Accepted, chainsOf, ChainOf, IsLive, effortOf, TheChains, LiveExactly, DeadExactly, UndecidedExactly, FirstChain, LiveShows, DeadCounts, UndecidedReports, AsPublished}
+use Rattle.judge_means.specs.Exactness.{Judges, AcceptedWinding, chainsOf, ChainOf, IsLive, effortOf, TheChains, LiveExactly, DeadExactly, UndecidedExactly, FirstChain, LiveShows, DeadCounts, UndecidedReports, AsPublished}
 
 -- ---- the list holds exactly the chains
 
@@ -58,8 +58,8 @@ the-chains b s fine = record {
 
 -- ---- what a call is accepted for
 
-judged-weighed : (b : Board) (s : State) (r : ℕ) (n : Which) (w : ℕ) (e : Winding) (v : Verdict) → Judges b s r n w v → Accepted b s r n e → toldVerdict v ≡ weighed (shows (e .a) (e .b)) (chainsOf b s) w
-unfolding judgement
+judged-weighed : (b : Board) (s : State) (r : ℕ) (n : Which) (w : ℕ) (e : Winding) (v : Verdict) → Judges b s r n w v → AcceptedWinding b s r n e → toldVerdict v ≡ weighed (shows (e .a) (e .b)) (chainsOf b s) w
+unfolding verdictBy
 judged-weighed b s r n w e v told taken = told ∙ sym (judging-by b s r n w (given e) taken)
 
 -- ---- the three verdicts by a list of chains
@@ -82,13 +82,13 @@ pub weighed-says : (t : List ℕ → Bool) (cs : List (List ℕ)) (w : ℕ) (v :
 weighed-says t cs w v told =
     by-test (leb (effort t cs) w)
     (λ within. by-first (firstShown t cs) refl (leb-true (effort t cs) w within))
-    (λ short. says-undecided (leb-false (effort t cs) w short) (told-verdict-once v (undecidedVerdict w) (told ∙ weighed-short t cs w (leb-false (effort t cs) w short))))
+    (λ short. says-undecided (leb-false (effort t cs) w short) (told-verdict-injective v (undecidedVerdict w) (told ∙ weighed-short t cs w (leb-false (effort t cs) w short))))
   where
     by-first : (o : Option (List ℕ)) → firstShown t cs ≡ o → effort t cs ≤ w → Says t cs w v
-    by-first (some c) e within = says-live c within e (told-verdict-once v (liveVerdict (effort t cs) c) (told ∙ weighed-within t cs w within ∙ ap (settled (effort t cs)) e))
-    by-first none e within = says-dead within e (told-verdict-once v (deadVerdict (effort t cs)) (told ∙ weighed-within t cs w within ∙ ap (settled (effort t cs)) e))
+    by-first (some c) e within = says-live c within e (told-verdict-injective v (liveVerdict (effort t cs) c) (told ∙ weighed-within t cs w within ∙ ap (settled (effort t cs)) e))
+    by-first none e within = says-dead within e (told-verdict-injective v (deadVerdict (effort t cs)) (told ∙ weighed-within t cs w within ∙ ap (settled (effort t cs)) e))
 
-pub judged-says : (b : Board) (s : State) (r : ℕ) (n : Which) (w : ℕ) (e : Winding) (v : Verdict) → Judges b s r n w v → Accepted b s r n e → Says (shows (e .a) (e .b)) (chainsOf b s) w v
+pub judged-says : (b : Board) (s : State) (r : ℕ) (n : Which) (w : ℕ) (e : Winding) (v : Verdict) → Judges b s r n w v → AcceptedWinding b s r n e → Says (shows (e .a) (e .b)) (chainsOf b s) w v
 judged-says b s r n w e v told taken = weighed-says _ _ w v (judged-weighed b s r n w e v told taken)
 
 -- ---- live and listed are one
@@ -113,13 +113,13 @@ ranked v u f e h = ap rank (sym (ap (λ (x : Verdict). x .finding) e) ∙ h)
 
 -- ---- what stands after a chain in the list comes after it
 
-in-order-after : (k : List (List ℕ)) (c : List ℕ) (l : List (List ℕ)) → InOrder (k ++ (c ∷ l)) → All (Before c) l
+in-order-after : (k : List (List ℕ)) (c : List ℕ) (l : List (List ℕ)) → Sorted (k ++ (c ∷ l)) → All (Before c) l
 in-order-after [] c l h = h .0
 in-order-after (d ∷ k) c l h = in-order-after k c l (h .1)
 
 -- ---- the theorems
 
-module _ (b : Board) (s : State) (r : ℕ) (n : Which) (w : ℕ) (e : Winding) (v : Verdict) (told : Judges b s r n w v) (taken : Accepted b s r n e) where
+module _ (b : Board) (s : State) (r : ℕ) (n : Which) (w : ℕ) (e : Winding) (v : Verdict) (told : Judges b s r n w v) (taken : AcceptedWinding b s r n e) where
   fine : boardFine b ≡ true
   fine = judgeable-given b s r n e taken .0
 
@@ -154,7 +154,7 @@ module _ (b : Board) (s : State) (r : ℕ) (n : Which) (w : ℕ) (e : Winding) (
       place : (d ∈ at .early) ⊎ (d ∈ (c ∷ at .late)) → (d ≡ c) ⊎ Before c d
       place (inl early) = absurd (false≢true (sym (all-member (λ (x : List ℕ). shows (e .a) (e .b) x ≡ false) (at .early) d (at .failed) early) ∙ true-shows (e .a) (e .b) d shows-it))
       place (inr (inl same)) = inl same
-      place (inr (inr late)) = inr (all-member (Before c) (at .late) d (in-order-after (at .early) c (at .late) (subst InOrder (at .split) (chains-sorted (joined (neighbours b s)) (b .counts .terminals)))) late)
+      place (inr (inr late)) = inr (all-member (Before c) (at .late) d (in-order-after (at .early) c (at .late) (subst Sorted (at .split) (chains-sorted (joined (neighbours b s)) (b .counts .terminals)))) late)
 
   shows-first : Says (shows (e .a) (e .b)) (chainsOf b s) w v → v .finding ≡ said.Live → FirstChain b s e v
   shows-first (says-live c within first is) h =

@@ -8,17 +8,17 @@ use mathlib.Core.List.{List, [], _∷_}
 use lib.ListN.{length}
 use Rattle.lists.specs.Members.{_∈_, All, Once}
 use Rattle.lists.proofs.MemberLaws.{all-member, member-all}
-use Rattle.chains.specs.Chains.{plus, minus, steps, ending, endingFrom, Begins}
+use Rattle.chains.specs.Chains.{plus, minus, steps, ending, endingFrom, BeginsAtPlus}
 use Rattle.judge_means.specs.Circuits.{place, PathContainsConnection}
 
 -- ---- members and their places
 
-record Placed (x : ℕ) (p : List ℕ) : Type 0 where
+record PlaceOf (x : ℕ) (p : List ℕ) : Type 0 where
   at : ℕ
   inside : at < length p
   same : place p at ≡ x
 
-member-placed : (x : ℕ) (p : List ℕ) → x ∈ p → Placed x p
+member-placed : (x : ℕ) (p : List ℕ) → x ∈ p → PlaceOf x p
 member-placed x [] m = absurd m
 member-placed x (y ∷ p) (inl e) = record { at = 0; inside = omega arith; same = sym e }
 member-placed x (y ∷ p) (inr m) =
@@ -89,11 +89,11 @@ steps-members P (x ∷ y ∷ z ∷ p) long h = (h .0 .0, steps-members P (y ∷ 
 
 -- ---- the first place and the last
 
-pub begins-place : (p : List ℕ) → Begins p → place p 0 ≡ plus
+pub begins-place : (p : List ℕ) → BeginsAtPlus p → place p 0 ≡ plus
 begins-place [] h = refl
 begins-place (x ∷ p) h = h
 
-pub place-begins : (p : List ℕ) → 2 ≤ length p → place p 0 ≡ plus → Begins p
+pub place-begins : (p : List ℕ) → 2 ≤ length p → place p 0 ≡ plus → BeginsAtPlus p
 place-begins [] long h = omega arith
 place-begins (x ∷ p) long h = h
 
@@ -108,7 +108,7 @@ ending-place (x ∷ p) =
     rw last (ending-from-place x p)
 
 -- from plus to minus there is at least one step
-pub apart-long : (p : List ℕ) → Begins p → ending p ≡ minus → 2 ≤ length p
+pub apart-long : (p : List ℕ) → BeginsAtPlus p → ending p ≡ minus → 2 ≤ length p
 apart-long [] begins ends = absurd begins
 apart-long (x ∷ []) begins ends = absurd (omega arith)
 apart-long (x ∷ y ∷ p) begins ends = omega arith

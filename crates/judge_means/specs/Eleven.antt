@@ -19,15 +19,15 @@ use Rattle.search.specs.declared.Winding.{Winding}
 use Rattle.judge.specs.declared.Which.{Which}
 use Rattle.judge.specs.declared.Which.the-variants.{Second}
 use Rattle.judge.specs.RelayWindings.{isWinding}
-use Rattle.judge.specs.Judging.{judgeable}
-use Rattle.judge_means.specs.Exactness.{Accepted}
+use Rattle.judge.specs.Judging.{windingFor}
+use Rattle.judge_means.specs.Exactness.{AcceptedWinding}
 
 abbrev pub ElevenExactly : Type 0
 ElevenExactly =
     (b : Board) (s : State) (r : ℕ) (n : Which)
     → boardFine b ≡ true
     → stateFine (b .counts) s ≡ true
-    → judgeable b s r n ≡ refused noSuchWinding 0 ↔ (b .counts .relays ≤ r) ⊎ ((n ≡ Second) × isRegular r (partsOf b))
+    → windingFor b s r n ≡ refused noSuchWinding 0 ↔ (b .counts .relays ≤ r) ⊎ ((n ≡ Second) × isRegular r (partsOf b))
 
 -- e is winding n of relay r on board b, and no other part is
 pub record ItsWinding (b : Board) (r : ℕ) (n : Which) (e : Winding) : Type 0 where
@@ -38,4 +38,4 @@ pub record ItsWinding (b : Board) (r : ℕ) (n : Which) (e : Winding) : Type 0 w
   pub only : (p : Part) → p ∈ partsOf b → isWinding n r (p .kind) ≡ true → p ≡ part
 
 abbrev pub TheWinding : Type 0
-TheWinding = (b : Board) (s : State) (r : ℕ) (n : Which) (e : Winding) → Accepted b s r n e → ItsWinding b r n e
+TheWinding = (b : Board) (s : State) (r : ℕ) (n : Which) (e : Winding) → AcceptedWinding b s r n e → ItsWinding b r n e

@@ -1,6 +1,6 @@
 -- What live, dead and undecided mean, stated over the call `judge::judge`: whatever it answers under its promise. Rule book: "Live, with the first such chain shown, exactly if the winding is live and its effort is at most W. Dead exactly if it is dead and its effort is at most W. Undecided otherwise."
 --     Judges b s r n w v     `judge` was called on board b, state s, winding n of relay r and allowance w, and answered v
---     Accepted b s r n e     the call is not refused, and e is the winding judged
+--     AcceptedWinding b s r n e     the call is not refused, and e is the winding judged
 --     chainsOf b s           the list of all chains of board b in state s
 --     TheChains              that list holds exactly the rule book's chains, in dictionary order, each once
 --     IsLive b s e           "A winding between a and b is live if some chain ends at 1 and has a and b side by side, in either order"
@@ -22,7 +22,7 @@ use Rattle.board.specs.declared.Board.{Board}
 use Rattle.board.specs.Rules.{boardFine}
 use Rattle.state.specs.declared.State.{State}
 use Rattle.neighbours.specs.Neighbours.{Joined, joined, neighbours}
-use Rattle.chains.specs.Chains.{IsChain, Before, InOrder, Shows, Live}
+use Rattle.chains.specs.Chains.{IsChain, Before, Sorted, Shows, Live}
 use Rattle.chains.specs.ChainList.{chains, shows}
 use Rattle.judge_means.specs.Circuits.{WindingCarries}
 use Rattle.search.specs.declared.Winding.{Winding}
@@ -30,13 +30,13 @@ use Rattle.search.specs.declared.Verdict.{Verdict}
 use Rattle.search.specs.declared.Finding.the-variants as said
 use Rattle.search.specs.Verdicts.{effort, places, toldVerdict}
 use Rattle.judge.specs.declared.Which.{Which}
-use Rattle.judge.specs.Judging.{judgeable, judging}
+use Rattle.judge.specs.Judging.{windingFor, judging}
 
 abbrev pub Judges : Board → State → ℕ → Which → ℕ → Verdict → Type 0
 Judges b s r n w v = toldVerdict v ≡ judging b s r n w
 
-abbrev pub Accepted : Board → State → ℕ → Which → Winding → Type 0
-Accepted b s r n e = judgeable b s r n ≡ given e
+abbrev pub AcceptedWinding : Board → State → ℕ → Which → Winding → Type 0
+AcceptedWinding b s r n e = windingFor b s r n ≡ given e
 
 abbrev pub chainsOf : Board → State → List (List ℕ)
 chainsOf b s = chains (joined (neighbours b s)) (b .counts .terminals)
@@ -52,7 +52,7 @@ effortOf b s e = effort (shows (e .a) (e .b)) (chainsOf b s)
 
 pub record AllChains (b : Board) (s : State) : Type 0 where
   pub exactly : (c : List ℕ) → c ∈ chainsOf b s ↔ ChainOf b s c
-  pub ordered : InOrder (chainsOf b s)
+  pub ordered : Sorted (chainsOf b s)
   pub once : Once (chainsOf b s)
 
 abbrev pub TheChains : Type 0
@@ -62,21 +62,21 @@ abbrev pub LiveExactly : Type 0
 LiveExactly =
     (b : Board) (s : State) (r : ℕ) (n : Which) (w : ℕ) (e : Winding) (v : Verdict)
     → Judges b s r n w v
-    → Accepted b s r n e
+    → AcceptedWinding b s r n e
     → v .finding ≡ said.Live ↔ IsLive b s e × (effortOf b s e ≤ w)
 
 abbrev pub DeadExactly : Type 0
 DeadExactly =
     (b : Board) (s : State) (r : ℕ) (n : Which) (w : ℕ) (e : Winding) (v : Verdict)
     → Judges b s r n w v
-    → Accepted b s r n e
+    → AcceptedWinding b s r n e
     → v .finding ≡ said.Dead ↔ ¬ (IsLive b s e) × (effortOf b s e ≤ w)
 
 abbrev pub UndecidedExactly : Type 0
 UndecidedExactly =
     (b : Board) (s : State) (r : ℕ) (n : Which) (w : ℕ) (e : Winding) (v : Verdict)
     → Judges b s r n w v
-    → Accepted b s r n e
+    → AcceptedWinding b s r n e
     → v .finding ≡ said.Undecided ↔ w < effortOf b s e
 
 -- what a live verdict v on winding e shows: the first chain that shows it, and how many chains there are up to it
@@ -96,7 +96,7 @@ abbrev pub LiveShows : Type 0
 LiveShows =
     (b : Board) (s : State) (r : ℕ) (n : Which) (w : ℕ) (e : Winding) (v : Verdict)
     → Judges b s r n w v
-    → Accepted b s r n e
+    → AcceptedWinding b s r n e
     → v .finding ≡ said.Live
     → FirstChain b s e v
 
@@ -104,7 +104,7 @@ abbrev pub DeadCounts : Type 0
 DeadCounts =
     (b : Board) (s : State) (r : ℕ) (n : Which) (w : ℕ) (e : Winding) (v : Verdict)
     → Judges b s r n w v
-    → Accepted b s r n e
+    → AcceptedWinding b s r n e
     → v .finding ≡ said.Dead
     → (v .effort ≡ length (chainsOf b s)) × ((v .length ≡ 0) × (v .terminals ≡ places []))
 
@@ -112,7 +112,7 @@ abbrev pub UndecidedReports : Type 0
 UndecidedReports =
     (b : Board) (s : State) (r : ℕ) (n : Which) (w : ℕ) (e : Winding) (v : Verdict)
     → Judges b s r n w v
-    → Accepted b s r n e
+    → AcceptedWinding b s r n e
     → v .finding ≡ said.Undecided
     → (v .effort ≡ w) × ((v .length ≡ 0) × (v .terminals ≡ places []))
 
@@ -120,5 +120,5 @@ abbrev pub AsPublished : Type 0
 AsPublished =
     (b : Board) (s : State) (r : ℕ) (n : Which) (w : ℕ) (e : Winding) (v : Verdict)
     → Judges b s r n w v
-    → Accepted b s r n e
+    → AcceptedWinding b s r n e
     → (v .finding ≡ said.Live → WindingCarries b s (e .a) (e .b)) × (v .finding ≡ said.Dead → ¬ (WindingCarries b s (e .a) (e .b)))

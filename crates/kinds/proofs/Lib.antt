@@ -1,3 +1,2 @@
 -- The laws, by subject.
 pub mod KindLaws
-pub mod Once

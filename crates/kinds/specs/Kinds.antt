@@ -1,7 +1,9 @@
 -- What a kind of part is. Rule book, "Parts of a board": the table of kinds.
 --     kindNumber k      the number of a kind in the rule book's table
 --     nameOf k          the relay or button that a kind carries; 0 for a wire, which carries none
---     kindOf k n        the kind of number k that carries n
+--     kindOf k n        the kind of number k that carries n; above the last kind there is none (4), and n is a dropping winding's
+--     buttonKind, regularKind, drawingKind, droppingKind    the numbers of the kinds that rules speak of
+--     lastKind          the highest kind number
 use Prim.Native.Nat.{ℕ}
 use mathlib.Core.Bool.{cond}
 use lib.Dec.{eqb}
@@ -25,6 +27,21 @@ nameOf (Button b) = b
 nameOf (Regular r) = r
 nameOf (Drawing r) = r
 nameOf (Dropping r) = r
+
+abbrev pub buttonKind : ℕ
+buttonKind = 3
+
+abbrev pub regularKind : ℕ
+regularKind = 4
+
+abbrev pub drawingKind : ℕ
+drawingKind = 5
+
+abbrev pub droppingKind : ℕ
+droppingKind = 6
+
+abbrev pub lastKind : ℕ
+lastKind = droppingKind
 
 unfoldable pub kindOf : ℕ → ℕ → Kind
 kindOf k n =

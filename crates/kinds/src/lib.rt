@@ -1,6 +1,6 @@
 // What a kind of part is, with its number and the relay or button that it carries.
 ghost use mathlib.Core.Path.{_≡_};
-ghost use Rattle.kinds.specs.Kinds.{kindNumber, nameOf};
+ghost use Rattle.kinds.specs.Kinds.{kindNumber, nameOf, kindOf};
 
 // The kinds of part in the order of the rule book's table, each with its relay or button.
 pub enum Kind {
@@ -13,7 +13,27 @@ pub enum Kind {
     Dropping(u8),
 }
 
+// The number of the kind that carries a button, and the highest kind number.
+pub const BUTTON_KIND: u32 = 3;
+
+pub const LAST_KIND: u32 = 6;
+
 impl Kind {
+    // The kind of this number, up to 6, that carries a relay or button.
+    pub fn of(number: u32, name: u8) -> Self
+        ensures { λ r. ⌜ r ≡ kindOf number name ⌝ }
+    {
+        match number {
+            0 => Kind::Wire,
+            1 => Kind::Upper(name),
+            2 => Kind::Lower(name),
+            3 => Kind::Button(name),
+            4 => Kind::Regular(name),
+            5 => Kind::Drawing(name),
+            _ => Kind::Dropping(name),
+        }
+    }
+
     // The kind's number in the rule book's table.
     pub fn number(self) -> u32
         ensures { λ r. ⌜ r ≡ kindNumber self ⌝ }

@@ -16,14 +16,14 @@ use Rattle.number.specs.declared.Refusal.{Refusal}
 use Rattle.number.specs.Outcomes.{Outcome, given, refused}
 use Rattle.number.specs.Refusals.{bufferTooShort}
 use Rattle.number.proofs.Buffers.{sets-at-zero}
-use Rattle.runs.specs.declared.Word.{Word}
-use Rattle.runs.specs.declared.Word.the-variants.{Idle, Spent, Undecided, Conflict, Refused}
+use Rattle.runs.specs.declared.Ending as code-ending
+use Rattle.runs.specs.declared.Ending.the-variants.{Idle, Spent, Undecided, Conflict, Refused}
 use Rattle.runs.specs.Looks.{Ending, idle, spent, undecided, conflict}
-use Rattle.runs.specs.Running.{toldWord}
-use Rattle.runs.proofs.Word.{the-type}
+use Rattle.runs.specs.Running.{toldEnding}
+use Rattle.runs.proofs.Ending.{the-type}
 use Rattle.lines.specs.Texts.{decimal, spaced, ended, refusedText, wordText, mostDigits}
 use Rattle.lines.specs.Lines.{Line, event, closing, lineText, longestLine, lineWriting}
-use Rattle.lines.specs.Pieces.{Put, after}
+use Rattle.lines.specs.Pieces.{Put, endedBy}
 use Rattle.lines.proofs.DecimalLaws.{decimal-few}
 use Rattle.lines.proofs.PieceLaws.{put-room, put-next}
 
@@ -76,7 +76,7 @@ line-put l out room put =
 
 -- ---- an event's line, piece by piece: its number, the word, and the fields behind
 
-number-few : (n c : ℕ) → length (after (decimal n) c) ≤ 21
+number-few : (n c : ℕ) → length (endedBy (decimal n) c) ≤ 21
 number-few n c = simp length-append (omega (arith, decimal-few n))
 
 below-four : (t : ℕ) → OneOf (0 ∷ 1 ∷ 2 ∷ 3 ∷ []) t → t < 4
@@ -86,8 +86,8 @@ below-four t (inr (inr (inl e))) = omega arith
 below-four t (inr (inr (inr e))) = omega arith
 
 -- a run that was not refused, by the tag of its word
-event-text : (e m d : ℕ) (w : Word) → OneOf (0 ∷ 1 ∷ 2 ∷ 3 ∷ []) (tagOf the-type w)
-    → spaced (decimal e) ++ spaced (wordText (toldWord w)) ++ spaced (decimal m) ++ ended (decimal d) ≡ lineText (event e (toldWord w) m d)
+event-text : (e m d : ℕ) (w : code-ending.Ending) → OneOf (0 ∷ 1 ∷ 2 ∷ 3 ∷ []) (tagOf the-type w)
+    → spaced (decimal e) ++ spaced (wordText (toldEnding w)) ++ spaced (decimal m) ++ ended (decimal d) ≡ lineText (event e (toldEnding w) m d)
 unfolding lineText
 event-text e m d Idle ran = refl
 event-text e m d Spent ran = refl
@@ -95,23 +95,23 @@ event-text e m d Undecided ran = refl
 event-text e m d Conflict ran = refl
 event-text e m d (Refused r) ran = absurd (omega (arith, below-four 4 ran))
 
-module _ (e m d : ℕ) (w : Word) (out : List ℕ) (room : longestLine ≤ length out) {at₁ : ℕ} {out₁ : List ℕ} (first : Put out 0 (spaced (decimal e)) at₁ out₁) where
+module _ (e m d : ℕ) (w : code-ending.Ending) (out : List ℕ) (room : longestLine ≤ length out) {at₁ : ℕ} {out₁ : List ℕ} (first : Put out 0 (spaced (decimal e)) at₁ out₁) where
   pub word-room : at₁ + 10 ≤ length out₁
   word-room = put-room out 0 (spaced (decimal e)) first 21 10 (number-few e 32) (omega arith)
 
-  module _ {at₂ : ℕ} {out₂ : List ℕ} (second : Put out₁ at₁ (spaced (wordText (toldWord w))) at₂ out₂) where
-    both : Put out 0 (spaced (decimal e) ++ spaced (wordText (toldWord w))) at₂ out₂
-    both = put-next out 0 (spaced (decimal e)) first (spaced (wordText (toldWord w))) second
+  module _ {at₂ : ℕ} {out₂ : List ℕ} (second : Put out₁ at₁ (spaced (wordText (toldEnding w))) at₂ out₂) where
+    both : Put out 0 (spaced (decimal e) ++ spaced (wordText (toldEnding w))) at₂ out₂
+    both = put-next out 0 (spaced (decimal e)) first (spaced (wordText (toldEnding w))) second
 
     both-room : at₂ + 42 ≤ length out₂
-    both-room = put-room out 0 (spaced (decimal e) ++ spaced (wordText (toldWord w))) both 31 42 (simp length-append (omega (arith, decimal-few e, word-few (toldWord w)))) (omega arith)
+    both-room = put-room out 0 (spaced (decimal e) ++ spaced (wordText (toldEnding w))) both 31 42 (simp length-append (omega (arith, decimal-few e, word-few (toldEnding w)))) (omega arith)
 
     pub field-room : at₂ + mostDigits < length out₂
     field-room = omega (arith, both-room)
 
     -- a refused event has one field more
     pub event-refused : {r : Refusal} {at₃ : ℕ} {out₃ : List ℕ} → w ≡ Refused r → Put out₂ at₂ (ended (decimal (r .number))) at₃ out₃
-        → Put out 0 (lineText (event e (toldWord w) m d)) at₃ out₃
+        → Put out 0 (lineText (event e (toldEnding w) m d)) at₃ out₃
     unfolding lineText
     event-refused {r} is third = rw is (put-next out 0 (spaced (decimal e) ++ spaced refusedText) (rw is at both) (ended (decimal (r .number))) third)
 
@@ -121,8 +121,8 @@ module _ (e m d : ℕ) (w : Word) (out : List ℕ) (room : longestLine ≤ lengt
       drawn-room = omega (arith, put-room out₂ at₂ (spaced (decimal m)) third 21 21 (number-few m 32) both-room)
 
       pub event-ran : {at₄ : ℕ} {out₄ : List ℕ} → OneOf (0 ∷ 1 ∷ 2 ∷ 3 ∷ []) (tagOf the-type w) → Put out₃ at₃ (ended (decimal d)) at₄ out₄
-          → Put out 0 (lineText (event e (toldWord w) m d)) at₄ out₄
-      event-ran {at₄} {out₄} ran fourth = rw (← event-text e m d w ran) (put-next out 0 (spaced (decimal e) ++ spaced (wordText (toldWord w)) ++ spaced (decimal m)) (put-next out 0 (spaced (decimal e) ++ spaced (wordText (toldWord w))) both (spaced (decimal m)) third) (ended (decimal d)) fourth)
+          → Put out 0 (lineText (event e (toldEnding w) m d)) at₄ out₄
+      event-ran {at₄} {out₄} ran fourth = rw (← event-text e m d w ran) (put-next out 0 (spaced (decimal e) ++ spaced (wordText (toldEnding w)) ++ spaced (decimal m)) (put-next out 0 (spaced (decimal e) ++ spaced (wordText (toldEnding w))) both (spaced (decimal m)) third) (ended (decimal d)) fourth)
 
 -- ---- the line that ends a session, piece by piece
 

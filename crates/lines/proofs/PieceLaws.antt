@@ -8,7 +8,7 @@ use lib.ListN.{length, getD, take, set, length-append}
 use lib.Seq.{sets, length-sets, length-take-le, take-all, take-suc}
 use Rattle.number.proofs.Buffers.{sets-append}
 use Rattle.lines.specs.Texts.{digit, mostDigits, decimal}
-use Rattle.lines.specs.Pieces.{Put, after}
+use Rattle.lines.specs.Pieces.{Put, endedBy}
 use Rattle.lines.proofs.DecimalLaws.{decimal-few, decimal-some, decimal-one, decimal-more}
 
 module _ (out : List ℕ) (at : ℕ) (x : List ℕ) {r : ℕ} {out′ : List ℕ} (first : Put out at x r out′) where
@@ -26,7 +26,7 @@ module _ (out : List ℕ) (at : ℕ) (x : List ℕ) {r : ℕ} {out′ : List ℕ
       (omega (arith, first .0, next .0, length-append x y), next .1 ∙ ap₂ (λ (o : List ℕ) (i : ℕ). sets o i y) (first .1) (first .0) ∙ sets-append out at x y)
 
   -- one byte put there
-  pub put-after : (c : ℕ) → Put out at (after x c) (r + 1) (set out′ r c)
+  pub put-after : (c : ℕ) → Put out at (endedBy x c) (r + 1) (set out′ r c)
   put-after c = put-next (c ∷ []) (refl, refl)
 
 -- ---- some bytes, one by one: the first i of them are put

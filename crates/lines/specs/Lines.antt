@@ -4,7 +4,7 @@
 --     lineText               a line as text, with its line end
 --     longestLine            the room that a line's buffer must have
 --     lineWriting l out      what writing the line l into the buffer `out` answers, and the buffer afterwards: "Written bytes begin the buffer; the rest stays"
---     toldLine, toldLength   a line and an answer in the rule book's words and numbers
+--     toldLine, toldLineWritten   a line and an answer in the rule book's words and numbers
 use Prim.Native.Nat.{ℕ}
 use mathlib.Core.Bool.{cond}
 use mathlib.Core.List.{List, _++_}
@@ -13,7 +13,7 @@ use lib.ListN.{length, drop}
 use Rattle.number.specs.Outcomes.{Outcome, given, refused}
 use Rattle.number.specs.Refusals.{bufferTooShort}
 use Rattle.runs.specs.Looks.{Ending}
-use Rattle.runs.specs.Running.{toldWord}
+use Rattle.runs.specs.Running.{toldEnding}
 use Rattle.lines.specs.declared.Line as code
 use Rattle.lines.specs.declared.Line.the-variants.{Event, Closing}
 use Rattle.lines.specs.declared.LineWritten.{LineWritten}
@@ -39,9 +39,9 @@ lineWriting l out =
     (refused bufferTooShort 0, out)
 
 abbrev pub toldLine : code.Line → Line
-toldLine (Event e w m d) = event e (toldWord w) m d
+toldLine (Event e w m d) = event e (toldEnding w) m d
 toldLine (Closing r) = closing (r .number) (r .place)
 
-abbrev pub toldLength : LineWritten → Outcome ℕ
-toldLength (Length n) = given n
-toldLength (Refused r) = refused (r .number) (r .place)
+abbrev pub toldLineWritten : LineWritten → Outcome ℕ
+toldLineWritten (Length n) = given n
+toldLineWritten (Refused r) = refused (r .number) (r .place)

@@ -3,10 +3,10 @@ ghost use mathlib.Core.Path.{_≡_};
 ghost use mathlib.Core.List.{List};
 ghost use Prim.Native.Nat.{ℕ};
 ghost use Rattle.number.specs.Outcomes.{Outcome};
-ghost use Rattle.lines.specs.Lines.{toldLine, lineWriting, toldLength};
+ghost use Rattle.lines.specs.Lines.{toldLine, lineWriting, toldLineWritten};
 use number::BUFFER_TOO_SHORT;
 use number::Refusal;
-use runs::Word;
+use runs::Ending;
 
 mod text;
 
@@ -15,7 +15,7 @@ pub const LONGEST_LINE: usize = 73;
 
 // A line: an event with its number, the run's word, its moves and the drawn relays; or the refusal that ends a session.
 pub enum Line {
-    Event(usize, Word, usize, u64),
+    Event(usize, Ending, usize, u64),
     Closing(Refusal),
 }
 
@@ -27,7 +27,7 @@ pub enum LineWritten {
 
 // Writes a line at the start of a buffer: 16 if the longest line has no room there.
 pub fn write_line(line: Line, out: &mut [u8]) -> LineWritten
-    ensures { λ r. ⌜ _≡_ {A = Outcome ℕ × List ℕ} (toldLength r, now (out .exit)) (lineWriting (toldLine line) (now (out .entry))) ⌝ }
+    ensures { λ r. ⌜ _≡_ {A = Outcome ℕ × List ℕ} (toldLineWritten r, now (out .exit)) (lineWriting (toldLine line) (now (out .entry))) ⌝ }
 {
     if out.len() < LONGEST_LINE {
         return LineWritten::Refused(Refusal {

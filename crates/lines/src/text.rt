@@ -1,12 +1,12 @@
 // The pieces of a line: words, numbers and what stands between them, written into a buffer that has room for them.
 ghost use Prim.Native.Nat.{_+_, _≤_, _<_};
 ghost use lib.ListN.{length};
-ghost use Rattle.runs.specs.Running.{toldWord};
+ghost use Rattle.runs.specs.Running.{toldEnding};
 ghost use Rattle.lines.specs.Texts.{decimal, mostDigits, spaced, wordText};
 ghost use Rattle.lines.specs.Lines.{event, closing, lineText, longestLine};
-ghost use Rattle.lines.specs.Pieces.{Put, after};
+ghost use Rattle.lines.specs.Pieces.{Put, endedBy};
 use number::Refusal;
-use runs::Word;
+use runs::Ending;
 
 const SPACE: u8 = 32;
 
@@ -44,7 +44,7 @@ fn put_digits(value: u64, out: &mut [u8], at: usize) -> usize
 // Writes a number and the byte after it at a place, and gives the next place.
 fn put_number(value: u64, then: u8, out: &mut [u8], at: usize) -> usize
     requires { ⌜ at + mostDigits < length (now out) ⌝ }
-    ensures { λ r. ⌜ Put (now (out .entry)) at (after (decimal value) then) r (now (out .exit)) ⌝ }
+    ensures { λ r. ⌜ Put (now (out .entry)) at (endedBy (decimal value) then) r (now (out .exit)) ⌝ }
 {
     let end = put_digits(value, out, at);
     out[end] = then;
@@ -52,27 +52,27 @@ fn put_number(value: u64, then: u8, out: &mut [u8], at: usize) -> usize
 }
 
 // Writes a run's word and a space at a place, and gives the next place.
-fn put_word(word: Word, out: &mut [u8], at: usize) -> usize
+fn put_word(word: Ending, out: &mut [u8], at: usize) -> usize
     requires { ⌜ at + 10 ≤ length (now out) ⌝ }
-    ensures { λ r. ⌜ Put (now (out .entry)) at (spaced (wordText (toldWord word))) r (now (out .exit)) ⌝ }
+    ensures { λ r. ⌜ Put (now (out .entry)) at (spaced (wordText (toldEnding word))) r (now (out .exit)) ⌝ }
 {
     match word {
-        Word::Idle => put(b"idle ", out, at),
-        Word::Spent => put(b"spent ", out, at),
-        Word::Undecided => put(b"undecided ", out, at),
-        Word::Conflict => put(b"conflict ", out, at),
-        Word::Refused(_) => put(b"refused ", out, at),
+        Ending::Idle => put(b"idle ", out, at),
+        Ending::Spent => put(b"spent ", out, at),
+        Ending::Undecided => put(b"undecided ", out, at),
+        Ending::Conflict => put(b"conflict ", out, at),
+        Ending::Refused(_) => put(b"refused ", out, at),
     }
 }
 
 // Writes the line of an event, and gives its length.
-pub fn put_event(number: usize, word: Word, moves: usize, drawn: u64, out: &mut [u8]) -> usize
+pub fn put_event(number: usize, word: Ending, moves: usize, drawn: u64, out: &mut [u8]) -> usize
     requires { ⌜ longestLine ≤ length (now out) ⌝ }
-    ensures { λ r. ⌜ Put (now (out .entry)) 0 (lineText (event number (toldWord word) moves drawn)) r (now (out .exit)) ⌝ }
+    ensures { λ r. ⌜ Put (now (out .entry)) 0 (lineText (event number (toldEnding word) moves drawn)) r (now (out .exit)) ⌝ }
 {
     let word_at = put_number(number as u64, SPACE, out, 0);
     let next = put_word(word, out, word_at);
-    if let Word::Refused(refusal) = word {
+    if let Ending::Refused(refusal) = word {
         put_number(refusal.number as u64, NEWLINE, out, next)
     } else {
         let drawn_at = put_number(moves as u64, SPACE, out, next);

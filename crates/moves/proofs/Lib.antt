@@ -2,4 +2,3 @@
 pub mod MotionLaws
 pub mod StepLaws
 pub mod MovingLaws
-pub mod Once

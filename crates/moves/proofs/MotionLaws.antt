@@ -8,32 +8,32 @@ use Rattle.moves.specs.Steps.{drew, dropped, rests, undecided, conflict,
 
 -- ---- a regular relay
 
-pub regular-undecided : (d : Bool) (x : Outcome verdict.Word) → isUndecided x ≡ true → undecided ≡ regularMove d x
+pub regular-undecided : (d : Bool) (x : Outcome verdict.Finding) → isUndecided x ≡ true → undecided ≡ regularMove d x
 unfolding regularMove
 regular-undecided d x u = rw u refl
 
-pub regular-live : (d : Bool) (x : Outcome verdict.Word) → isUndecided x ≡ false → isLive x ≡ true → cond d rests drew ≡ regularMove d x
+pub regular-live : (d : Bool) (x : Outcome verdict.Finding) → isUndecided x ≡ false → isLive x ≡ true → cond d rests drew ≡ regularMove d x
 unfolding regularMove
 regular-live true x u l = rw (u, l) refl
 regular-live false x u l = rw (u, l) refl
 
-pub regular-dead : (d : Bool) (x : Outcome verdict.Word) → isUndecided x ≡ false → isLive x ≡ false → cond d dropped rests ≡ regularMove d x
+pub regular-dead : (d : Bool) (x : Outcome verdict.Finding) → isUndecided x ≡ false → isLive x ≡ false → cond d dropped rests ≡ regularMove d x
 unfolding regularMove
 regular-dead true x u l = rw (u, l) refl
 regular-dead false x u l = rw (u, l) refl
 
 -- ---- a steel relay
 
-pub steel-undecided : (d : Bool) (x y : Outcome verdict.Word) → isUndecided x ≡ true → undecided ≡ steelMove d x y
+pub steel-undecided : (d : Bool) (x y : Outcome verdict.Finding) → isUndecided x ≡ true → undecided ≡ steelMove d x y
 unfolding steelMove
 steel-undecided d x y u = rw u refl
 
-pub steel-undecided-second : (d : Bool) (x y : Outcome verdict.Word) → isUndecided x ≡ false → isUndecided y ≡ true → undecided ≡ steelMove d x y
+pub steel-undecided-second : (d : Bool) (x y : Outcome verdict.Finding) → isUndecided x ≡ false → isUndecided y ≡ true → undecided ≡ steelMove d x y
 unfolding steelMove
 steel-undecided-second d x y u v = rw (u, v) refl
 
 -- x and y are settled
-module _ (x y : Outcome verdict.Word) (u : isUndecided x ≡ false) (v : isUndecided y ≡ false) where
+module _ (x y : Outcome verdict.Finding) (u : isUndecided x ≡ false) (v : isUndecided y ≡ false) where
   pub steel-conflict : (d : Bool) → (isLive x && isLive y) ≡ true → conflict ≡ steelMove d x y
   unfolding steelMove
   steel-conflict d both = simp (u, v, both)
@@ -55,7 +55,7 @@ module _ (x y : Outcome verdict.Word) (u : isUndecided x ≡ false) (v : isUndec
 
 -- ---- either sort
 
-module _ (d : Bool) (x y : Outcome verdict.Word) where
+module _ (d : Bool) (x y : Outcome verdict.Finding) where
   pub move-missing : isMissing x ≡ true → moveBy d x y ≡ rests
   unfolding moveBy
   move-missing m = rw m refl
@@ -70,21 +70,21 @@ module _ (d : Bool) (x y : Outcome verdict.Word) where
 
 -- ---- a word that is undecided makes the relay undecided, unless the board lacks it
 
-undecided-first : (d : Bool) (y : Outcome verdict.Word) → moveBy d (given verdict.undecided) y ≡ undecided
+undecided-first : (d : Bool) (y : Outcome verdict.Finding) → moveBy d (given verdict.undecided) y ≡ undecided
 undecided-first d (given y) = move-steel d (given verdict.undecided) (given y) refl refl ∙ sym (steel-undecided d (given verdict.undecided) (given y) refl)
 undecided-first d (refused n p) = move-regular d (given verdict.undecided) (refused n p) refl refl ∙ sym (regular-undecided d (given verdict.undecided) refl)
 
-undecided-second : (d : Bool) (x : verdict.Word) → moveBy d (given x) (given verdict.undecided) ≡ undecided
+undecided-second : (d : Bool) (x : verdict.Finding) → moveBy d (given x) (given verdict.undecided) ≡ undecided
 undecided-second d verdict.live = move-steel d _ _ refl refl ∙ sym (steel-undecided-second d _ _ refl refl)
 undecided-second d verdict.dead = move-steel d _ _ refl refl ∙ sym (steel-undecided-second d _ _ refl refl)
 undecided-second d verdict.undecided = undecided-first d (given verdict.undecided)
 
 -- x is undecided or the same as u, and so y and v: then what the relay comes to is undecided or the same
-pub move-larger : (d : Bool) (x u y v : Outcome verdict.Word)
+pub move-larger : (d : Bool) (x u y v : Outcome verdict.Finding)
     → (x ≡ given verdict.undecided) ⊎ (u ≡ x)
     → (y ≡ given verdict.undecided) ⊎ (v ≡ y)
     → (moveBy d x y ≡ undecided) ⊎ (moveBy d u v ≡ moveBy d x y)
-move-larger d x u y v (inl e) k = inl (ap (λ (z : Outcome verdict.Word). moveBy d z y) e ∙ undecided-first d y)
+move-larger d x u y v (inl e) k = inl (ap (λ (z : Outcome verdict.Finding). moveBy d z y) e ∙ undecided-first d y)
 move-larger d x u y v (inr e) (inr k) = inr (cc (e, k))
 move-larger d (given x) u y v (inr e) (inl k) = inl (ap (moveBy d (given x)) k ∙ undecided-second d x)
-move-larger d (refused n p) u y v (inr e) (inl k) = inr (ap (λ (z : Outcome verdict.Word). moveBy d z v) e ∙ move-missing d (refused n p) v refl ∙ sym (move-missing d (refused n p) y refl))
+move-larger d (refused n p) u y v (inr e) (inl k) = inr (ap (λ (z : Outcome verdict.Finding). moveBy d z v) e ∙ move-missing d (refused n p) v refl ∙ sym (move-missing d (refused n p) y refl))

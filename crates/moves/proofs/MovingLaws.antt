@@ -12,13 +12,13 @@ use Rattle.board.specs.Rules.{boardFine}
 use Rattle.state.specs.declared.State.{State}
 use Rattle.state.specs.States.{stateFine, usable, left}
 use Rattle.state.proofs.StateLaws.{usable-given}
-use Rattle.moves.specs.declared.Motion.{Motion}
-use Rattle.moves.specs.declared.Motion.the-variants.{Drew, Dropped, Rests, Undecided, Conflict}
-use Rattle.moves.specs.declared.Answer.{Answer}
-use Rattle.moves.specs.declared.Answer.the-variants.{Says, Refused}
+use Rattle.moves.specs.declared.Move as code-move
+use Rattle.moves.specs.declared.Move.the-variants.{Drew, Dropped, Rests, Undecided, Conflict}
+use Rattle.moves.specs.declared.MoveAnswer.{MoveAnswer}
+use Rattle.moves.specs.declared.MoveAnswer.the-variants.{Says, Refused}
 use Rattle.moves.specs.declared.Moved.{Moved}
-use Rattle.moves.specs.Steps.{Move, stepOf, made, toldMotion}
-use Rattle.moves.specs.Moving.{movable, moving, toldAnswer, toldMoved}
+use Rattle.moves.specs.Steps.{Move, stepOf, made, toldMove}
+use Rattle.moves.specs.Moving.{movable, moving, toldMoveAnswer, toldMoved}
 
 module _ (b : Board) (s : State) (r : ℕ) where
   pub movable-unusable : (k p : ℕ) → usable b s ≡ refused k p → movable b s r ≡ refused k p
@@ -45,44 +45,44 @@ module _ (b : Board) (s : State) (r : ℕ) where
   unfolding moving left
   moving-refused w k p e = rw e refl
 
-  pub moving-moved : (w : ℕ) (m : Move) (t : State) → movable b s r ≡ given tt → m ≡ stepOf b w s r → t ≡ made s r m → (t, given m) ≡ moving b s r w
+  pub moving-moved : (w : ℕ) (m : Move) (t : State) → movable b s r ≡ given tt → m ≡ stepOf b s r w → t ≡ made s r m → (t, given m) ≡ moving b s r w
   unfolding moving left
   moving-moved w m t e is leaves = rw (e, leaves, is) refl
 
 -- ---- the answer's cases are told apart
 
-pub told-motion-once : (x y : Motion) → toldMotion x ≡ toldMotion y → x ≡ y
-told-motion-once Drew Drew e = refl
-told-motion-once Drew Dropped e = cc
-told-motion-once Drew Rests e = cc
-told-motion-once Drew Undecided e = cc
-told-motion-once Drew Conflict e = cc
-told-motion-once Dropped Drew e = cc
-told-motion-once Dropped Dropped e = refl
-told-motion-once Dropped Rests e = cc
-told-motion-once Dropped Undecided e = cc
-told-motion-once Dropped Conflict e = cc
-told-motion-once Rests Drew e = cc
-told-motion-once Rests Dropped e = cc
-told-motion-once Rests Rests e = refl
-told-motion-once Rests Undecided e = cc
-told-motion-once Rests Conflict e = cc
-told-motion-once Undecided Drew e = cc
-told-motion-once Undecided Dropped e = cc
-told-motion-once Undecided Rests e = cc
-told-motion-once Undecided Undecided e = refl
-told-motion-once Undecided Conflict e = cc
-told-motion-once Conflict Drew e = cc
-told-motion-once Conflict Dropped e = cc
-told-motion-once Conflict Rests e = cc
-told-motion-once Conflict Undecided e = cc
-told-motion-once Conflict Conflict e = refl
+pub told-move-injective : (x y : code-move.Move) → toldMove x ≡ toldMove y → x ≡ y
+told-move-injective Drew Drew e = refl
+told-move-injective Drew Dropped e = cc
+told-move-injective Drew Rests e = cc
+told-move-injective Drew Undecided e = cc
+told-move-injective Drew Conflict e = cc
+told-move-injective Dropped Drew e = cc
+told-move-injective Dropped Dropped e = refl
+told-move-injective Dropped Rests e = cc
+told-move-injective Dropped Undecided e = cc
+told-move-injective Dropped Conflict e = cc
+told-move-injective Rests Drew e = cc
+told-move-injective Rests Dropped e = cc
+told-move-injective Rests Rests e = refl
+told-move-injective Rests Undecided e = cc
+told-move-injective Rests Conflict e = cc
+told-move-injective Undecided Drew e = cc
+told-move-injective Undecided Dropped e = cc
+told-move-injective Undecided Rests e = cc
+told-move-injective Undecided Undecided e = refl
+told-move-injective Undecided Conflict e = cc
+told-move-injective Conflict Drew e = cc
+told-move-injective Conflict Dropped e = cc
+told-move-injective Conflict Rests e = cc
+told-move-injective Conflict Undecided e = cc
+told-move-injective Conflict Conflict e = refl
 
-told-answer-once : (x y : Answer) → toldAnswer x ≡ toldAnswer y → x ≡ y
-told-answer-once (Says m) (Says k) e = ap Says (told-motion-once m k (cc))
-told-answer-once (Says m) (Refused q) e = cc
-told-answer-once (Refused r) (Says k) e = cc
-told-answer-once (Refused r) (Refused q) e = ap Refused (refusal-equal r q (cc) (cc))
+told-move-answer-injective : (x y : MoveAnswer) → toldMoveAnswer x ≡ toldMoveAnswer y → x ≡ y
+told-move-answer-injective (Says m) (Says k) e = ap Says (told-move-injective m k (cc))
+told-move-answer-injective (Says m) (Refused q) e = cc
+told-move-answer-injective (Refused r) (Says k) e = cc
+told-move-answer-injective (Refused r) (Refused q) e = ap Refused (refusal-equal r q (cc) (cc))
 
-pub told-moved-once : (x y : Moved) → toldMoved x ≡ toldMoved y → x ≡ y
-told-moved-once x y e = λ i. record { state = e i .0; answer = told-answer-once (x .answer) (y .answer) (λ j. e j .1) i }
+pub told-moved-injective : (x y : Moved) → toldMoved x ≡ toldMoved y → x ≡ y
+told-moved-injective x y e = λ i. record { state = e i .0; answer = told-move-answer-injective (x .answer) (y .answer) (λ j. e j .1) i }

@@ -21,59 +21,59 @@ use Rattle.judge.specs.declared.Which.the-variants.{First, Second}
 use Rattle.judge.specs.RelayWindings.{windingOf}
 use Rattle.judge.specs.Judging.{judging}
 use Rattle.judge.proofs.JudgeLaws.{judgeable-sought, judging-by, judging-judged}
-use Rattle.moves.specs.Steps.{Move, drew, dropped, rests, undecided, conflict, moveBy, wordOn, stepBy, stepOf, made}
+use Rattle.moves.specs.Steps.{Move, drew, dropped, rests, undecided, conflict, moveBy, findingOn, stepBy, stepOf, made}
 use Rattle.moves.proofs.MotionLaws.{move-larger}
 
 -- ---- one winding
 
 -- the word on the winding, where it is known what the search for it gave
 module _ (near : List ℕ) (b : Board) (r : ℕ) (n : Which) (w : ℕ) where
-  pub word-missing : (k p : ℕ) → windingOf n r (partsOf b) ≡ refused k p → wordOn near b r n w ≡ refused k p
-  unfolding wordOn
+  pub word-missing : (k p : ℕ) → windingOf n r (partsOf b) ≡ refused k p → findingOn near b r n w ≡ refused k p
+  unfolding findingOn
   word-missing k p e = rw e refl
 
-  pub word-judged : (v : Winding) → windingOf n r (partsOf b) ≡ given v → wordOn near b r n w ≡ verdict.judged near (b .counts .terminals) v w .word
-  unfolding wordOn
+  pub word-judged : (v : Winding) → windingOf n r (partsOf b) ≡ given v → findingOn near b r n w ≡ verdict.verdictBy near (verdict.inSets (b .counts .terminals)) v w .finding
+  unfolding findingOn
   word-judged v e = rw e refl
 
 -- on a board and in a state that are not refused, the word is that of the call `judge`
-pub word-judging : (b : Board) (s : State) (r : ℕ) (n : Which) (w : ℕ) → boardFine b ≡ true → stateFine (b .counts) s ≡ true → wordOn (neighbours b s) b r n w ≡ judging b s r n w .word
+pub word-judging : (b : Board) (s : State) (r : ℕ) (n : Which) (w : ℕ) → boardFine b ≡ true → stateFine (b .counts) s ≡ true → findingOn (neighbours b s) b r n w ≡ judging b s r n w .finding
 word-judging b s r n w fine fits = by-sought (windingOf n r (partsOf b)) refl
   where
-    by-sought : (o : Outcome Winding) → windingOf n r (partsOf b) ≡ o → wordOn (neighbours b s) b r n w ≡ judging b s r n w .word
-    by-sought (given v) e = word-judged (neighbours b s) b r n w v e ∙ ap (λ (j : verdict.Judgement). j .word) (judging-judged b s r n w v (neighbours b s) fine fits e refl)
-    by-sought (refused k p) e = word-missing (neighbours b s) b r n w k p e ∙ ap (λ (j : verdict.Judgement). j .word) (judging-by b s r n w (refused k p) (judgeable-sought b s r n fine fits ∙ e))
+    by-sought : (o : Outcome Winding) → windingOf n r (partsOf b) ≡ o → findingOn (neighbours b s) b r n w ≡ judging b s r n w .finding
+    by-sought (given v) e = word-judged (neighbours b s) b r n w v e ∙ ap (λ (j : verdict.Verdict). j .finding) (judging-judged b s r n w v (neighbours b s) fine fits e refl)
+    by-sought (refused k p) e = word-missing (neighbours b s) b r n w k p e ∙ ap (λ (j : verdict.Verdict). j .finding) (judging-by b s r n w (refused k p) (judgeable-sought b s r n fine fits ∙ e))
 
 -- a larger allowance x changes no word but undecided
-pub word-larger : (near : List ℕ) (b : Board) (r : ℕ) (n : Which) (w x : ℕ) → w ≤ x → (wordOn near b r n w ≡ given verdict.undecided) ⊎ (wordOn near b r n x ≡ wordOn near b r n w)
+pub word-larger : (near : List ℕ) (b : Board) (r : ℕ) (n : Which) (w x : ℕ) → w ≤ x → (findingOn near b r n w ≡ given verdict.undecided) ⊎ (findingOn near b r n x ≡ findingOn near b r n w)
 word-larger near b r n w x more = by-sought (windingOf n r (partsOf b)) refl
   where
-    by-sought : (o : Outcome Winding) → windingOf n r (partsOf b) ≡ o → (wordOn near b r n w ≡ given verdict.undecided) ⊎ (wordOn near b r n x ≡ wordOn near b r n w)
+    by-sought : (o : Outcome Winding) → windingOf n r (partsOf b) ≡ o → (findingOn near b r n w ≡ given verdict.undecided) ⊎ (findingOn near b r n x ≡ findingOn near b r n w)
     by-sought (refused k p) e = inr (word-missing near b r n x k p e ∙ sym (word-missing near b r n w k p e))
     by-sought (given v) e = either (judged-larger near (b .counts .terminals) v w x more)
       where
-        either : (verdict.judged near (b .counts .terminals) v w .word ≡ given verdict.undecided) ⊎ (verdict.judged near (b .counts .terminals) v x ≡ verdict.judged near (b .counts .terminals) v w) → (wordOn near b r n w ≡ given verdict.undecided) ⊎ (wordOn near b r n x ≡ wordOn near b r n w)
+        either : (verdict.verdictBy near (verdict.inSets (b .counts .terminals)) v w .finding ≡ given verdict.undecided) ⊎ (verdict.verdictBy near (verdict.inSets (b .counts .terminals)) v x ≡ verdict.verdictBy near (verdict.inSets (b .counts .terminals)) v w) → (findingOn near b r n w ≡ given verdict.undecided) ⊎ (findingOn near b r n x ≡ findingOn near b r n w)
         either (inl u) = inl (word-judged near b r n w v e ∙ u)
-        either (inr same) = inr (word-judged near b r n x v e ∙ ap (λ (j : verdict.Judgement). j .word) same ∙ sym (word-judged near b r n w v e))
+        either (inr same) = inr (word-judged near b r n x v e ∙ ap (λ (j : verdict.Verdict). j .finding) same ∙ sym (word-judged near b r n w v e))
 
 -- ---- the step
 
-pub step-by : (b : Board) (w : ℕ) (s : State) (r : ℕ) (near : List ℕ) → near ≡ neighbours b s → stepBy near b (isDrawn s r) r w ≡ stepOf b w s r
+pub step-by : (b : Board) (w : ℕ) (s : State) (r : ℕ) (near : List ℕ) → near ≡ neighbours b s → stepBy near b (isDrawn s r) r w ≡ stepOf b s r w
 unfolding stepOf
 step-by b w s r near e = ap (λ (k : List ℕ). stepBy k b (isDrawn s r) r w) e
 
-pub step-words : (near : List ℕ) (b : Board) (d k : Bool) (r w : ℕ) (x y : Outcome verdict.Word) → k ≡ d → x ≡ wordOn near b r First w → y ≡ wordOn near b r Second w → moveBy k x y ≡ stepBy near b d r w
+pub step-words : (near : List ℕ) (b : Board) (d k : Bool) (r w : ℕ) (x y : Outcome verdict.Finding) → k ≡ d → x ≡ findingOn near b r First w → y ≡ findingOn near b r Second w → moveBy k x y ≡ stepBy near b d r w
 unfolding stepBy
 step-words near b d k r w x y is e f = rw (is, e, f) refl
 
 -- "its winding is always judged, with W": what a step goes by is what the call `judge` says
-pub step-judging : (b : Board) (w : ℕ) (s : State) (r : ℕ) → boardFine b ≡ true → stateFine (b .counts) s ≡ true → stepOf b w s r ≡ moveBy (isDrawn s r) (judging b s r First w .word) (judging b s r Second w .word)
+pub step-judging : (b : Board) (w : ℕ) (s : State) (r : ℕ) → boardFine b ≡ true → stateFine (b .counts) s ≡ true → stepOf b s r w ≡ moveBy (isDrawn s r) (judging b s r First w .finding) (judging b s r Second w .finding)
 step-judging b w s r fine fits =
     sym (step-by b w s r (neighbours b s) refl)
     ∙ sym (step-words (neighbours b s) b (isDrawn s r) (isDrawn s r) r w _ _ refl (sym (word-judging b s r First w fine fits)) (sym (word-judging b s r Second w fine fits)))
 
 -- a step that is not undecided is the same at every larger allowance x
-pub step-larger : (b : Board) (w x : ℕ) (s : State) (r : ℕ) → w ≤ x → (stepOf b w s r ≡ undecided) ⊎ (stepOf b x s r ≡ stepOf b w s r)
+pub step-larger : (b : Board) (w x : ℕ) (s : State) (r : ℕ) → w ≤ x → (stepOf b s r w ≡ undecided) ⊎ (stepOf b s r x ≡ stepOf b s r w)
 unfolding stepOf stepBy
 step-larger b w x s r more = move-larger (isDrawn s r) _ _ _ _ (word-larger (neighbours b s) b r First w x more) (word-larger (neighbours b s) b r Second w x more)
 

@@ -1,7 +1,7 @@
 -- A single move of a named relay, as a call. Rule book, calls: "15, 14, 13, 11, 7, 12, 16, those that apply"; "A single move of a named relay answers drew, dropped, rests, undecided or conflict, and changes the state only for the first two"; "A refused call returns the number, place 0 and the state it was given".
 --     movable b s r        what stands against moving relay r of board b in state s: refusals 15, 14, 11
 --     moving b s r w       the call
---     toldAnswer, toldMoved    the answer's cases in the rule book's words and numbers
+--     toldMoveAnswer, toldMoved    the answer's cases in the rule book's words and numbers
 use Prim.Native.Nat.{ℕ}
 use lib.Dec.{ltb}
 use Rattle.number.specs.Outcomes.{Outcome, given, refused, _>>=_, _>>_, unless}
@@ -9,10 +9,10 @@ use Rattle.number.specs.Refusals.{noSuchWinding}
 use Rattle.board.specs.declared.Board.{Board}
 use Rattle.state.specs.declared.State.{State}
 use Rattle.state.specs.States.{usable, left}
-use Rattle.moves.specs.declared.Answer.{Answer}
-use Rattle.moves.specs.declared.Answer.the-variants.{Says, Refused}
+use Rattle.moves.specs.declared.MoveAnswer.{MoveAnswer}
+use Rattle.moves.specs.declared.MoveAnswer.the-variants.{Says, Refused}
 use Rattle.moves.specs.declared.Moved.{Moved}
-use Rattle.moves.specs.Steps.{Move, stepOf, made, toldMotion}
+use Rattle.moves.specs.Steps.{Move, stepOf, made, toldMove}
 
 unfoldable pub movable : Board → State → ℕ → Outcome (Unit {0})
 movable b s r = do
@@ -20,11 +20,11 @@ movable b s r = do
   unless (ltb r (b .counts .relays)) noSuchWinding 0
 
 unfoldable pub moving : Board → State → ℕ → ℕ → State × Outcome Move
-moving b s r w = left s (made s r) (movable b s r >> given (stepOf b w s r))
+moving b s r w = left s (made s r) (movable b s r >> given (stepOf b s r w))
 
-abbrev pub toldAnswer : Answer → Outcome Move
-toldAnswer (Says m) = given (toldMotion m)
-toldAnswer (Refused r) = refused (r .number) (r .place)
+abbrev pub toldMoveAnswer : MoveAnswer → Outcome Move
+toldMoveAnswer (Says m) = given (toldMove m)
+toldMoveAnswer (Refused r) = refused (r .number) (r .place)
 
 abbrev pub toldMoved : Moved → State × Outcome Move
-toldMoved r = (r .state, toldAnswer (r .answer))
+toldMoved r = (r .state, toldMoveAnswer (r .answer))

@@ -5,11 +5,12 @@
 --     regularMove d x              a regular relay, drawn if d, with its winding judged as x: once it is not undecided, what is not live is dead
 --     steelMove d x y              a steel relay, drawn if d, with its drawing winding judged as x and its dropping winding as y
 --     moveBy d x y                 a relay by its first and its second winding: with a second one it is steel, else regular; what the board lacks rests
---     wordOn near b r n w          winding n of relay r of board b, judged by the sets of neighbours `near` within the allowance w
+--     findingOn near b r n w       winding n of relay r of board b, judged by the sets of neighbours `near` within the allowance w
 --     stepBy near b d r w          what relay r does, drawn if d
---     stepOf b w s r               what relay r of board b does in state s, within the allowance w. Runs know it by its laws alone
+--     stepOf b s r w               what relay r of board b does in state s, within the allowance w. Runs know it by its laws alone
+--     stepper b w                  the steps of board b within the allowance w, of every relay in every state
 --     made s r m                   the state after relay r came to m: "A move changes that relay and nothing else"
---     toldMotion                   the answer's cases in the rule book's words
+--     toldMove                     the answer's cases in the rule book's words
 use Prim.Native.Nat.{ℕ}
 use mathlib.Core.Bool.{Bool, true, false, not, cond, _&&_, _||_}
 use mathlib.Core.List.{List}
@@ -23,36 +24,36 @@ use Rattle.search.specs.Verdicts as verdict
 use Rattle.judge.specs.declared.Which.{Which}
 use Rattle.judge.specs.declared.Which.the-variants.{First, Second}
 use Rattle.judge.specs.RelayWindings.{windingOf}
-use Rattle.moves.specs.declared.Motion.{Motion}
-use Rattle.moves.specs.declared.Motion.the-variants as motion
+use Rattle.moves.specs.declared.Move as code-move
+use Rattle.moves.specs.declared.Move.the-variants as motion
 
 pub data Move : Type 0 where
   drew dropped rests undecided conflict : Move
 
-abbrev pub isLive : Outcome verdict.Word → Bool
+abbrev pub isLive : Outcome verdict.Finding → Bool
 isLive (given verdict.live) = true
 isLive (given verdict.dead) = false
 isLive (given verdict.undecided) = false
 isLive (refused n p) = false
 
-abbrev pub isUndecided : Outcome verdict.Word → Bool
+abbrev pub isUndecided : Outcome verdict.Finding → Bool
 isUndecided (given verdict.live) = false
 isUndecided (given verdict.dead) = false
 isUndecided (given verdict.undecided) = true
 isUndecided (refused n p) = false
 
-abbrev pub isMissing : Outcome verdict.Word → Bool
+abbrev pub isMissing : Outcome verdict.Finding → Bool
 isMissing (given x) = false
 isMissing (refused n p) = true
 
-unfoldable pub regularMove : Bool → Outcome verdict.Word → Move
+unfoldable pub regularMove : Bool → Outcome verdict.Finding → Move
 regularMove d x =
     cond (isUndecided x) undecided
     (cond (not d && isLive x) drew
     (cond (d && not (isLive x)) dropped
     rests))
 
-unfoldable pub steelMove : Bool → Outcome verdict.Word → Outcome verdict.Word → Move
+unfoldable pub steelMove : Bool → Outcome verdict.Finding → Outcome verdict.Finding → Move
 steelMove d x y =
     cond (isUndecided x || isUndecided y) undecided
     (cond (isLive x && isLive y) conflict
@@ -60,17 +61,20 @@ steelMove d x y =
     (cond (d && isLive y) dropped
     rests)))
 
-unfoldable pub moveBy : Bool → Outcome verdict.Word → Outcome verdict.Word → Move
+unfoldable pub moveBy : Bool → Outcome verdict.Finding → Outcome verdict.Finding → Move
 moveBy d x y = cond (isMissing x) rests (cond (isMissing y) (regularMove d x) (steelMove d x y))
 
-unfoldable pub wordOn : List ℕ → Board → ℕ → Which → ℕ → Outcome verdict.Word
-wordOn near b r n w = windingOf n r (partsOf b) >>= λ v. verdict.judged near (b .counts .terminals) v w .word
+unfoldable pub findingOn : List ℕ → Board → ℕ → Which → ℕ → Outcome verdict.Finding
+findingOn near b r n w = windingOf n r (partsOf b) >>= λ v. verdict.verdictBy near (verdict.inSets (b .counts .terminals)) v w .finding
 
 unfoldable pub stepBy : List ℕ → Board → Bool → ℕ → ℕ → Move
-stepBy near b d r w = moveBy d (wordOn near b r First w) (wordOn near b r Second w)
+stepBy near b d r w = moveBy d (findingOn near b r First w) (findingOn near b r Second w)
 
-unfoldable pub stepOf : Board → ℕ → State → ℕ → Move
-stepOf b w s r = stepBy (neighbours b s) b (isDrawn s r) r w
+unfoldable pub stepOf : Board → State → ℕ → ℕ → Move
+stepOf b s r w = stepBy (neighbours b s) b (isDrawn s r) r w
+
+abbrev pub stepper : Board → ℕ → State → ℕ → Move
+stepper b w s r = stepOf b s r w
 
 abbrev pub made : State → ℕ → Move → State
 made s r drew = withDrawn s r
@@ -79,9 +83,9 @@ made s r rests = s
 made s r undecided = s
 made s r conflict = s
 
-abbrev pub toldMotion : Motion → Move
-toldMotion motion.Drew = drew
-toldMotion motion.Dropped = dropped
-toldMotion motion.Rests = rests
-toldMotion motion.Undecided = undecided
-toldMotion motion.Conflict = conflict
+abbrev pub toldMove : code-move.Move → Move
+toldMove motion.Drew = drew
+toldMove motion.Dropped = dropped
+toldMove motion.Rests = rests
+toldMove motion.Undecided = undecided
+toldMove motion.Conflict = conflict

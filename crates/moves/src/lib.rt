@@ -4,7 +4,7 @@ ghost use mathlib.Core.Bool.{_&&_, cond};
 ghost use Rattle.number.specs.Outcomes.{refused};
 ghost use Rattle.state.specs.States.{isDrawn};
 ghost use Rattle.search.specs.Verdicts.{toldFinding};
-ghost use Rattle.moves.specs.Steps.{drew, dropped, rests, isLive, isUndecided, isMissing, regularMove, steelMove, wordOn, stepBy, made, toldMotion};
+ghost use Rattle.moves.specs.Steps.{drew, dropped, rests, isLive, isUndecided, isMissing, regularMove, steelMove, findingOn, stepBy, made, toldMove};
 ghost use Rattle.moves.specs.Moving.{moving, toldMoved};
 use board::Board;
 use judge::Sought;
@@ -17,7 +17,7 @@ use search::Finding;
 use state::State;
 
 // What a move of a relay comes to.
-pub enum Motion {
+pub enum Move {
     Drew,
     Dropped,
     Rests,
@@ -26,15 +26,15 @@ pub enum Motion {
 }
 
 // The answer to a single move: what it came to, or the refusal.
-pub enum Answer {
-    Says(Motion),
+pub enum MoveAnswer {
+    Says(Move),
     Refused(Refusal),
 }
 
 // The answer to a single move, with the state that it leaves.
 pub struct Moved {
     pub state: State,
-    pub answer: Answer,
+    pub answer: MoveAnswer,
 }
 
 // Whether a winding was judged live.
@@ -85,11 +85,11 @@ fn both_live(drawing: Finding, dropping: Finding) -> bool
 }
 
 // What a regular relay comes to, by its winding.
-fn regular(drawn: bool, winding: Finding) -> Motion
-    ensures { λ r. ⌜ toldMotion r ≡ regularMove drawn (toldFinding winding) ⌝ }
+fn regular(drawn: bool, winding: Finding) -> Move
+    ensures { λ r. ⌜ toldMove r ≡ regularMove drawn (toldFinding winding) ⌝ }
 {
     if is_undecided(winding) {
-        return Motion::Undecided;
+        return Move::Undecided;
     }
     if is_live(winding) {
         return draws(drawn);
@@ -98,17 +98,17 @@ fn regular(drawn: bool, winding: Finding) -> Motion
 }
 
 // What a steel relay comes to, by its two windings.
-fn steel(drawn: bool, drawing: Finding, dropping: Finding) -> Motion
-    ensures { λ r. ⌜ toldMotion r ≡ steelMove drawn (toldFinding drawing) (toldFinding dropping) ⌝ }
+fn steel(drawn: bool, drawing: Finding, dropping: Finding) -> Move
+    ensures { λ r. ⌜ toldMove r ≡ steelMove drawn (toldFinding drawing) (toldFinding dropping) ⌝ }
 {
     if is_undecided(drawing) {
-        return Motion::Undecided;
+        return Move::Undecided;
     }
     if is_undecided(dropping) {
-        return Motion::Undecided;
+        return Move::Undecided;
     }
     if both_live(drawing, dropping) {
-        return Motion::Conflict;
+        return Move::Conflict;
     }
     if is_live(drawing) {
         return draws(drawn);
@@ -116,30 +116,26 @@ fn steel(drawn: bool, drawing: Finding, dropping: Finding) -> Motion
     if is_live(dropping) {
         return drops(drawn);
     }
-    Motion::Rests
+    Move::Rests
 }
 
 // What a relay comes to that is made to draw: it draws if dropped.
-fn draws(drawn: bool) -> Motion
-    ensures { λ r. ⌜ toldMotion r ≡ cond drawn rests drew ⌝ }
+fn draws(drawn: bool) -> Move
+    ensures { λ r. ⌜ toldMove r ≡ cond drawn rests drew ⌝ }
 {
-    if drawn { Motion::Rests } else { Motion::Drew }
+    if drawn { Move::Rests } else { Move::Drew }
 }
 
 // What a relay comes to that is made to drop: it drops if drawn.
-fn drops(drawn: bool) -> Motion
-    ensures { λ r. ⌜ toldMotion r ≡ cond drawn dropped rests ⌝ }
+fn drops(drawn: bool) -> Move
+    ensures { λ r. ⌜ toldMove r ≡ cond drawn dropped rests ⌝ }
 {
-    if drawn {
-        Motion::Dropped
-    } else {
-        Motion::Rests
-    }
+    if drawn { Move::Dropped } else { Move::Rests }
 }
 
 // That winding of a relay, judged by the sets of neighbours within the allowance.
-fn judged(near: &[u64; 64], board: Board, relay: u32, which: Which, allowance: u32) -> Finding
-    ensures { λ r. ⌜ toldFinding r ≡ wordOn (now (near .entry)) board relay which allowance ⌝ }
+fn finding_on(near: &[u64; 64], board: Board, relay: u32, which: Which, allowance: u32) -> Finding
+    ensures { λ r. ⌜ toldFinding r ≡ findingOn (now (near .entry)) board relay which allowance ⌝ }
 {
     let sought = judge::winding(board, relay, which);
     let Sought::Between(ends) = sought else {
@@ -153,14 +149,14 @@ fn judged(near: &[u64; 64], board: Board, relay: u32, which: Which, allowance: u
 }
 
 // What a relay comes to in this state, by the sets of neighbours within the allowance. What the board lacks rests.
-pub fn step(near: &[u64; 64], board: Board, state: State, relay: u32, allowance: u32) -> Motion
-    ensures { λ r. ⌜ toldMotion r ≡ stepBy (now (near .entry)) board (isDrawn state relay) relay allowance ⌝ }
+pub fn step(near: &[u64; 64], board: Board, state: State, relay: u32, allowance: u32) -> Move
+    ensures { λ r. ⌜ toldMove r ≡ stepBy (now (near .entry)) board (isDrawn state relay) relay allowance ⌝ }
 {
     let drawn = bits::has(state.drawn, relay);
-    let first = judged(near, board, relay, Which::First, allowance);
-    let second = judged(near, board, relay, Which::Second, allowance);
+    let first = finding_on(near, board, relay, Which::First, allowance);
+    let second = finding_on(near, board, relay, Which::Second, allowance);
     if is_missing(first) {
-        return Motion::Rests;
+        return Move::Rests;
     }
     if is_missing(second) {
         return regular(drawn, first);
@@ -169,15 +165,15 @@ pub fn step(near: &[u64; 64], board: Board, state: State, relay: u32, allowance:
 }
 
 // The state after a relay came to this: drawn, dropped, or as it was.
-pub fn after(state: State, relay: u32, motion: Motion) -> State
-    ensures { λ r. ⌜ r ≡ made state relay (toldMotion motion) ⌝ }
+pub fn after(state: State, relay: u32, motion: Move) -> State
+    ensures { λ r. ⌜ r ≡ made state relay (toldMove motion) ⌝ }
 {
     match motion {
-        Motion::Drew => state.draw(relay),
-        Motion::Dropped => state.drop(relay),
-        Motion::Rests => state,
-        Motion::Undecided => state,
-        Motion::Conflict => state,
+        Move::Drew => state.draw(relay),
+        Move::Dropped => state.drop(relay),
+        Move::Rests => state,
+        Move::Undecided => state,
+        Move::Conflict => state,
     }
 }
 
@@ -187,7 +183,7 @@ fn refuse(state: State, number: u32) -> Moved
 {
     Moved {
         state,
-        answer: Answer::Refused(Refusal { number, place: 0 }),
+        answer: MoveAnswer::Refused(Refusal { number, place: 0 }),
     }
 }
 
@@ -210,6 +206,6 @@ pub fn move_relay(board: Board, state: State, relay: u32, allowance: u32) -> Mov
     let state = after(state, relay, motion);
     Moved {
         state,
-        answer: Answer::Says(motion),
+        answer: MoveAnswer::Says(motion),
     }
 }

@@ -9,7 +9,7 @@ use lib.Dec.{leb}
 use borrow.Author.Tests.{leb-true, leb-false}
 use Rattle.bits.proofs.BoolLaws.{by-test}
 use Rattle.number.specs.Outcomes.{given}
-use Rattle.number.proofs.OutcomeLaws.{given-same}
+use Rattle.number.proofs.OutcomeLaws.{given-injective}
 use Rattle.board.specs.declared.Part.{Part}
 use Rattle.board.specs.declared.Board.{Board}
 use Rattle.board.specs.Parts.{partsOf}
@@ -57,38 +57,38 @@ module _ (b : Board) (w : ℕ) (s : State) (r : ℕ) (fine : boardFine b ≡ tru
         let agree = live-is-carrying b s (e .a) (e .b) fine in
         (λ live. carries-through b s r n e its (agree .0 live), λ current. agree .1 (through-carries b s r n e its current))
 
-    undecided-needs : Undecided b w s e → NeedsMore b w s r
+    undecided-needs : Undecided b s e w → NeedsMore b s r w
     undecided-needs more = record { which = n; winding = e; its-winding = found; more = more }
 
-    needs-undecided : (f : Winding) → windingOf n r (partsOf b) ≡ given f → Undecided b w s f → Undecided b w s e
-    needs-undecided f also more = subst (Undecided b w s) (given-same f e (sym also ∙ found)) more
+    needs-undecided : (f : Winding) → windingOf n r (partsOf b) ≡ given f → Undecided b s f w → Undecided b s e w
+    needs-undecided f also more = subst (λ (v : Winding). Undecided b s v w) (given-injective f e (sym also ∙ found)) more
 
-    enough-decided : ¬ (NeedsMore b w s r) → Decided b w s e
+    enough-decided : ¬ (NeedsMore b s r w) → Decided b s e w
     enough-decided enough = by-test (leb _ w) (leb-true _ w) (λ short. absurd (enough (undecided-needs (leb-false _ w short))))
 
   -- ---- a regular relay
 
   module _ (regular : isRegular r (partsOf b)) (e : Winding) (found : windingOf First r (partsOf b) ≡ given e) where
-    regular-undecided : NeedsMore b w s r → Undecided b w s e
+    regular-undecided : NeedsMore b s r w → Undecided b s e w
     regular-undecided needs = by-which (needs .which) (needs .its-winding)
       where
-        by-which : (n : Which) → windingOf n r (partsOf b) ≡ given (needs .winding) → Undecided b w s e
+        by-which : (n : Which) → windingOf n r (partsOf b) ≡ given (needs .winding) → Undecided b s e w
         by-which First is = needs-undecided First e found (needs .winding) is (needs .more)
         by-which Second is = absurd (omega (arith, needs .more, second-missing b w s r fine fits regular .1 (needs .winding) is))
 
-    regular-enough : Decided b w s e → ¬ (NeedsMore b w s r)
+    regular-enough : Decided b s e w → ¬ (NeedsMore b s r w)
     regular-enough decided needs = omega (arith, decided, regular-undecided needs)
 
     through : IsLive b s e ↔ CurrentThrough b s r First
     through = live-current First e found
 
     -- one that is decided and not without current is live
-    decided-live : (x : verdict.Word) → WordSays b w s r First x → ¬ (NeedsMore b w s r) → ¬ (¬ (CurrentThrough b s r First)) → IsLive b s e
+    decided-live : (x : verdict.Finding) → WordSays b s r First x w → ¬ (NeedsMore b s r w) → ¬ (¬ (CurrentThrough b s r First)) → IsLive b s e
     decided-live verdict.live says enough held = through .1 (says .1)
     decided-live verdict.dead says enough held = absurd (held (says .1))
     decided-live verdict.undecided says enough held = absurd (enough says)
 
-    regular-chains : (m : Move) → Comes b w s r m → RegularComes b w s r e m
+    regular-chains : (m : Move) → Comes b s r m w → RegularComes b s r e m w
     regular-chains undecided needs = regular-undecided needs
     regular-chains conflict (enough, both) = regular-one b w s r below regular both
     regular-chains drew (enough, (one, (there, draw))) =
@@ -105,7 +105,7 @@ module _ (b : Board) (w : ℕ) (s : State) (r : ℕ) (fine : boardFine b ≡ tru
               (λ off. inr (off, λ live. no-draw (below, inl (regular, (off, through .0 live))))),
         )
 
-    chains-regular : (m : Move) → RegularComes b w s r e m → Comes b w s r m
+    chains-regular : (m : Move) → RegularComes b s r e m w → Comes b s r m w
     chains-regular undecided more = undecided-needs First e found more
     chains-regular conflict never = absurd never
     chains-regular drew (decided, off, live) = (regular-enough decided, (regular-one b w s r below regular, (below, inl (regular, (off, through .0 live)))))
@@ -118,17 +118,17 @@ module _ (b : Board) (w : ℕ) (s : State) (r : ℕ) (fine : boardFine b ≡ tru
   -- ---- a steel relay
 
   module _ (steel : isSteel r (partsOf b)) (e f : Winding) (first : windingOf First r (partsOf b) ≡ given e) (second : windingOf Second r (partsOf b) ≡ given f) where
-    steel-undecided : NeedsMore b w s r → Undecided b w s e ⊎ Undecided b w s f
+    steel-undecided : NeedsMore b s r w → Undecided b s e w ⊎ Undecided b s f w
     steel-undecided needs = by-which (needs .which) (needs .its-winding)
       where
-        by-which : (n : Which) → windingOf n r (partsOf b) ≡ given (needs .winding) → Undecided b w s e ⊎ Undecided b w s f
+        by-which : (n : Which) → windingOf n r (partsOf b) ≡ given (needs .winding) → Undecided b s e w ⊎ Undecided b s f w
         by-which First is = inl (needs-undecided First e first (needs .winding) is (needs .more))
         by-which Second is = inr (needs-undecided Second f second (needs .winding) is (needs .more))
 
-    steel-enough : Decided b w s e → Decided b w s f → ¬ (NeedsMore b w s r)
+    steel-enough : Decided b s e w → Decided b s f w → ¬ (NeedsMore b s r w)
     steel-enough drawing dropping needs = either (steel-undecided needs)
       where
-        either : Undecided b w s e ⊎ Undecided b w s f → ⊥
+        either : Undecided b s e w ⊎ Undecided b s f w → ⊥
         either (inl more) = omega (arith, drawing, more)
         either (inr more) = omega (arith, dropping, more)
 
@@ -141,7 +141,7 @@ module _ (b : Board) (w : ℕ) (s : State) (r : ℕ) (fine : boardFine b ≡ tru
     steel-one : ¬ (IsLive b s e × IsLive b s f) → ¬ (BothCurrents b s r)
     steel-one one both = one (draws .1 (both .1 .1 .0), drops .1 (both .1 .1 .1))
 
-    steel-chains : (m : Move) → Comes b w s r m → SteelComes b w s r e f m
+    steel-chains : (m : Move) → Comes b s r m w → SteelComes b s r e f m w
     steel-chains undecided needs = steel-undecided needs
     steel-chains conflict (enough, both) =
         (enough-decided First e first enough, enough-decided Second f second enough, draws .1 (both .1 .1 .0), drops .1 (both .1 .1 .1))
@@ -159,7 +159,7 @@ module _ (b : Board) (w : ℕ) (s : State) (r : ℕ) (fine : boardFine b ≡ tru
           (λ off. inr (off, λ live. no-draw (below, inr (steel, (off, draws .0 live))))),
     )
 
-    chains-steel : (m : Move) → SteelComes b w s r e f m → Comes b w s r m
+    chains-steel : (m : Move) → SteelComes b s r e f m w → Comes b s r m w
     chains-steel undecided (inl more) = undecided-needs First e first more
     chains-steel undecided (inr more) = undecided-needs Second f second more
     chains-steel conflict (drawing, dropping, live, also) = (steel-enough drawing dropping, (below, (steel, (draws .0 live, drops .0 also))))

@@ -23,10 +23,10 @@ module _ (b : Board) (w : ℕ) (s : State) (r : ℕ) where
   pub drawn-apart : isDrawn s r ≡ true → isDrawn s r ≡ false → ⊥
   drawn-apart on off = false≢true (sym off ∙ on)
 
-  within-both : Within b w s r First → Within b w s r Second → ¬ (NeedsMore b w s r)
+  within-both : Within b s r First w → Within b s r Second w → ¬ (NeedsMore b s r w)
   within-both first second m = absurd (omega (arith, m .more, each (m .which) (m .winding) (m .its-winding)))
     where
-      each : (n : Which) → Within b w s r n
+      each : (n : Which) → Within b s r n w
       each First = first
       each Second = second
 
@@ -44,19 +44,19 @@ module _ (b : Board) (w : ℕ) (s : State) (r : ℕ) where
     regular-drop (there, inl (sort, drop)) = drop
     regular-drop (there, inr (sort, drop)) = absurd (omega (arith, regular .0, sort .0))
 
-    pub regular-comes : (d : Bool) (x : verdict.Word) → isDrawn s r ≡ d → Within b w s r Second → WordSays b w s r First x → Comes b w s r (regularMove d (given x))
-    regular-comes d verdict.undecided is second needs = subst (Comes b w s r) (regular-undecided d (given verdict.undecided) refl) needs
+    pub regular-comes : (d : Bool) (x : verdict.Finding) → isDrawn s r ≡ d → Within b s r Second w → WordSays b s r First x w → Comes b s r (regularMove d (given x)) w
+    regular-comes d verdict.undecided is second needs = subst (λ (m : Move). Comes b s r m w) (regular-undecided d (given verdict.undecided) refl) needs
     regular-comes true verdict.live is second (first, current) =
-        subst (Comes b w s r) (regular-live true (given verdict.live) refl refl)
+        subst (λ (m : Move). Comes b s r m w) (regular-live true (given verdict.live) refl refl)
         (within-both first second, (regular-one, (λ draw. drawn-apart is (regular-draw draw .0), λ drop. regular-drop drop .1 current)))
     regular-comes false verdict.live is second (first, current) =
-        subst (Comes b w s r) (regular-live false (given verdict.live) refl refl)
+        subst (λ (m : Move). Comes b s r m w) (regular-live false (given verdict.live) refl refl)
         (within-both first second, (regular-one, (below, inl (regular, (is, current)))))
     regular-comes true verdict.dead is second (first, still) =
-        subst (Comes b w s r) (regular-dead true (given verdict.dead) refl refl)
+        subst (λ (m : Move). Comes b s r m w) (regular-dead true (given verdict.dead) refl refl)
         (within-both first second, (regular-one, (below, inl (regular, (is, still)))))
     regular-comes false verdict.dead is second (first, still) =
-        subst (Comes b w s r) (regular-dead false (given verdict.dead) refl refl)
+        subst (λ (m : Move). Comes b s r m w) (regular-dead false (given verdict.dead) refl refl)
         (within-both first second, (regular-one, (λ draw. still (regular-draw draw .1), λ drop. drawn-apart (regular-drop drop .0) is)))
 
   -- ---- a steel relay
@@ -70,27 +70,27 @@ module _ (b : Board) (w : ℕ) (s : State) (r : ℕ) where
     steel-drop (there, inl (sort, drop)) = absurd (omega (arith, steel .0, sort .0))
     steel-drop (there, inr (sort, drop)) = drop
 
-    pub steel-comes : (d : Bool) (x y : verdict.Word) → isDrawn s r ≡ d → WordSays b w s r First x → WordSays b w s r Second y → Comes b w s r (steelMove d (given x) (given y))
-    steel-comes d verdict.undecided y is needs second = subst (Comes b w s r) (steel-undecided d (given verdict.undecided) (given y) refl) needs
-    steel-comes d verdict.live verdict.undecided is first needs = subst (Comes b w s r) (steel-undecided-second d (given verdict.live) (given verdict.undecided) refl refl) needs
-    steel-comes d verdict.dead verdict.undecided is first needs = subst (Comes b w s r) (steel-undecided-second d (given verdict.dead) (given verdict.undecided) refl refl) needs
+    pub steel-comes : (d : Bool) (x y : verdict.Finding) → isDrawn s r ≡ d → WordSays b s r First x w → WordSays b s r Second y w → Comes b s r (steelMove d (given x) (given y)) w
+    steel-comes d verdict.undecided y is needs second = subst (λ (m : Move). Comes b s r m w) (steel-undecided d (given verdict.undecided) (given y) refl) needs
+    steel-comes d verdict.live verdict.undecided is first needs = subst (λ (m : Move). Comes b s r m w) (steel-undecided-second d (given verdict.live) (given verdict.undecided) refl refl) needs
+    steel-comes d verdict.dead verdict.undecided is first needs = subst (λ (m : Move). Comes b s r m w) (steel-undecided-second d (given verdict.dead) (given verdict.undecided) refl refl) needs
     steel-comes d verdict.live verdict.live is (first, draws) (second, drops) =
-        subst (Comes b w s r) (steel-conflict (given verdict.live) (given verdict.live) refl refl d refl)
+        subst (λ (m : Move). Comes b s r m w) (steel-conflict (given verdict.live) (given verdict.live) refl refl d refl)
         (within-both first second, (below, (steel, (draws, drops))))
     steel-comes true verdict.live verdict.dead is (first, draws) (second, still) =
-        subst (Comes b w s r) (steel-draws (given verdict.live) (given verdict.dead) refl refl true refl refl)
+        subst (λ (m : Move). Comes b s r m w) (steel-draws (given verdict.live) (given verdict.dead) refl refl true refl refl)
         (within-both first second, (λ both. still (both .1 .1 .1), (λ draw. drawn-apart is (steel-draw draw .0), λ drop. still (steel-drop drop .1))))
     steel-comes false verdict.live verdict.dead is (first, draws) (second, still) =
-        subst (Comes b w s r) (steel-draws (given verdict.live) (given verdict.dead) refl refl false refl refl)
+        subst (λ (m : Move). Comes b s r m w) (steel-draws (given verdict.live) (given verdict.dead) refl refl false refl refl)
         (within-both first second, (λ both. still (both .1 .1 .1), (below, inr (steel, (is, draws)))))
     steel-comes true verdict.dead verdict.live is (first, still) (second, drops) =
-        subst (Comes b w s r) (steel-drops (given verdict.dead) (given verdict.live) refl refl true refl refl)
+        subst (λ (m : Move). Comes b s r m w) (steel-drops (given verdict.dead) (given verdict.live) refl refl true refl refl)
         (within-both first second, (λ both. still (both .1 .1 .0), (below, inr (steel, (is, drops)))))
     steel-comes false verdict.dead verdict.live is (first, still) (second, drops) =
-        subst (Comes b w s r) (steel-drops (given verdict.dead) (given verdict.live) refl refl false refl refl)
+        subst (λ (m : Move). Comes b s r m w) (steel-drops (given verdict.dead) (given verdict.live) refl refl false refl refl)
         (within-both first second, (λ both. still (both .1 .1 .0), (λ draw. still (steel-draw draw .1), λ drop. drawn-apart (steel-drop drop .0) is)))
     steel-comes d verdict.dead verdict.dead is (first, still) (second, none) =
-        subst (Comes b w s r) (steel-rests (given verdict.dead) (given verdict.dead) refl refl d refl refl)
+        subst (λ (m : Move). Comes b s r m w) (steel-rests (given verdict.dead) (given verdict.dead) refl refl d refl refl)
         (within-both first second, (λ both. none (both .1 .1 .1), (λ draw. still (steel-draw draw .1), λ drop. none (steel-drop drop .1))))
 
   -- ---- no relay comes to two words
@@ -106,7 +106,7 @@ module _ (b : Board) (w : ℕ) (s : State) (r : ℕ) where
       dropped-drawn (there, inl (sort, guard)) = guard .0
       dropped-drawn (there, inr (sort, guard)) = guard .0
 
-  pub comes-once : (m k : Move) → Comes b w s r m → Comes b w s r k → m ≡ k
+  pub comes-once : (m k : Move) → Comes b s r m w → Comes b s r k w → m ≡ k
   comes-once undecided undecided x y = refl
   comes-once undecided conflict x y = absurd (y .0 x)
   comes-once undecided drew x y = absurd (y .0 x)

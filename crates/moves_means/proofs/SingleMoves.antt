@@ -5,7 +5,7 @@ use mathlib.Core.Logic.{⊎-elim}
 use mathlib.Core.Bool.{true}
 use Rattle.number.specs.Outcomes.{Outcome, given, refused}
 use Rattle.number.specs.Refusals.{noSuchWinding}
-use Rattle.number.proofs.OutcomeLaws.{given-same}
+use Rattle.number.proofs.OutcomeLaws.{given-injective}
 use Rattle.board.specs.declared.Board.{Board}
 use Rattle.board.specs.Parts.{partsOf}
 use Rattle.board.specs.Rules.{boardFine}
@@ -13,11 +13,11 @@ use Rattle.board.specs.Sorts.{isRegular, isSteel}
 use Rattle.board.proofs.FineLaws.{fine-relays-wound}
 use Rattle.state.specs.declared.State.{State}
 use Rattle.state.specs.States.{isDrawn, stateFine}
-use Rattle.search.specs.Verdicts.{Word}
+use Rattle.search.specs.Verdicts.{Finding}
 use Rattle.judge.specs.declared.Which.the-variants.{First, Second}
 use Rattle.judge.specs.Judging.{judging}
 use Rattle.moves.specs.Steps.{Move, moveBy, stepOf, made}
-use Rattle.moves.specs.Moving.{toldAnswer, toldMoved}
+use Rattle.moves.specs.Moving.{toldMoveAnswer, toldMoved}
 use Rattle.moves.proofs.MotionLaws.{move-regular, move-steel}
 use Rattle.moves.proofs.StepLaws.{step-judging}
 use Rattle.moves.proofs.MovingLaws.{movable-given, moving-moved}
@@ -29,12 +29,12 @@ use Rattle.moves_means.proofs.ComesLaws.{regular-comes, steel-comes, co
 
 module _ (b : Board) (w : ℕ) (s : State) (r : ℕ) (fine : boardFine b ≡ true) (fits : stateFine (b .counts) s ≡ true) (below : r < b .counts .relays) where
   -- a step goes by the words x and y on the relay's windings
-  words-mean : (x y : Outcome Word) (m : Move) → judging b s r First w .word ≡ x → judging b s r Second w .word ≡ y → moveBy (isDrawn s r) x y ≡ m → Comes b w s r m → Comes b w s r (stepOf b w s r)
+  words-mean : (x y : Outcome Finding) (m : Move) → judging b s r First w .finding ≡ x → judging b s r Second w .finding ≡ y → moveBy (isDrawn s r) x y ≡ m → Comes b s r m w → Comes b s r (stepOf b s r w) w
   words-mean x y m e f is comes =
-      let steps : stepOf b w s r ≡ m = cc (step-judging b w s r fine fits, e, f, is) in
-      subst (Comes b w s r) (sym steps) comes
+      let steps : stepOf b s r w ≡ m = cc (step-judging b w s r fine fits, e, f, is) in
+      subst (λ (m : Move). Comes b s r m w) (sym steps) comes
 
-  regular-means : isRegular r (partsOf b) → Comes b w s r (stepOf b w s r)
+  regular-means : isRegular r (partsOf b) → Comes b s r (stepOf b s r w) w
   regular-means regular =
       let first = first-word b w s r fine fits below in
       let second = second-missing b w s r fine fits regular in
@@ -42,7 +42,7 @@ module _ (b : Board) (w : ℕ) (s : State) (r : ℕ) (fine : boardFine b ≡ tru
       (move-regular (isDrawn s r) (given (first .word)) (refused noSuchWinding 0) refl refl)
       (regular-comes b w s r below regular (isDrawn s r) (first .word) refl (second .1) (first .says))
 
-  steel-means : isSteel r (partsOf b) → Comes b w s r (stepOf b w s r)
+  steel-means : isSteel r (partsOf b) → Comes b s r (stepOf b s r w) w
   steel-means steel =
       let first = first-word b w s r fine fits below in
       let second = second-word b w s r fine fits below steel in
@@ -51,7 +51,7 @@ module _ (b : Board) (w : ℕ) (s : State) (r : ℕ) (fine : boardFine b ≡ tru
       (steel-comes b w s r below steel (isDrawn s r) (first .word) (second .word) refl (first .says) (second .says))
 
 -- of what a relay comes to `Comes` holds
-pub step-means : (b : Board) (w : ℕ) (s : State) (r : ℕ) → boardFine b ≡ true → stateFine (b .counts) s ≡ true → r < b .counts .relays → Comes b w s r (stepOf b w s r)
+pub step-means : (b : Board) (w : ℕ) (s : State) (r : ℕ) → boardFine b ≡ true → stateFine (b .counts) s ≡ true → r < b .counts .relays → Comes b s r (stepOf b s r w) w
 step-means b w s r fine fits below = ⊎-elim (regular-means b w s r fine fits below) (steel-means b w s r fine fits below) (fine-relays-wound b fine r below)
 
 -- ---- the theorems
@@ -59,14 +59,14 @@ step-means b w s r fine fits below = ⊎-elim (regular-means b w s r fine fits b
 pub step-exactly : StepExactly
 step-exactly b w s r m fine fits below =
     let means = step-means b w s r fine fits below in
-    (λ is. subst (Comes b w s r) is means, λ comes. comes-once b w s r (stepOf b w s r) m means comes)
+    (λ is. subst (λ (m : Move). Comes b s r m w) is means, λ comes. comes-once b w s r (stepOf b s r w) m means comes)
 
 pub move-exactly : MoveExactly
 move-exactly b s r w a m moves taken =
     let fit = movable-given b s r taken in
     let exactly = step-exactly b w s r m (fit .0) (fit .1) (fit .2) in
-    let told : toldMoved a ≡ (made s r (stepOf b w s r), given (stepOf b w s r)) = moves ∙ sym (moving-moved b s r w (stepOf b w s r) (made s r (stepOf b w s r)) taken refl refl) in
-    let answers : toldAnswer (a .answer) ≡ given (stepOf b w s r) = λ i. told i .1 in
-    let leaves : a .state ≡ made s r (stepOf b w s r) = λ i. told i .0 in
-    let same : toldAnswer (a .answer) ≡ given m → stepOf b w s r ≡ m = λ says. given-same (stepOf b w s r) m (sym answers ∙ says) in
+    let told : toldMoved a ≡ (made s r (stepOf b s r w), given (stepOf b s r w)) = moves ∙ sym (moving-moved b s r w (stepOf b s r w) (made s r (stepOf b s r w)) taken refl refl) in
+    let answers : toldMoveAnswer (a .answer) ≡ given (stepOf b s r w) = λ i. told i .1 in
+    let leaves : a .state ≡ made s r (stepOf b s r w) = λ i. told i .0 in
+    let same : toldMoveAnswer (a .answer) ≡ given m → stepOf b s r w ≡ m = λ says. given-injective (stepOf b s r w) m (sym answers ∙ says) in
     ((λ says. exactly .0 (same says), λ comes. answers ∙ ap given (exactly .1 comes)), λ says. leaves ∙ ap (made s r) (same says))

@@ -1,7 +1,7 @@
 -- What the word on one winding says in the words of the published model: live, that there is current through it; dead, that there is none; undecided, that it needs more than the allowance. And which windings of a relay have a word.
---     Within b w s r n         winding n of relay r, if there is one, needs no more than the allowance w
---     WordSays b w s r n x     what the word x says of it
---     HasWord b w s r n        the word that `judge` gives it, and that what it says is so
+--     Within b s r n w         winding n of relay r, if there is one, needs no more than the allowance w
+--     WordSays b s r n x w     what the word x says of it
+--     HasWord b s r n w        the word that `judge` gives it, and that what it says is so
 use Prim.Native.Nat.{ℕ, _<_, _≤_}
 use native.Mathlib.Omega.{arith}
 use mathlib.Core.Path.{_≡_, refl, sym, ap, subst, _∙_}
@@ -14,7 +14,7 @@ use borrow.Author.Tests.{leb-true, leb-false}
 use Rattle.bits.proofs.BoolLaws.{by-test}
 use Rattle.number.specs.Outcomes.{Outcome, given, refused}
 use Rattle.number.specs.Refusals.{noSuchWinding}
-use Rattle.number.proofs.OutcomeLaws.{refused-never, given-same}
+use Rattle.number.proofs.OutcomeLaws.{refused-never, given-injective}
 use Rattle.board.specs.declared.Board.{Board}
 use Rattle.board.specs.Parts.{partsOf}
 use Rattle.board.specs.Rules.{boardFine}
@@ -23,56 +23,56 @@ use Rattle.state.specs.declared.State.{State}
 use Rattle.state.specs.States.{stateFine}
 use Rattle.chains.specs.ChainList.{shows}
 use Rattle.search.specs.declared.Winding.{Winding}
-use Rattle.search.specs.Verdicts.{Judgement, Word, live, dead, undecided, firstShown, settled, weighed, judgement}
+use Rattle.search.specs.Verdicts.{Verdict, Finding, live, dead, undecided, firstShown, settled, weighed, verdictBy}
 use Rattle.search.proofs.VerdictLaws.{weighed-within, weighed-short}
 use Rattle.judge.specs.declared.Which.{Which}
 use Rattle.judge.specs.declared.Which.the-variants.{First, Second}
 use Rattle.judge.specs.RelayWindings.{windingOf}
-use Rattle.judge.specs.Judging.{judgeable, judging}
+use Rattle.judge.specs.Judging.{windingFor, judging}
 use Rattle.judge.proofs.SoughtLaws.{winding-refused}
 use Rattle.judge.proofs.JudgeLaws.{judgeable-sought, judging-by}
-use Rattle.judge_means.specs.Exactness.{Judges, Accepted, chainsOf, effortOf}
+use Rattle.judge_means.specs.Exactness.{Judges, AcceptedWinding, chainsOf, effortOf}
 use Rattle.judge_means.proofs.Exactness.{liveVerdict, deadVerdict, as-published}
 use Rattle.judge_means.proofs.Eleven.{eleven-exactly, the-winding}
 use Rattle.moves_means.specs.Guards.{CurrentThrough}
 use Rattle.moves_means.specs.SingleMoves.{NeedsMore}
 use Rattle.moves_means.proofs.CurrentLaws.{through-carries, carries-through}
 
-abbrev pub Within : Board → ℕ → State → ℕ → Which → Type 0
-Within b w s r n = (e : Winding) → windingOf n r (partsOf b) ≡ given e → effortOf b s e ≤ w
+abbrev pub Within : Board → State → ℕ → Which → ℕ → Type 0
+Within b s r n w = (e : Winding) → windingOf n r (partsOf b) ≡ given e → effortOf b s e ≤ w
 
-abbrev pub WordSays : Board → ℕ → State → ℕ → Which → Word → Type 0
-WordSays b w s r n live = Within b w s r n × CurrentThrough b s r n
-WordSays b w s r n dead = Within b w s r n × ¬ (CurrentThrough b s r n)
-WordSays b w s r n undecided = NeedsMore b w s r
+abbrev pub WordSays : Board → State → ℕ → Which → Finding → ℕ → Type 0
+WordSays b s r n live w = Within b s r n w × CurrentThrough b s r n
+WordSays b s r n dead w = Within b s r n w × ¬ (CurrentThrough b s r n)
+WordSays b s r n undecided w = NeedsMore b s r w
 
-pub record HasWord (b : Board) (w : ℕ) (s : State) (r : ℕ) (n : Which) : Type 0 where
-  pub word : Word
-  pub judged : judging b s r n w .word ≡ given word
-  pub says : WordSays b w s r n word
+pub record HasWord (b : Board) (s : State) (r : ℕ) (n : Which) (w : ℕ) : Type 0 where
+  pub word : Finding
+  pub judged : judging b s r n w .finding ≡ given word
+  pub says : WordSays b s r n word w
 
 -- ---- winding n of relay r is found, and is e
 
 module _ (b : Board) (w : ℕ) (s : State) (r : ℕ) (n : Which) (e : Winding) (found : windingOf n r (partsOf b) ≡ given e) where
-  found-within : effortOf b s e ≤ w → Within b w s r n
-  found-within enough f also = subst (λ (x : Winding). effortOf b s x ≤ w) (given-same e f (sym found ∙ also)) enough
+  found-within : effortOf b s e ≤ w → Within b s r n w
+  found-within enough f also = subst (λ (x : Winding). effortOf b s x ≤ w) (given-injective e f (sym found ∙ also)) enough
 
   -- the call weighs all chains of the board in the state
-  accepted-weighed : Accepted b s r n e → weighed (shows (e .a) (e .b)) (chainsOf b s) w ≡ judging b s r n w
-  unfolding judgement
+  accepted-weighed : AcceptedWinding b s r n e → weighed (shows (e .a) (e .b)) (chainsOf b s) w ≡ judging b s r n w
+  unfolding verdictBy
   accepted-weighed taken = judging-by b s r n w (given e) taken
 
-  found-word : boardFine b ≡ true → stateFine (b .counts) s ≡ true → HasWord b w s r n
+  found-word : boardFine b ≡ true → stateFine (b .counts) s ≡ true → HasWord b s r n w
   found-word fine fits =
       by-test (leb (effortOf b s e) w)
       (λ enough. by-first (firstShown (shows (e .a) (e .b)) (chainsOf b s)) refl (leb-true (effortOf b s e) w enough))
       (λ short. let more = leb-false (effortOf b s e) w short in record {
         word = undecided;
-        judged = ap (λ (j : Judgement). j .word) (sym weighs ∙ weighed-short (shows (e .a) (e .b)) (chainsOf b s) w more);
+        judged = ap (λ (j : Verdict). j .finding) (sym weighs ∙ weighed-short (shows (e .a) (e .b)) (chainsOf b s) w more);
         says = record { which = n; winding = e; its-winding = found; more = more };
       })
     where
-      taken : Accepted b s r n e
+      taken : AcceptedWinding b s r n e
       taken = judgeable-sought b s r n fine fits ∙ found
 
       weighs : weighed (shows (e .a) (e .b)) (chainsOf b s) w ≡ judging b s r n w
@@ -81,19 +81,19 @@ module _ (b : Board) (w : ℕ) (s : State) (r : ℕ) (n : Which) (e : Winding) (
       settles : (o : Option (List ℕ)) → firstShown (shows (e .a) (e .b)) (chainsOf b s) ≡ o → effortOf b s e ≤ w → settled (effortOf b s e) o ≡ judging b s r n w
       settles o first enough = ap (settled (effortOf b s e)) (sym first) ∙ sym (weighed-within (shows (e .a) (e .b)) (chainsOf b s) w enough) ∙ weighs
 
-      by-first : (o : Option (List ℕ)) → firstShown (shows (e .a) (e .b)) (chainsOf b s) ≡ o → effortOf b s e ≤ w → HasWord b w s r n
+      by-first : (o : Option (List ℕ)) → firstShown (shows (e .a) (e .b)) (chainsOf b s) ≡ o → effortOf b s e ≤ w → HasWord b s r n w
       by-first (some c) first enough =
           let told : Judges b s r n w (liveVerdict (effortOf b s e) c) = settles (some c) first enough in
           record {
             word = live;
-            judged = ap (λ (j : Judgement). j .word) (sym told);
+            judged = ap (λ (j : Verdict). j .finding) (sym told);
             says = (found-within enough, carries-through b s r n e (the-winding b s r n e taken) (as-published b s r n w e (liveVerdict (effortOf b s e) c) told taken .0 refl));
           }
       by-first none first enough =
           let told : Judges b s r n w (deadVerdict (effortOf b s e)) = settles none first enough in
           record {
             word = dead;
-            judged = ap (λ (j : Judgement). j .word) (sym told);
+            judged = ap (λ (j : Verdict). j .finding) (sym told);
             says = (found-within enough, λ current. as-published b s r n w e (deadVerdict (effortOf b s e)) told taken .1 refl (through-carries b s r n e (the-winding b s r n e taken) current));
           }
 
@@ -101,25 +101,25 @@ module _ (b : Board) (w : ℕ) (s : State) (r : ℕ) (n : Which) (e : Winding) (
 
 module _ (b : Board) (w : ℕ) (s : State) (r : ℕ) (fine : boardFine b ≡ true) (fits : stateFine (b .counts) s ≡ true) where
   -- each winding of a relay has a word, but the second one of a regular relay
-  winding-word : (n : Which) → r < b .counts .relays → ¬ ((n ≡ Second) × isRegular r (partsOf b)) → HasWord b w s r n
+  winding-word : (n : Which) → r < b .counts .relays → ¬ ((n ≡ Second) × isRegular r (partsOf b)) → HasWord b s r n w
   winding-word n below there = by-sought (windingOf n r (partsOf b)) refl
     where
       eleven : (b .counts .relays ≤ r) ⊎ ((n ≡ Second) × isRegular r (partsOf b)) → ⊥
       eleven (inl past) = omega (arith, below, past)
       eleven (inr regular) = there regular
 
-      by-sought : (o : Outcome Winding) → windingOf n r (partsOf b) ≡ o → HasWord b w s r n
+      by-sought : (o : Outcome Winding) → windingOf n r (partsOf b) ≡ o → HasWord b s r n w
       by-sought (given e) found = found-word b w s r n e found fine fits
       by-sought (refused k p) missing = absurd (eleven (eleven-exactly b s r n fine fits .0 (judgeable-sought b s r n fine fits ∙ winding-refused n r (partsOf b) k p missing)))
 
-  pub first-word : r < b .counts .relays → HasWord b w s r First
+  pub first-word : r < b .counts .relays → HasWord b s r First w
   first-word below = winding-word First below (λ x. let z : _≡_ {A = ℕ} 0 1 = cc (x .0) in omega arith)
 
-  pub second-word : r < b .counts .relays → isSteel r (partsOf b) → HasWord b w s r Second
+  pub second-word : r < b .counts .relays → isSteel r (partsOf b) → HasWord b s r Second w
   second-word below steel = winding-word Second below (λ x. omega (arith, steel .0, x .1 .0))
 
   -- the second winding of a regular relay is missing: it has no word, and needs nothing
-  pub second-missing : isRegular r (partsOf b) → (judging b s r Second w .word ≡ refused noSuchWinding 0) × Within b w s r Second
+  pub second-missing : isRegular r (partsOf b) → (judging b s r Second w .finding ≡ refused noSuchWinding 0) × Within b s r Second w
   second-missing regular =
-      let missing : judgeable b s r Second ≡ refused noSuchWinding 0 = eleven-exactly b s r Second fine fits .1 (inr (refl, regular)) in
-      (ap (λ (j : Judgement). j .word) (sym (judging-by b s r Second w (refused noSuchWinding 0) missing)), λ e found. absurd (refused-never noSuchWinding 0 e (sym missing ∙ judgeable-sought b s r Second fine fits ∙ found)))
+      let missing : windingFor b s r Second ≡ refused noSuchWinding 0 = eleven-exactly b s r Second fine fits .1 (inr (refl, regular)) in
+      (ap (λ (j : Verdict). j .finding) (sym (judging-by b s r Second w (refused noSuchWinding 0) missing)), λ e found. absurd (refused-never noSuchWinding 0 e (sym missing ∙ judgeable-sought b s r Second fine fits ∙ found)))

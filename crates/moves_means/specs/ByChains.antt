@@ -1,8 +1,8 @@
 -- How a relay moves, by the chains and the efforts of its windings, over the call `moves::move_relay`, whatever it answers under its promise. Rule book: "Regular: its winding is always judged, with W. Undecided: undecided. Otherwise it draws if dropped and live, drops if drawn and dead, else rests. Steel: both windings are always judged, each with W. Either undecided: undecided. Both live: conflict. Otherwise it draws if dropped and the drawing winding is live, drops if drawn and the dropping winding is live, else rests."
---     Undecided b w s e            winding e is undecided in state s: its effort is larger than the allowance w
---     Decided b w s e              its effort is at most w
---     RegularComes b w s r e m     what the word m says of a regular relay r with winding e: never conflict
---     SteelComes b w s r e f m     what it says of a steel relay r with drawing winding e and dropping winding f: what rests is drawn, its dropping winding dead, or dropped, its drawing winding dead
+--     Undecided b s e w            winding e is undecided in state s: its effort is larger than the allowance w
+--     Decided b s e w              its effort is at most w
+--     RegularComes b s r e m w     what the word m says of a regular relay r with winding e: never conflict
+--     SteelComes b s r e f m w     what it says of a steel relay r with drawing winding e and dropping winding f: what rests is drawn, its dropping winding dead, or dropped, its drawing winding dead
 --     RegularByChains              the call's word on a regular relay is m exactly if `RegularComes` holds of m
 --     SteelByChains                the call's word on a steel relay is m exactly if `SteelComes` holds of m
 use Prim.Native.Nat.{ℕ, _<_, _≤_}
@@ -21,28 +21,28 @@ use Rattle.judge.specs.RelayWindings.{windingOf}
 use Rattle.judge_means.specs.Exactness.{IsLive, effortOf}
 use Rattle.moves.specs.declared.Moved.{Moved}
 use Rattle.moves.specs.Steps.{Move, drew, dropped, rests, undecided, conflict}
-use Rattle.moves.specs.Moving.{movable, toldAnswer}
+use Rattle.moves.specs.Moving.{movable, toldMoveAnswer}
 use Rattle.moves_means.specs.SingleMoves.{Moves}
 
-abbrev pub Undecided : Board → ℕ → State → Winding → Type 0
-Undecided b w s e = w < effortOf b s e
+abbrev pub Undecided : Board → State → Winding → ℕ → Type 0
+Undecided b s e w = w < effortOf b s e
 
-abbrev pub Decided : Board → ℕ → State → Winding → Type 0
-Decided b w s e = effortOf b s e ≤ w
+abbrev pub Decided : Board → State → Winding → ℕ → Type 0
+Decided b s e w = effortOf b s e ≤ w
 
-abbrev pub RegularComes : Board → ℕ → State → ℕ → Winding → Move → Type 0
-RegularComes b w s r e undecided = Undecided b w s e
-RegularComes b w s r e drew = Decided b w s e × (isDrawn s r ≡ false) × IsLive b s e
-RegularComes b w s r e dropped = Decided b w s e × (isDrawn s r ≡ true) × ¬ (IsLive b s e)
-RegularComes b w s r e rests = Decided b w s e × (((isDrawn s r ≡ true) × IsLive b s e) ⊎ ((isDrawn s r ≡ false) × ¬ (IsLive b s e)))
-RegularComes b w s r e conflict = ⊥
+abbrev pub RegularComes : Board → State → ℕ → Winding → Move → ℕ → Type 0
+RegularComes b s r e undecided w = Undecided b s e w
+RegularComes b s r e drew w = Decided b s e w × (isDrawn s r ≡ false) × IsLive b s e
+RegularComes b s r e dropped w = Decided b s e w × (isDrawn s r ≡ true) × ¬ (IsLive b s e)
+RegularComes b s r e rests w = Decided b s e w × (((isDrawn s r ≡ true) × IsLive b s e) ⊎ ((isDrawn s r ≡ false) × ¬ (IsLive b s e)))
+RegularComes b s r e conflict w = ⊥
 
-abbrev pub SteelComes : Board → ℕ → State → ℕ → Winding → Winding → Move → Type 0
-SteelComes b w s r e f undecided = Undecided b w s e ⊎ Undecided b w s f
-SteelComes b w s r e f conflict = Decided b w s e × Decided b w s f × IsLive b s e × IsLive b s f
-SteelComes b w s r e f drew = Decided b w s e × Decided b w s f × (isDrawn s r ≡ false) × IsLive b s e × ¬ (IsLive b s f)
-SteelComes b w s r e f dropped = Decided b w s e × Decided b w s f × (isDrawn s r ≡ true) × IsLive b s f × ¬ (IsLive b s e)
-SteelComes b w s r e f rests = Decided b w s e × Decided b w s f × (((isDrawn s r ≡ true) × ¬ (IsLive b s f)) ⊎ ((isDrawn s r ≡ false) × ¬ (IsLive b s e)))
+abbrev pub SteelComes : Board → State → ℕ → Winding → Winding → Move → ℕ → Type 0
+SteelComes b s r e f undecided w = Undecided b s e w ⊎ Undecided b s f w
+SteelComes b s r e f conflict w = Decided b s e w × Decided b s f w × IsLive b s e × IsLive b s f
+SteelComes b s r e f drew w = Decided b s e w × Decided b s f w × (isDrawn s r ≡ false) × IsLive b s e × ¬ (IsLive b s f)
+SteelComes b s r e f dropped w = Decided b s e w × Decided b s f w × (isDrawn s r ≡ true) × IsLive b s f × ¬ (IsLive b s e)
+SteelComes b s r e f rests w = Decided b s e w × Decided b s f w × (((isDrawn s r ≡ true) × ¬ (IsLive b s f)) ⊎ ((isDrawn s r ≡ false) × ¬ (IsLive b s e)))
 
 abbrev pub RegularByChains : Type 0
 RegularByChains =
@@ -51,7 +51,7 @@ RegularByChains =
     → movable b s r ≡ given tt
     → isRegular r (partsOf b)
     → windingOf First r (partsOf b) ≡ given e
-    → toldAnswer (a .answer) ≡ given m ↔ RegularComes b w s r e m
+    → toldMoveAnswer (a .answer) ≡ given m ↔ RegularComes b s r e m w
 
 abbrev pub SteelByChains : Type 0
 SteelByChains =
@@ -61,4 +61,4 @@ SteelByChains =
     → isSteel r (partsOf b)
     → windingOf First r (partsOf b) ≡ given e
     → windingOf Second r (partsOf b) ≡ given f
-    → toldAnswer (a .answer) ≡ given m ↔ SteelComes b w s r e f m
+    → toldMoveAnswer (a .answer) ≡ given m ↔ SteelComes b s r e f m w

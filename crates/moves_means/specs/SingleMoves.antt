@@ -1,6 +1,6 @@
 -- What each word of a move says, in the words of the published model, and that it is said exactly then: over a step of a relay, and over the call `moves::move_relay`, whatever it answers under its promise.
---     NeedsMore b w s r        some winding of relay r needs more than the allowance w: its effort is larger
---     Comes b w s r m          what the word m says of relay r in state s within the allowance w
+--     NeedsMore b s r w        some winding of relay r needs more than the allowance w: its effort is larger
+--     Comes b s r m w          what the word m says of relay r in state s within the allowance w
 --     StepExactly              of a relay of a board and a state that are not refused: it comes to m exactly if `Comes` holds of m
 --     Moves b s r w a          `move_relay` was called on board b, state s, relay r and allowance w, and answered a
 --     MoveExactly              the call's word is m exactly if `Comes` holds of m, and the state is changed by drew and dropped alone, and only in that relay
@@ -20,21 +20,21 @@ use Rattle.judge.specs.RelayWindings.{windingOf}
 use Rattle.judge_means.specs.Exactness.{effortOf}
 use Rattle.moves.specs.declared.Moved.{Moved}
 use Rattle.moves.specs.Steps.{Move, drew, dropped, rests, undecided, conflict, stepOf, made}
-use Rattle.moves.specs.Moving.{movable, moving, toldAnswer, toldMoved}
+use Rattle.moves.specs.Moving.{movable, moving, toldMoveAnswer, toldMoved}
 use Rattle.moves_means.specs.Guards.{CanDraw, CanDrop, BothCurrents}
 
-pub record NeedsMore (b : Board) (w : ℕ) (s : State) (r : ℕ) : Type 0 where
+pub record NeedsMore (b : Board) (s : State) (r w : ℕ) : Type 0 where
   pub which : Which
   pub winding : Winding
   pub its-winding : windingOf which r (partsOf b) ≡ given winding
   pub more : w < effortOf b s winding
 
-abbrev pub Comes : Board → ℕ → State → ℕ → Move → Type 0
-Comes b w s r undecided = NeedsMore b w s r
-Comes b w s r conflict = ¬ (NeedsMore b w s r) × BothCurrents b s r
-Comes b w s r drew = ¬ (NeedsMore b w s r) × (¬ (BothCurrents b s r) × CanDraw b s r)
-Comes b w s r dropped = ¬ (NeedsMore b w s r) × (¬ (BothCurrents b s r) × CanDrop b s r)
-Comes b w s r rests = ¬ (NeedsMore b w s r) × (¬ (BothCurrents b s r) × (¬ (CanDraw b s r) × ¬ (CanDrop b s r)))
+abbrev pub Comes : Board → State → ℕ → Move → ℕ → Type 0
+Comes b s r undecided w = NeedsMore b s r w
+Comes b s r conflict w = ¬ (NeedsMore b s r w) × BothCurrents b s r
+Comes b s r drew w = ¬ (NeedsMore b s r w) × (¬ (BothCurrents b s r) × CanDraw b s r)
+Comes b s r dropped w = ¬ (NeedsMore b s r w) × (¬ (BothCurrents b s r) × CanDrop b s r)
+Comes b s r rests w = ¬ (NeedsMore b s r w) × (¬ (BothCurrents b s r) × (¬ (CanDraw b s r) × ¬ (CanDrop b s r)))
 
 abbrev pub StepExactly : Type 0
 StepExactly =
@@ -42,7 +42,7 @@ StepExactly =
     → boardFine b ≡ true
     → stateFine (b .counts) s ≡ true
     → r < b .counts .relays
-    → stepOf b w s r ≡ m ↔ Comes b w s r m
+    → stepOf b s r w ≡ m ↔ Comes b s r m w
 
 abbrev pub Moves : Board → State → ℕ → ℕ → Moved → Type 0
 Moves b s r w a = toldMoved a ≡ moving b s r w
@@ -52,4 +52,4 @@ MoveExactly =
     (b : Board) (s : State) (r w : ℕ) (a : Moved) (m : Move)
     → Moves b s r w a
     → movable b s r ≡ given tt
-    → (toldAnswer (a .answer) ≡ given m ↔ Comes b w s r m) × (toldAnswer (a .answer) ≡ given m → a .state ≡ made s r m)
+    → (toldMoveAnswer (a .answer) ≡ given m ↔ Comes b s r m w) × (toldMoveAnswer (a .answer) ≡ given m → a .state ≡ made s r m)

@@ -157,12 +157,12 @@ fit-among c (q ∷ ps) p fit (inl same) = ap (partFits c) same ∙ both-true (pa
 fit-among c (q ∷ ps) p fit (inr among) = fit-among c ps p (both-true (partFits c q) _ fit .1) among
 
 -- its ends are two different terminals of the board
-record Apart (c : Counts) (x y : ℕ) : Type 0 where
+record TwoTerminals (c : Counts) (x y : ℕ) : Type 0 where
   inside : x < c .terminals
   also : y < c .terminals
   apart : ¬ (x ≡ y)
 
-fit-apart : (c : Counts) (p : Part) → partFits c p ≡ true → Apart c (p .a) (p .b)
+fit-apart : (c : Counts) (p : Part) → partFits c p ≡ true → TwoTerminals c (p .a) (p .b)
 unfolding partFits
 fit-apart c p fit =
     let named = both-true _ _ fit in
@@ -174,10 +174,10 @@ fit-apart c p fit =
       apart = eqb-false (p .a) (p .b) (not-true _ (ends .1));
     }
 
-ends-apart : (c : Counts) (p : Part) (x y : ℕ) → partFits c p ≡ true → EndsAt p x y → Apart c x y
+ends-apart : (c : Counts) (p : Part) (x y : ℕ) → partFits c p ≡ true → EndsAt p x y → TwoTerminals c x y
 ends-apart c p x y fit =
     let on = fit-apart c p fit in
-    ends-either p (Apart c) on (record { inside = on .also; also = on .inside; apart = λ same. on .apart (sym same) }) x y
+    ends-either p (TwoTerminals c) on (record { inside = on .also; also = on .inside; apart = λ same. on .apart (sym same) }) x y
 
 -- ---- the sets of a board
 
@@ -209,7 +209,7 @@ module _ (b : Board) (s : State) (x y : ℕ) where
   pub part-joined : boardFine b ≡ true → Joined b s x y → joined (neighbours b s) x y ≡ true
   part-joined fine j = part-joins (j .part) fine (j .on-board) (j .conducting) (j .ends)
 
-  joined-ends : boardFine b ≡ true → joined (neighbours b s) x y ≡ true → Apart (b .counts) x y
+  joined-ends : boardFine b ≡ true → joined (neighbours b s) x y ≡ true → TwoTerminals (b .counts) x y
   joined-ends fine =
       joined-by (λ p among on ends. ends-apart (b .counts) p x y (fit-among (b .counts) (partsOf b) p (fine-parts-fit b fine) among) ends)
 

@@ -1,4 +1,3 @@
 -- The laws, by subject; each function has its proof in a folder of its own.
 pub mod GatherLaws
 pub mod JoinedLaws
-pub mod Once

@@ -3,5 +3,4 @@ pub mod Buffers
 pub mod FormLaws
 pub mod FormSteps
 pub mod NumberLaws
-pub mod Once
 pub mod OutcomeLaws

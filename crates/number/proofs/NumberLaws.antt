@@ -11,7 +11,6 @@ use borrow.Author.Tests.{leb-true, le-leb, lt-leb}
 use lib.Dec.{leb}
 use lib.ListN.{length, take, drop, length-drop}
 use lib.Seq.{sets, drop-drop}
-use Rattle.number.specs.declared.Refusal.{Refusal}
 use Rattle.number.specs.declared.Number.{Number}
 use Rattle.number.specs.declared.Number.the-variants.{Read, Refused}
 use Rattle.number.specs.declared.NumberWritten.{NumberWritten}
@@ -20,38 +19,36 @@ use Rattle.number.specs.declared.Form.{Form}
 use Rattle.number.specs.declared.Form.the-variants.{Got, Ends, Bad}
 use Rattle.number.specs.Outcomes.{Outcome, given, refused, Found, found}
 use Rattle.number.specs.Refusals.{inputEnds, badForm, bufferTooShort}
-use Rattle.number.specs.Numbers.{Bytes, form, placed, numberAt, encode, numberBytes, numberWriting, toldNumber, toldWritten, longest, largest}
+use Rattle.number.specs.Numbers.{Bytes, form, placed, numberAt, encode, numberBytes, numberWriting, toldNumber, toldNumberWritten, longest, largest}
+use Rattle.number.proofs.OutcomeLaws.{given-injective, refusal-equal}
 use Rattle.number.proofs.Buffers.{take-drop}
 use Rattle.number.proofs.FormLaws.{FormRead, Bytes-drop, form-written, form-read, form-within, form-no-further, encode-last, encode-some, encode-few, encode-short, encode-long, encode-bytes}
 
 -- ---- outcomes
 
-given-once : {A : Type 0} (a b : A) → given a ≡ given b → a ≡ b
-given-once a b e = cc
-
 pub found-value : {A : Type 0} (a b : A) (m n : ℕ) → found a m ≡ found b n → a ≡ b
 found-value {A} a b m n e =
-    ap (λ (x : Found A). x .value) (given-once (record { value = a; next = m }) (record { value = b; next = n }) e)
+    ap (λ (x : Found A). x .value) (given-injective (record { value = a; next = m }) (record { value = b; next = n }) e)
 
 pub found-next : {A : Type 0} (a b : A) (m n : ℕ) → found a m ≡ found b n → m ≡ n
 found-next {A} a b m n e =
-    ap (λ (x : Found A). x .next) (given-once (record { value = a; next = m }) (record { value = b; next = n }) e)
+    ap (λ (x : Found A). x .next) (given-injective (record { value = a; next = m }) (record { value = b; next = n }) e)
 
 pub never-refused : {A : Type 0} (r p : ℕ) (a : A) (n : ℕ) → refused r p ≡ found a n → ⊥
 never-refused r p a n e = let z : _≡_ {A = ℕ} 0 1 = cc in omega arith
 
 -- what is known of a form that is placed as a number
-record Placed (at : ℕ) (f : Form) (v n : ℕ) : Type 0 where
+record PlacedForm (at : ℕ) (f : Form) (v n : ℕ) : Type 0 where
   bytes : ℕ
   is : f ≡ Got v bytes
   next : n ≡ at + bytes
   small : v ≤ largest
 
-placed-found : (len at : ℕ) (f : Form) (v n : ℕ) → placed len at f ≡ found v n → Placed at f v n
+placed-found : (len at : ℕ) (f : Form) (v n : ℕ) → placed len at f ≡ found v n → PlacedForm at f v n
 unfolding placed
 placed-found len at (Got w m) v n e = placed-got (leb w largest) at w m v n refl e
   where
-    placed-got : (t : Bool) (at w m v n : ℕ) → leb w largest ≡ t → cond t (found w (at + m)) (refused badForm at) ≡ found v n → Placed at (Got w m) v n
+    placed-got : (t : Bool) (at w m v n : ℕ) → leb w largest ≡ t → cond t (found w (at + m)) (refused badForm at) ≡ found v n → PlacedForm at (Got w m) v n
     placed-got true at w m v n h e = record {
       bytes = m;
       is = ap (λ (x : ℕ). Got x m) (found-value w v (at + m) n e);
@@ -81,7 +78,7 @@ pub number-refusal : (s : List ℕ) (at n p : ℕ) → numberAt s at ≡ refused
 unfolding numberAt
 number-refusal s at = placed-refused (length s) at (form longest (drop at s))
 
-number-placed : (s : List ℕ) (at v n : ℕ) → numberAt s at ≡ found v n → Placed at (form longest (drop at s)) v n
+number-placed : (s : List ℕ) (at v n : ℕ) → numberAt s at ≡ found v n → PlacedForm at (form longest (drop at s)) v n
 unfolding numberAt
 number-placed s at v n e = placed-found (length s) at (form longest (drop at s)) v n e
 
@@ -96,15 +93,15 @@ read-written s at v rest h e =
     ∙ placed-as (length s) at v (length (encode longest v)) h
 
 -- what is known where the number v was read at a place of s, with the place n just after it
-pub record WasRead (s : List ℕ) (at v n : ℕ) : Type 0 where
+pub record ReadBack (s : List ℕ) (at v n : ℕ) : Type 0 where
   pub bytes : drop at s ≡ numberBytes v ++ drop n s
   pub next : n ≡ at + length (numberBytes v)
   pub small : v ≤ largest
 
-pub written-read : (s : List ℕ) (at v n : ℕ) → Bytes s → numberAt s at ≡ found v n → WasRead s at v n
+pub written-read : (s : List ℕ) (at v n : ℕ) → Bytes s → numberAt s at ≡ found v n → ReadBack s at v n
 unfolding numberBytes
 written-read s at v n h e =
-    let p : Placed at (form longest (drop at s)) v n = number-placed s at v n e in
+    let p : PlacedForm at (form longest (drop at s)) v n = number-placed s at v n e in
     let r : FormRead longest (drop at s) v (p .bytes) = form-read longest (drop at s) v (p .bytes) (Bytes-drop s at h) (p .is) in
     record {
       bytes = r .bytes ∙ ap (λ (l : List ℕ). encode longest v ++ l) (drop-drop (p .bytes) at s ∙ ap (λ (i : ℕ). drop i s) (sym (p .next)));
@@ -117,13 +114,13 @@ written-read s at v n h e =
 -- no byte past the number, and at least one
 pub number-next-within : (s : List ℕ) (at v n : ℕ) → numberAt s at ≡ found v n → (n ≤ length s) × (at < n)
 number-next-within s at v n e =
-    let p : Placed at (form longest (drop at s)) v n = number-placed s at v n e in
+    let p : PlacedForm at (form longest (drop at s)) v n = number-placed s at v n e in
     omega (arith, form-within longest (drop at s) v (p .bytes) (p .is), length-drop at s)
 
 pub number-looks-no-further : (s t : List ℕ) (at v n : ℕ) → take n s ≡ take n t → numberAt s at ≡ found v n → numberAt t at ≡ found v n
 unfolding numberAt
 number-looks-no-further s t at v n q e =
-    let p : Placed at (form longest (drop at s)) v n = number-placed s at v n e in
+    let p : PlacedForm at (form longest (drop at s)) v n = number-placed s at v n e in
     let same : take (p .bytes) (drop at s) ≡ take (p .bytes) (drop at t) =
     take-drop at (p .bytes) s ∙ ap (drop at) (rw (p .next) at q) ∙ sym (take-drop at (p .bytes) t) in
     ap (placed (length t) at) (form-no-further longest (drop at s) (drop at t) v (p .bytes) same (p .is))
@@ -206,17 +203,14 @@ number-stored v out out′ at bytes h a r e w = rw (e, w) (sym (number-written v
 
 -- ---- an answer is known by what it tells
 
-refusal-once : (r q : Refusal) → r .number ≡ q .number → r .place ≡ q .place → r ≡ q
-refusal-once r q e f = λ i. record { number = e i; place = f i }
+pub told-number-injective : (x y : Number) → toldNumber x ≡ toldNumber y → x ≡ y
+told-number-injective (Read v n) (Read w m) e = cc (found-value v w n m e, found-next v w n m e)
+told-number-injective (Read v n) (Refused q) e = cc
+told-number-injective (Refused r) (Read w m) e = cc
+told-number-injective (Refused r) (Refused q) e = ap Refused (refusal-equal r q (cc) (cc))
 
-pub told-number-once : (x y : Number) → toldNumber x ≡ toldNumber y → x ≡ y
-told-number-once (Read v n) (Read w m) e = cc (found-value v w n m e, found-next v w n m e)
-told-number-once (Read v n) (Refused q) e = cc
-told-number-once (Refused r) (Read w m) e = cc
-told-number-once (Refused r) (Refused q) e = ap Refused (refusal-once r q (cc) (cc))
-
-pub told-written-once : (x y : NumberWritten) → toldWritten x ≡ toldWritten y → x ≡ y
-told-written-once (Next n) (Next m) e = cc
-told-written-once (Next n) (NumberWritten.Refused q) e = cc
-told-written-once (NumberWritten.Refused r) (Next m) e = cc
-told-written-once (NumberWritten.Refused r) (NumberWritten.Refused q) e = ap NumberWritten.Refused (refusal-once r q (cc) (cc))
+pub told-number-written-injective : (x y : NumberWritten) → toldNumberWritten x ≡ toldNumberWritten y → x ≡ y
+told-number-written-injective (Next n) (Next m) e = cc
+told-number-written-injective (Next n) (NumberWritten.Refused q) e = cc
+told-number-written-injective (NumberWritten.Refused r) (Next m) e = cc
+told-number-written-injective (NumberWritten.Refused r) (NumberWritten.Refused q) e = ap NumberWritten.Refused (refusal-equal r q (cc) (cc))

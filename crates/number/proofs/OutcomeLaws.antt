@@ -9,19 +9,19 @@ use Rattle.number.specs.Outcomes.{Outcome, given, refused, _>>=_, _>>_, 
 pub refused-never : {A : Type 0} (k p : ℕ) (a : A) → refused k p ≡ given a → ⊥
 refused-never k p a h = let z : _≡_ {A = ℕ} 0 1 = cc in omega arith
 
-pub given-same : {A : Type 0} (a b : A) → given a ≡ given b → a ≡ b
-given-same a b h = cc
+pub given-injective : {A : Type 0} (a b : A) → given a ≡ given b → a ≡ b
+given-injective a b h = cc
 
 pub refusal-equal : (r q : Refusal) → r .number ≡ q .number → r .place ≡ q .place → r ≡ q
 refusal-equal r q e f = λ i. record { number = e i; place = f i }
 
 -- what was handed on, that it was given, and what came of it
-pub record Handed {A B : Type 0} (o : Outcome A) (f : A → Outcome B) (b : B) : Type 0 where
+pub record HandedOn {A B : Type 0} (o : Outcome A) (f : A → Outcome B) (b : B) : Type 0 where
   pub value : A
   pub first : o ≡ given value
   pub then : f value ≡ given b
 
-pub handed : {A B : Type 0} (o : Outcome A) (f : A → Outcome B) (b : B) → (o >>= f) ≡ given b → Handed o f b
+pub handed : {A B : Type 0} (o : Outcome A) (f : A → Outcome B) (b : B) → (o >>= f) ≡ given b → HandedOn o f b
 handed (given a) f b h = record { value = a; first = refl; then = h }
 handed (refused k p) f b h = absurd (refused-never k p b h)
 

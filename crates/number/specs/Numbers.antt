@@ -6,7 +6,7 @@
 --     encode k v           the shortest form of v, in at most k bytes
 --     numberBytes v        the bytes that v is written as
 --     numberWriting v out at     what writing v into the buffer `out` at a place answers, and the buffer afterwards
---     toldNumber, toldWritten    the answers' cases in the rule book's numbers
+--     toldNumber, toldNumberWritten    the answers' cases in the rule book's numbers
 use Prim.Native.Nat.{ℕ, zero, suc, _+_, _-_, _*_, _/_, _%_, _<_}
 use mathlib.Core.Bool.{cond}
 use mathlib.Core.List.{List, [], _∷_}
@@ -73,6 +73,6 @@ abbrev pub toldNumber : Number → Outcome (Found ℕ)
 toldNumber (Read v n) = found v n
 toldNumber (Refused r) = refused (r .number) (r .place)
 
-abbrev pub toldWritten : NumberWritten → Outcome ℕ
-toldWritten (Next n) = given n
-toldWritten (NumberWritten.Refused r) = refused (r .number) (r .place)
+abbrev pub toldNumberWritten : NumberWritten → Outcome ℕ
+toldNumberWritten (Next n) = given n
+toldNumberWritten (NumberWritten.Refused r) = refused (r .number) (r .place)

@@ -58,15 +58,15 @@ release-refused b s t n m p = left-refused s _ t _ m p (pressable-place b s n _ 
 
 -- ---- the answer's cases are told apart
 
-told-press-once : (x y : Press) → toldPress x ≡ toldPress y → x ≡ y
-told-press-once Done Done e = refl
-told-press-once Done (Refused q) e = cc
-told-press-once (Refused r) Done e = cc
-told-press-once (Refused r) (Refused q) e = ap Refused (refusal-equal r q (cc) (cc))
+told-press-injective : (x y : Press) → toldPress x ≡ toldPress y → x ≡ y
+told-press-injective Done Done e = refl
+told-press-injective Done (Refused q) e = cc
+told-press-injective (Refused r) Done e = cc
+told-press-injective (Refused r) (Refused q) e = ap Refused (refusal-equal r q (cc) (cc))
 
-pub told-pressed-once : (x y : Pressed) → toldPressed x ≡ toldPressed y → x ≡ y
-told-pressed-once x y e =
-    λ i. record { state = e i .0; answer = told-press-once (x .answer) (y .answer) (λ j. e j .1) i }
+pub told-pressed-injective : (x y : Pressed) → toldPressed x ≡ toldPressed y → x ≡ y
+told-pressed-injective x y e =
+    λ i. record { state = e i .0; answer = told-press-injective (x .answer) (y .answer) (λ j. e j .1) i }
 
 -- ---- one law for each way out of `pressable`, `settle`, `push` and `release`
 

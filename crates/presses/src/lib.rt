@@ -51,7 +51,7 @@ fn refuse(number: u32) -> Press
 }
 
 // The answer with the state that it leaves: the next where it is done, else the state as given.
-fn settle(state: State, next: State, answer: Press) -> Pressed
+fn leave(state: State, next: State, answer: Press) -> Pressed
     ensures { λ r. ⌜ toldPressed r ≡ left state (λ u. next) (toldPress answer) ⌝ }
 {
     if let Press::Done = answer {
@@ -70,7 +70,7 @@ pub fn push(board: Board, state: State, button: u32) -> Pressed
 {
     let answer = pressable(board, state, button, bits::has(state.pushed, button));
     let next = state.push(button);
-    settle(state, next, answer)
+    leave(state, next, answer)
 }
 
 // Releases a button.
@@ -79,5 +79,5 @@ pub fn release(board: Board, state: State, button: u32) -> Pressed
 {
     let answer = pressable(board, state, button, !bits::has(state.pushed, button));
     let next = state.release(button);
-    settle(state, next, answer)
+    leave(state, next, answer)
 }

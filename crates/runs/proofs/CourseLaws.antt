@@ -9,18 +9,18 @@ use lib.Seq.{sets, sets-eq}
 use Rattle.number.specs.Outcomes.{given}
 use Rattle.state.specs.declared.State.{State}
 use Rattle.moves.specs.Steps as step
-use Rattle.runs.specs.Looks.{Stepper, Ending, idle, spent, undecided, conflict, Look, moves, decides, byteOf, lookFrom}
+use Rattle.runs.specs.Looks.{Stepper, Ending, idle, spent, undecided, conflict, Look, makes, decides, byteOf, lookFrom}
 use Rattle.runs.specs.Runs.{noRelay, Run, ends, logged, runOf}
-use Rattle.runs.specs.Running.{Told, ran}
+use Rattle.runs.specs.Running.{Ran, ran}
 use Rattle.runs.proofs.LookLaws.{look-quiet, look-decides}
 use Rattle.runs.proofs.RunLaws.{run-quiet, run-halts, run-spent, run-moves, run-room}
 
 -- what is told of a run that logged its first m moves and goes on as x
-abbrev onward : List ℕ → ℕ → Run → Told
+abbrev onward : List ℕ → ℕ → Run → Ran
 onward log m x = record { word = given (x .word); moves = m + length (x .bytes); state = x .state; relay = x .relay; log = sets log m (x .bytes) }
 
 -- what is told of a run that ends after m moves with the word w
-abbrev pub stopped : Ending → ℕ → State → ℕ → List ℕ → Told
+abbrev pub stopped : Ending → ℕ → State → ℕ → List ℕ → Ran
 stopped w m s r log = record { word = given w; moves = m; state = s; relay = r; log = log }
 
 -- a relay that draws or drops
@@ -28,13 +28,13 @@ abbrev pub Moving : step.Move → Type 0
 Moving mv = (mv ≡ step.drew) ⊎ (mv ≡ step.dropped)
 
 -- after m moves, in state s with this log, `all` is still what is told of the whole run
-pub record Course (f : Stepper) (k : ℕ) (all : Told) (room : ℕ) (log : List ℕ) (m : ℕ) (s : State) : Type 0 where
+pub record Course (f : Stepper) (k : ℕ) (all : Ran) (room : ℕ) (log : List ℕ) (m : ℕ) (s : State) : Type 0 where
   pub long : length log ≡ room
   pub within : m ≤ room
   pub goes : all ≡ onward log m (runOf f k (room - m) s)
 
 -- at relay r of the scan: nothing has changed since it began, and the look from 0 is the look from r
-pub record Scan (f : Stepper) (k : ℕ) (log₀ : List ℕ) (m₀ : ℕ) (s₀ : State) (log : List ℕ) (m : ℕ) (s : State) (r : ℕ) : Type 0 where
+pub record ScanSoFar (f : Stepper) (k : ℕ) (log₀ : List ℕ) (m₀ : ℕ) (s₀ : State) (log : List ℕ) (m : ℕ) (s : State) (r : ℕ) : Type 0 where
   pub same-log : log₀ ≡ log
   pub same-moves : m₀ ≡ m
   pub same-state : s₀ ≡ s
@@ -56,7 +56,7 @@ course-starts f k log s =
       goes = ran-onward (runOf f k (length log) s) log (run-room f k (length log) s) ∙ ap (λ (n : ℕ). onward log 0 (runOf f k n s)) whole;
     }
 
-pub scan-starts : (f : Stepper) (k : ℕ) (log : List ℕ) (m : ℕ) (s : State) → Scan f k log m s log m s 0
+pub scan-starts : (f : Stepper) (k : ℕ) (log : List ℕ) (m : ℕ) (s : State) → ScanSoFar f k log m s log m s 0
 scan-starts f k log m s =
     let whole : k ≡ k - 0 = omega arith in
     record { same-log = refl; same-moves = refl; same-state = refl; look = ap (λ (n : ℕ). lookFrom f s n 0) whole }
@@ -67,19 +67,19 @@ onward-logged log m c x =
     let next : suc m ≡ m + 1 = omega arith in
     λ i. record { word = given (x .word); moves = sum i; state = x .state; relay = x .relay; log = sets (set log m c) (next i) (x .bytes) }
 
-decides-moves : (mv : step.Move) (r : ℕ) (next : Look) → Moving mv → decides mv r next ≡ moves mv r
+decides-moves : (mv : step.Move) (r : ℕ) (next : Look) → Moving mv → decides mv r next ≡ makes mv r
 decides-moves mv r next (inl e) = rw e refl
 decides-moves mv r next (inr e) = rw e refl
 
-module _ (f : Stepper) (k : ℕ) (log₀ : List ℕ) (m₀ : ℕ) (s₀ : State) (log : List ℕ) (m : ℕ) (s : State) (r : ℕ) (scan : Scan f k log₀ m₀ s₀ log m s r) where
+module _ (f : Stepper) (k : ℕ) (log₀ : List ℕ) (m₀ : ℕ) (s₀ : State) (log : List ℕ) (m : ℕ) (s : State) (r : ℕ) (scan : ScanSoFar f k log₀ m₀ s₀ log m s r) where
   -- the relay that is looked at decides
   decided : (mv : step.Move) → r < k → mv ≡ f s r → lookFrom f s k 0 ≡ decides mv r (lookFrom f s (k - (r + 1)) (r + 1))
   decided mv below is = scan .look ∙ look-decides f s k r mv below is
 
-  pub scan-rests : r < k → step.rests ≡ f s r → Scan f k log₀ m₀ s₀ log m s (r + 1)
+  pub scan-rests : r < k → step.rests ≡ f s r → ScanSoFar f k log₀ m₀ s₀ log m s (r + 1)
   scan-rests below is = record { same-log = scan .same-log; same-moves = scan .same-moves; same-state = scan .same-state; look = decided step.rests below is }
 
-  module _ (all : Told) (room : ℕ) (course : Course f k all room log₀ m₀ s₀) where
+  module _ (all : Ran) (room : ℕ) (course : Course f k all room log₀ m₀ s₀) where
     here : Course f k all room log m s
     here = rw (sym (scan .same-log), sym (scan .same-moves), sym (scan .same-state)) course
 
@@ -97,7 +97,7 @@ module _ (f : Stepper) (k : ℕ) (log₀ : List ℕ) (m₀ : ℕ) (s₀ : State)
     pub course-conflict : r < k → step.conflict ≡ f s r → stopped conflict m s r log ≡ all
     course-conflict below is = ends-here conflict r (run-halts f k s (room - m) conflict r (decided step.conflict below is))
 
-    moves-here : (mv : step.Move) → r < k → mv ≡ f s r → Moving mv → lookFrom f s k 0 ≡ moves mv r
+    moves-here : (mv : step.Move) → r < k → mv ≡ f s r → Moving mv → lookFrom f s k 0 ≡ makes mv r
     moves-here mv below is move = decided mv below is ∙ decides-moves mv r _ move
 
     pub course-spent : (mv : step.Move) → r < k → mv ≡ f s r → Moving mv → room ≤ m → stopped spent m s r log ≡ all

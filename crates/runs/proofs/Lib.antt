@@ -5,4 +5,3 @@ pub mod RunFits
 pub mod CourseLaws
 pub mod SeenLaws
 pub mod RunningLaws
-pub mod Once

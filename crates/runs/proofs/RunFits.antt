@@ -8,7 +8,7 @@ use Rattle.state.specs.declared.State.{State}
 use Rattle.state.specs.States.{stateFine}
 use Rattle.moves.specs.Steps as step
 use Rattle.moves.proofs.StepLaws.{made-fits}
-use Rattle.runs.specs.Looks.{Stepper, Look, quiet, halts, moves, byteOf, decides, lookFrom, spent}
+use Rattle.runs.specs.Looks.{Stepper, Look, quiet, halts, makes, byteOf, decides, lookFrom, spent}
 use Rattle.runs.specs.Runs.{Run, ends, logged, settle, runOf}
 
 -- ---- the relay that moves is one of the k that were looked at
@@ -16,7 +16,7 @@ use Rattle.runs.specs.Runs.{Run, ends, logged, settle, runOf}
 abbrev MovesBelow : ℕ → Look → Type 0
 MovesBelow k quiet = Unit {0}
 MovesBelow k (halts e r) = Unit {0}
-MovesBelow k (moves m r) = r < k
+MovesBelow k (makes m r) = r < k
 
 decides-below : (k : ℕ) (m : step.Move) (r : ℕ) (next : Look) → r < k → MovesBelow k next → MovesBelow k (decides m r next)
 decides-below k step.drew r next here later = here
@@ -39,7 +39,7 @@ module _ (c : Counts) where
   settle-fits : (l : Look) (s : State) (go : step.Move → ℕ → Run) → Fits s → MovesBelow (c .relays) l → ((m : step.Move) (r : ℕ) → r < c .relays → Fits (go m r .state)) → Fits (settle l s go .state)
   settle-fits quiet s go fits below on = fits
   settle-fits (halts e r) s go fits below on = fits
-  settle-fits (moves m r) s go fits below on = on m r below
+  settle-fits (makes m r) s go fits below on = on m r below
 
   pub run-fits : (f : Stepper) (n : ℕ) (s : State) → Fits s → Fits (runOf f (c .relays) n s .state)
   unfolding runOf

@@ -13,10 +13,10 @@ use Rattle.board.specs.Rules.{boardFine}
 use Rattle.state.specs.declared.State.{State}
 use Rattle.state.specs.States.{stateFine, usable}
 use Rattle.state.proofs.StateLaws.{usable-given}
-use Rattle.runs.specs.declared.Word.{Word}
-use Rattle.runs.specs.declared.Word.the-variants.{Idle, Spent, Undecided, Conflict, Refused}
+use Rattle.runs.specs.declared.Ending.{Ending}
+use Rattle.runs.specs.declared.Ending.the-variants.{Idle, Spent, Undecided, Conflict, Refused}
 use Rattle.runs.specs.declared.Ran.{Ran}
-use Rattle.runs.specs.Running.{longestLog, runnable, unrun, ranOn, running, toldWord, toldRan}
+use Rattle.runs.specs.Running.{longestLog, runnable, unrun, ranOn, running, toldEnding, toldRan}
 
 module _ (b : Board) (s : State) (log : List ℕ) where
   pub runnable-unusable : (k p : ℕ) → usable b s ≡ refused k p → runnable b s log ≡ refused k p
@@ -37,9 +37,9 @@ module _ (b : Board) (s : State) (log : List ℕ) where
   runnable-given taken = usable-given b s (both-given (usable b s) _ tt taken .0)
 
   -- what the call tells goes by what stands against it
-  pub running-by : (w : ℕ) (o : Outcome (Unit {0})) → runnable b s log ≡ o → ranOn b s w log o ≡ running b s w log
+  pub running-by : (w : ℕ) (o : Outcome (Unit {0})) → runnable b s log ≡ o → ranOn b s log o w ≡ running b s log w
   unfolding running
-  running-by w o e = ap (ranOn b s w log) (sym e)
+  running-by w o e = ap (λ (q : Outcome (Unit {0})). ranOn b s log q w) (sym e)
 
 -- ---- a refused run tells the same over every log
 
@@ -48,36 +48,36 @@ unrun-log r n p s log e = λ i. record { word = e i .word; moves = e i .moves; s
 
 -- ---- the answer's cases are told apart
 
-pub told-word-once : (x y : Word) → toldWord x ≡ toldWord y → x ≡ y
-told-word-once Idle Idle e = refl
-told-word-once Idle Spent e = cc
-told-word-once Idle Undecided e = cc
-told-word-once Idle Conflict e = cc
-told-word-once Idle (Refused q) e = cc
-told-word-once Spent Idle e = cc
-told-word-once Spent Spent e = refl
-told-word-once Spent Undecided e = cc
-told-word-once Spent Conflict e = cc
-told-word-once Spent (Refused q) e = cc
-told-word-once Undecided Idle e = cc
-told-word-once Undecided Spent e = cc
-told-word-once Undecided Undecided e = refl
-told-word-once Undecided Conflict e = cc
-told-word-once Undecided (Refused q) e = cc
-told-word-once Conflict Idle e = cc
-told-word-once Conflict Spent e = cc
-told-word-once Conflict Undecided e = cc
-told-word-once Conflict Conflict e = refl
-told-word-once Conflict (Refused q) e = cc
-told-word-once (Refused r) Idle e = cc
-told-word-once (Refused r) Spent e = cc
-told-word-once (Refused r) Undecided e = cc
-told-word-once (Refused r) Conflict e = cc
-told-word-once (Refused r) (Refused q) e = ap Refused (refusal-equal r q (cc) (cc))
+pub told-ending-injective : (x y : Ending) → toldEnding x ≡ toldEnding y → x ≡ y
+told-ending-injective Idle Idle e = refl
+told-ending-injective Idle Spent e = cc
+told-ending-injective Idle Undecided e = cc
+told-ending-injective Idle Conflict e = cc
+told-ending-injective Idle (Refused q) e = cc
+told-ending-injective Spent Idle e = cc
+told-ending-injective Spent Spent e = refl
+told-ending-injective Spent Undecided e = cc
+told-ending-injective Spent Conflict e = cc
+told-ending-injective Spent (Refused q) e = cc
+told-ending-injective Undecided Idle e = cc
+told-ending-injective Undecided Spent e = cc
+told-ending-injective Undecided Undecided e = refl
+told-ending-injective Undecided Conflict e = cc
+told-ending-injective Undecided (Refused q) e = cc
+told-ending-injective Conflict Idle e = cc
+told-ending-injective Conflict Spent e = cc
+told-ending-injective Conflict Undecided e = cc
+told-ending-injective Conflict Conflict e = refl
+told-ending-injective Conflict (Refused q) e = cc
+told-ending-injective (Refused r) Idle e = cc
+told-ending-injective (Refused r) Spent e = cc
+told-ending-injective (Refused r) Undecided e = cc
+told-ending-injective (Refused r) Conflict e = cc
+told-ending-injective (Refused r) (Refused q) e = ap Refused (refusal-equal r q (cc) (cc))
 
 -- the answer and the log afterwards
-pub told-ran-once : (x y : Ran) (k l : List ℕ) → toldRan x k ≡ toldRan y l → (x ≡ y) × (k ≡ l)
-told-ran-once x y k l e = (
-  λ i. record { word = told-word-once (x .word) (y .word) (λ j. e j .word) i; moves = e i .moves; state = e i .state; relay = e i .relay },
+pub told-ran-injective : (x y : Ran) (k l : List ℕ) → toldRan x k ≡ toldRan y l → (x ≡ y) × (k ≡ l)
+told-ran-injective x y k l e = (
+  λ i. record { word = told-ending-injective (x .word) (y .word) (λ j. e j .word) i; moves = e i .moves; state = e i .state; relay = e i .relay },
   λ i. e i .log,
 )

@@ -9,19 +9,19 @@ use Rattle.board.specs.declared.Board.{Board}
 use Rattle.state.specs.declared.State.{State}
 use Rattle.state.specs.States.{isDrawn}
 use Rattle.neighbours.specs.Neighbours.{neighbours}
-use Rattle.moves.proofs.Motion.{the-type}
-use Rattle.moves.specs.declared.Motion.{Motion}
-use Rattle.moves.specs.declared.Motion.the-variants.{Drew, Dropped, Rests, Undecided, Conflict}
-use Rattle.moves.specs.Steps.{Move, stepBy, stepOf, toldMotion}
+use Rattle.moves.proofs.Move.{the-type}
+use Rattle.moves.specs.declared.Move as code-move
+use Rattle.moves.specs.declared.Move.the-variants.{Drew, Dropped, Rests, Undecided, Conflict}
+use Rattle.moves.specs.Steps.{Move, stepBy, stepOf, toldMove}
 use Rattle.moves.proofs.StepLaws.{step-by}
 use Rattle.runs.proofs.CourseLaws.{Moving}
 
 -- relay r, looked at as number q in state s by the sets `near` that were gathered in the same state s₀
-pub step-seen : (b : Board) (w : ℕ) (near : List ℕ) (s₀ s : State) (q r : ℕ) (m : Move) → near ≡ neighbours b s₀ → s₀ ≡ s → q ≡ r → m ≡ stepBy near b (isDrawn s q) q w → m ≡ stepOf b w s r
-step-seen b w near s₀ s q r m gathered same number is = is ∙ step-by b w s q near (gathered ∙ ap (neighbours b) same) ∙ ap (stepOf b w s) number
+pub step-seen : (b : Board) (w : ℕ) (near : List ℕ) (s₀ s : State) (q r : ℕ) (m : Move) → near ≡ neighbours b s₀ → s₀ ≡ s → q ≡ r → m ≡ stepBy near b (isDrawn s q) q w → m ≡ stepOf b s r w
+step-seen b w near s₀ s q r m gathered same number is = is ∙ step-by b w s q near (gathered ∙ ap (neighbours b) same) ∙ ap (λ (k : ℕ). stepOf b s k w) number
 
 -- the arm of `match` for the relays that move
-pub motion-moves : (m : Motion) → (tagOf the-type m ≡ 0) ⊎ (tagOf the-type m ≡ 1) → Moving (toldMotion m)
+pub motion-moves : (m : code-move.Move) → (tagOf the-type m ≡ 0) ⊎ (tagOf the-type m ≡ 1) → Moving (toldMove m)
 motion-moves Drew e = inl refl
 motion-moves Dropped e = inr refl
 motion-moves Rests (inl e) = absurd (let z : _≡_ {A = ℕ} 2 0 = e in omega arith)

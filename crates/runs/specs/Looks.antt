@@ -1,7 +1,7 @@
 -- A look at the relays. Rule book: "A run looks at the relays from 0 up; the first that doesn't rest decides. None: the run is idle. Undecided or conflict: it stops with that word. A move: ..."
 --     Stepper               what each relay comes to in each state. A run goes by this alone, whatever is below it
 --     Ending                the words that a run ends with
---     Look                  what a look comes to: quiet, every relay rests; halts e r, relay r stops the run with the word e; moves m r, relay r makes the move m
+--     Look                  what a look comes to: quiet, every relay rests; halts e r, relay r stops the run with the word e; makes m r, relay r makes the move m
 --     drawMark              128
 --     byteOf r m            "Each log byte is the relay number, plus 128 for a draw"
 --     decides m r next      relay r came to m; where it rests, the next relays decide
@@ -19,7 +19,7 @@ pub data Ending : Type 0 where
 pub data Look : Type 0 where
   quiet : Look
   halts : Ending → ℕ → Look
-  moves : step.Move → ℕ → Look
+  makes : step.Move → ℕ → Look
 
 abbrev pub drawMark : ℕ
 drawMark = 128
@@ -35,8 +35,8 @@ abbrev pub decides : step.Move → ℕ → Look → Look
 decides step.rests r next = next
 decides step.undecided r next = halts undecided r
 decides step.conflict r next = halts conflict r
-decides step.drew r next = moves step.drew r
-decides step.dropped r next = moves step.dropped r
+decides step.drew r next = makes step.drew r
+decides step.dropped r next = makes step.dropped r
 
 unfoldable pub lookFrom : Stepper → State → ℕ → ℕ → Look
 lookFrom f s zero r = quiet

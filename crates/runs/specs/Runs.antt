@@ -8,8 +8,8 @@
 use Prim.Native.Nat.{ℕ, zero, suc}
 use mathlib.Core.List.{List, [], _∷_}
 use Rattle.state.specs.declared.State.{State}
-use Rattle.moves.specs.Steps.{Move, made}
-use Rattle.runs.specs.Looks.{Stepper, Ending, idle, spent, Look, quiet, halts, moves, byteOf, lookFrom}
+use Rattle.moves.specs.Steps.{Move, made, stepper}
+use Rattle.runs.specs.Looks.{Stepper, Ending, idle, spent, Look, quiet, halts, makes, byteOf, lookFrom}
 
 abbrev pub noRelay : ℕ
 noRelay = 255
@@ -26,7 +26,7 @@ ends e s r = record { word = e; bytes = []; state = s; relay = r }
 abbrev pub settle : Look → State → (Move → ℕ → Run) → Run
 settle quiet s go = ends idle s noRelay
 settle (halts e r) s go = ends e s r
-settle (moves m r) s go = go m r
+settle (makes m r) s go = go m r
 
 abbrev pub logged : ℕ → Run → Run
 logged c x = record { word = x .word; bytes = c ∷ x .bytes; state = x .state; relay = x .relay }

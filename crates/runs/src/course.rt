@@ -3,14 +3,14 @@ ghost use mathlib.Core.Path.{_≡_};
 ghost use Prim.Native.Nat.{_<_, _≤_};
 ghost use lib.ListN.{length};
 ghost use Rattle.board.specs.Rules.{mostRelays};
-ghost use Rattle.moves.specs.Steps.{toldMotion};
+ghost use Rattle.moves.specs.Steps.{toldMove};
 ghost use Rattle.runs.specs.Looks.{drawMark, byteOf};
 ghost use Rattle.runs.specs.Running.{runOn, ran, toldRan};
+use crate::Ending;
 use crate::NO_RELAY;
 use crate::Ran;
-use crate::Word;
 use board::Board;
-use moves::Motion;
+use moves::Move;
 use state::State;
 
 // What the log byte of a draw has besides the relay number.
@@ -18,29 +18,29 @@ const DRAW_MARK: u8 = 128;
 
 // Why a run stopped: the word and the relay that stopped it.
 struct Stop {
-    word: Word,
+    word: Ending,
     relay: u8,
 }
 
 // The log byte of a move: the relay number, plus 128 for a draw.
-fn byte(relay: u8, motion: Motion) -> u8
+fn byte(relay: u8, motion: Move) -> u8
     requires { ⌜ relay < drawMark ⌝ }
-    ensures { λ r. ⌜ r ≡ byteOf relay (toldMotion motion) ⌝ }
+    ensures { λ r. ⌜ r ≡ byteOf relay (toldMove motion) ⌝ }
 {
     match motion {
-        Motion::Drew => relay + DRAW_MARK,
-        Motion::Dropped => relay,
-        Motion::Rests => relay,
-        Motion::Undecided => relay,
-        Motion::Conflict => relay,
+        Move::Drew => relay + DRAW_MARK,
+        Move::Dropped => relay,
+        Move::Rests => relay,
+        Move::Undecided => relay,
+        Move::Conflict => relay,
     }
 }
 
 // Looks at the relays from 0 up; the first that does not rest decides: a move is made and logged and it looks again, and
 // anything else stops the run.
-pub fn follow(board: Board, state: State, allowance: u32, log: &mut [u8]) -> Ran
+pub fn follow(board: Board, state: State, log: &mut [u8], allowance: u32) -> Ran
     requires { ⌜ board .counts .relays ≤ mostRelays ⌝ }
-    ensures { λ r. ⌜ toldRan r (now (log .exit)) ≡ ran (runOn board allowance (length (now (log .entry))) state) (now (log .entry)) ⌝ }
+    ensures { λ r. ⌜ toldRan r (now (log .exit)) ≡ ran (runOn board (length (now (log .entry))) state allowance) (now (log .entry)) ⌝ }
 {
     let relays = board.counts.relays;
     let mut state = state;
@@ -51,31 +51,31 @@ pub fn follow(board: Board, state: State, allowance: u32, log: &mut [u8]) -> Ran
         'scan: loop {
             if relays <= relay {
                 break 'run Stop {
-                    word: Word::Idle,
+                    word: Ending::Idle,
                     relay: NO_RELAY,
                 };
             }
             let motion = moves::step(&near, board, state, bits::wide(relay), allowance);
             match motion {
-                Motion::Rests => {
+                Move::Rests => {
                     relay += 1;
                 }
-                Motion::Undecided => {
+                Move::Undecided => {
                     break 'run Stop {
-                        word: Word::Undecided,
+                        word: Ending::Undecided,
                         relay,
                     };
                 }
-                Motion::Conflict => {
+                Move::Conflict => {
                     break 'run Stop {
-                        word: Word::Conflict,
+                        word: Ending::Conflict,
                         relay,
                     };
                 }
-                Motion::Drew | Motion::Dropped => {
+                Move::Drew | Move::Dropped => {
                     if log.len() <= moves {
                         break 'run Stop {
-                            word: Word::Spent,
+                            word: Ending::Spent,
                             relay,
                         };
                     }

@@ -19,7 +19,7 @@ pub const LONGEST_LOG: usize = 65_536;
 pub const NO_RELAY: u8 = 255;
 
 // How a run ends.
-pub enum Word {
+pub enum Ending {
     Idle,
     Spent,
     Undecided,
@@ -29,7 +29,7 @@ pub enum Word {
 
 // The answer to a run: the word, the moves made, the state, and the relay that stopped it.
 pub struct Ran {
-    pub word: Word,
+    pub word: Ending,
     pub moves: usize,
     pub state: State,
     pub relay: u8,
@@ -40,7 +40,7 @@ fn refuse(state: State, number: u32) -> Ran
     ensures { λ r. ⌜ toldRan r [] ≡ unrun number 0 state [] ⌝ }
 {
     Ran {
-        word: Word::Refused(Refusal { number, place: 0 }),
+        word: Ending::Refused(Refusal { number, place: 0 }),
         moves: 0,
         state,
         relay: NO_RELAY,
@@ -48,8 +48,8 @@ fn refuse(state: State, number: u32) -> Ran
 }
 
 // Runs a board from this state, each winding within the allowance, and logs each move.
-pub fn run(board: Board, state: State, allowance: u32, log: &mut [u8]) -> Ran
-    ensures { λ r. ⌜ toldRan r (now (log .exit)) ≡ running board state allowance (now (log .entry)) ⌝ }
+pub fn run(board: Board, state: State, log: &mut [u8], allowance: u32) -> Ran
+    ensures { λ r. ⌜ toldRan r (now (log .exit)) ≡ running board state (now (log .entry)) allowance ⌝ }
 {
     if !board::check(board) {
         return refuse(state, BROKEN_BOARD);
@@ -61,5 +61,5 @@ pub fn run(board: Board, state: State, allowance: u32, log: &mut [u8]) -> Ran
     if LONGEST_LOG < log.len() {
         return refuse(state, LOG_TOO_LONG);
     }
-    course::follow(board, state, allowance, log)
+    course::follow(board, state, log, allowance)
 }

@@ -9,16 +9,16 @@ use Rattle.board.specs.declared.Board.{Board}
 use Rattle.state.specs.declared.State.{State}
 use Rattle.runs.specs.declared.Ran.{Ran}
 use Rattle.runs.specs.Runs.{Run}
-use Rattle.runs.specs.Running.{ran, runOn, toldWord, toldRan}
-use Rattle.runs.proofs.RunningLaws.{running-by, told-ran-once}
-use Rattle.runs_means.specs.LongerRuns.{Runs, Accepted, movesOf}
+use Rattle.runs.specs.Running.{ran, runOn, toldEnding, toldRan}
+use Rattle.runs.proofs.RunningLaws.{running-by, told-ran-injective}
+use Rattle.runs_means.specs.LongerRuns.{Runs, AcceptedRun, movesOf}
 
 -- a call that is not refused tells of the run
-pub accepted-ran : (b : Board) (s : State) (w : ℕ) (log : List ℕ) (a : Ran) (l : List ℕ) → Runs b s w log a l → Accepted b s log → toldRan a l ≡ ran (runOn b w (length log) s) log
+pub accepted-ran : (b : Board) (s : State) (w : ℕ) (log : List ℕ) (a : Ran) (l : List ℕ) → Runs b s log w a l → AcceptedRun b s log → toldRan a l ≡ ran (runOn b (length log) s w) log
 accepted-ran b s w log a l told taken = told ∙ sym (running-by b s log w (given tt) taken)
 
 module _ (a : Ran) (l : List ℕ) (x : Run) (log : List ℕ) (told : toldRan a l ≡ ran x log) where
-  pub answer-word : toldWord (a .word) ≡ given (x .word)
+  pub answer-word : toldEnding (a .word) ≡ given (x .word)
   unfolding ran
   answer-word = λ i. told i .word
 
@@ -43,9 +43,9 @@ module _ (a : Ran) (l : List ℕ) (x : Run) (log : List ℕ) (told : toldRan a l
   answer-bytes = ap (λ (n : ℕ). take n l) answer-moves ∙ ap (take (length (x .bytes))) answer-log ∙ take-append-seam (x .bytes) (drop (length (x .bytes)) log)
 
 -- two answers that tell of one run are one answer, whatever logs were lent
-pub answer-once : (a c : Ran) (l k : List ℕ) (x : Run) (log long : List ℕ) → toldRan a l ≡ ran x log → toldRan c k ≡ ran x long → a ≡ c
-answer-once a c l k x log long told also =
-    told-ran-once a c [] [] (λ i. record {
+pub answer-unique : (a c : Ran) (l k : List ℕ) (x : Run) (log long : List ℕ) → toldRan a l ≡ ran x log → toldRan c k ≡ ran x long → a ≡ c
+answer-unique a c l k x log long told also =
+    told-ran-injective a c [] [] (λ i. record {
       word = (answer-word a l x log told ∙ sym (answer-word c k x long also)) i;
       moves = (answer-moves a l x log told ∙ sym (answer-moves c k x long also)) i;
       state = (answer-state a l x log told ∙ sym (answer-state c k x long also)) i;

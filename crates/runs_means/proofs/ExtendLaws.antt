@@ -6,10 +6,10 @@ use mathlib.Core.Logic.{_⊎_, inl, inr}
 use mathlib.Core.List.{[], _∷_, append-nil}
 use Rattle.state.specs.declared.State.{State}
 use Rattle.moves.specs.Steps as step
-use Rattle.runs.specs.Looks.{Stepper, Ending, idle, spent, undecided, conflict, Look, quiet, halts, moves, byteOf, lookFrom}
+use Rattle.runs.specs.Looks.{Stepper, Ending, idle, spent, undecided, conflict, Look, quiet, halts, makes, byteOf, lookFrom}
 use Rattle.runs.specs.Runs.{Run, ends, logged, runOf}
 use Rattle.runs.proofs.RunLaws.{run-quiet, run-halts, run-spent, run-moves}
-use Rattle.runs_means.specs.LongerRuns.{Begins}
+use Rattle.runs_means.specs.LongerRuns.{IsStart}
 
 -- g comes to what f comes to, wherever f is not undecided
 abbrev pub Settles : Stepper → Stepper → Type 0
@@ -21,7 +21,7 @@ Final e = (e ≡ idle) ⊎ (e ≡ conflict)
 
 -- the run y starts with every move of x, and is the same run where x's word is final
 pub record GoesOn (x y : Run) : Type 0 where
-  pub starts : Begins (x .bytes) (y .bytes)
+  pub starts : IsStart (x .bytes) (y .bytes)
   pub stands : Final (x .word) → y ≡ x
 
 -- ---- a look
@@ -80,13 +80,13 @@ undecided-unfinal (inr e) = let z : _≡_ {A = ℕ} 0 1 = cc in omega arith
 
 module _ (f g : Stepper) (settles : Settles f g) (k : ℕ) where
   -- by what the first look comes to; a move is left to the room that the two runs have
-  goes-on-look : (n m : ℕ) (s : State) → ((mv : step.Move) (r : ℕ) → lookFrom f s k 0 ≡ moves mv r → lookFrom g s k 0 ≡ moves mv r → GoesOn (runOf f k n s) (runOf g k m s)) → GoesOn (runOf f k n s) (runOf g k m s)
+  goes-on-look : (n m : ℕ) (s : State) → ((mv : step.Move) (r : ℕ) → lookFrom f s k 0 ≡ makes mv r → lookFrom g s k 0 ≡ makes mv r → GoesOn (runOf f k n s) (runOf g k m s)) → GoesOn (runOf f k n s) (runOf g k m s)
   goes-on-look n m s on = by-looks (look-settles f g settles s k 0)
     where
       by-look : (l : Look) → lookFrom f s k 0 ≡ l → lookFrom g s k 0 ≡ l → GoesOn (runOf f k n s) (runOf g k m s)
       by-look quiet e d = goes-on-same _ _ (run-quiet g k s m d ∙ sym (run-quiet f k s n e))
       by-look (halts w r) e d = goes-on-same _ _ (run-halts g k s m w r d ∙ sym (run-halts f k s n w r e))
-      by-look (moves mv r) e d = on mv r e d
+      by-look (makes mv r) e d = on mv r e d
 
       by-looks : Looks f g s k 0 → GoesOn (runOf f k n s) (runOf g k m s)
       by-looks (inl (q, u)) = goes-on-unfinal _ _ undecided s q (run-halts f k s n undecided q u) undecided-unfinal

@@ -5,19 +5,19 @@ use mathlib.Core.Logic.{inl, inr}
 use mathlib.Core.List.{List}
 use lib.ListN.{length}
 use Rattle.number.specs.Outcomes.{given}
-use Rattle.number.proofs.OutcomeLaws.{given-same}
-use Rattle.moves.specs.Steps.{stepOf}
+use Rattle.number.proofs.OutcomeLaws.{given-injective}
+use Rattle.moves.specs.Steps.{stepper}
 use Rattle.moves.proofs.StepLaws.{step-larger}
 use Rattle.runs.specs.declared.Ran.{Ran}
 use Rattle.runs.specs.Runs.{Run}
-use Rattle.runs.specs.Running.{ran, toldWord, toldRan}
+use Rattle.runs.specs.Running.{ran, toldEnding, toldRan}
 use Rattle.runs_means.specs.LongerRuns.{Stands, Extends, LongerRun}
 use Rattle.runs_means.proofs.ExtendLaws.{Final, GoesOn, run-goes-on}
-use Rattle.runs_means.proofs.AnswerLaws.{accepted-ran, answer-word, answer-bytes, answer-once}
+use Rattle.runs_means.proofs.AnswerLaws.{accepted-ran, answer-word, answer-bytes, answer-unique}
 
-stands-final : (a : Ran) (x : Run) → toldWord (a .word) ≡ given (x .word) → Stands a → Final (x .word)
-stands-final a x told (inl e) = inl (given-same _ _ (sym told ∙ ap toldWord e))
-stands-final a x told (inr e) = inr (given-same _ _ (sym told ∙ ap toldWord e))
+stands-final : (a : Ran) (x : Run) → toldEnding (a .word) ≡ given (x .word) → Stands a → Final (x .word)
+stands-final a x told (inl e) = inl (given-injective _ _ (sym told ∙ ap toldEnding e))
+stands-final a x told (inr e) = inr (given-injective _ _ (sym told ∙ ap toldEnding e))
 
 -- the answers tell what holds of the runs
 answer-extends : (a c : Ran) (l k : List ℕ) (x y : Run) (log long : List ℕ) → toldRan a l ≡ ran x log → toldRan c k ≡ ran y long → GoesOn x y → Extends a l c k
@@ -28,7 +28,7 @@ answer-extends a c l k x y log long told also on =
       starts = rw (first, second) (on .starts);
       stands = λ standing.
           let same = on .stands (stands-final a x (answer-word a l x log told) standing) in
-          (answer-once c a k l x long log (also ∙ ap (λ (z : Run). ran z long) same) told, second ∙ ap (λ (z : Run). z .bytes) same ∙ sym first);
+          (answer-unique c a k l x long log (also ∙ ap (λ (z : Run). ran z long) same) told, second ∙ ap (λ (z : Run). z .bytes) same ∙ sym first);
     }
 
 pub longer-run : LongerRun
@@ -36,4 +36,4 @@ longer-run b s w x log long a c l k told also taken accepted more room =
     answer-extends a c l k _ _ log long
     (accepted-ran b s w log a l told taken)
     (accepted-ran b s x long c k also accepted)
-    (run-goes-on (stepOf b w) (stepOf b x) (λ t r. step-larger b w x t r more) (b .counts .relays) (length log) (length long) s room)
+    (run-goes-on (stepper b w) (stepper b x) (λ t r. step-larger b w x t r more) (b .counts .relays) (length log) (length long) s room)

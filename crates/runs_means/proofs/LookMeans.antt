@@ -13,40 +13,40 @@ use Rattle.state.specs.States.{stateFine}
 use Rattle.moves.specs.Steps as step
 use Rattle.moves_means.specs.SingleMoves.{Comes}
 use Rattle.moves_means.proofs.SingleMoves.{step-means}
-use Rattle.runs.specs.Looks.{Look, quiet, halts, moves, idle, spent, undecided, conflict, decides, lookFrom}
+use Rattle.runs.specs.Looks.{Look, quiet, halts, makes, idle, spent, undecided, conflict, decides, lookFrom}
 use Rattle.runs.proofs.LookLaws.{look-quiet, look-decides}
 use Rattle.runs_means.specs.Courses.{Resting, StoppedBy}
 
 abbrev pub LookMeans : Board → ℕ → State → Look → Type 0
-LookMeans b w s quiet = Resting b w s (b .counts .relays)
+LookMeans b w s quiet = Resting b s (b .counts .relays) w
 LookMeans b w s (halts idle r) = ⊥
 LookMeans b w s (halts spent r) = ⊥
-LookMeans b w s (halts undecided r) = StoppedBy b w s r step.undecided
-LookMeans b w s (halts conflict r) = StoppedBy b w s r step.conflict
-LookMeans b w s (moves step.drew r) = StoppedBy b w s r step.drew
-LookMeans b w s (moves step.dropped r) = StoppedBy b w s r step.dropped
-LookMeans b w s (moves step.rests r) = ⊥
-LookMeans b w s (moves step.undecided r) = ⊥
-LookMeans b w s (moves step.conflict r) = ⊥
+LookMeans b w s (halts undecided r) = StoppedBy b s r step.undecided w
+LookMeans b w s (halts conflict r) = StoppedBy b s r step.conflict w
+LookMeans b w s (makes step.drew r) = StoppedBy b s r step.drew w
+LookMeans b w s (makes step.dropped r) = StoppedBy b s r step.dropped w
+LookMeans b w s (makes step.rests r) = ⊥
+LookMeans b w s (makes step.undecided r) = ⊥
+LookMeans b w s (makes step.conflict r) = ⊥
 
 module _ (b : Board) (w : ℕ) (s : State) where
-  resting-none : Resting b w s 0
+  resting-none : Resting b s 0 w
   resting-none q below = absurd (omega arith)
 
-  resting-more : (r : ℕ) → Resting b w s r → Comes b w s r step.rests → Resting b w s (r + 1)
+  resting-more : (r : ℕ) → Resting b s r w → Comes b s r step.rests w → Resting b s (r + 1) w
   resting-more r rest here q below =
       by-test (ltb q r)
       (λ less. rest q (ltb-true q r less))
-      (λ not-less. subst (λ (k : ℕ). Comes b w s k step.rests) (same (ltb-false q r not-less)) here)
+      (λ not-less. subst (λ (k : ℕ). Comes b s k step.rests w) (same (ltb-false q r not-less)) here)
     where
       same : r ≤ q → r ≡ q
       same least = omega arith
 
-  resting-all : (r : ℕ) → b .counts .relays ≤ r → Resting b w s r → Resting b w s (b .counts .relays)
+  resting-all : (r : ℕ) → b .counts .relays ≤ r → Resting b s r w → Resting b s (b .counts .relays) w
   resting-all r past rest q below = rest q (omega arith)
 
   -- relay r comes to m, all below it rest, and the relays after it mean what they say
-  decides-means : (m : step.Move) (r : ℕ) (next : Look) → r < b .counts .relays → Resting b w s r → Comes b w s r m → (Resting b w s (r + 1) → LookMeans b w s next) → LookMeans b w s (decides m r next)
+  decides-means : (m : step.Move) (r : ℕ) (next : Look) → r < b .counts .relays → Resting b s r w → Comes b s r m w → (Resting b s (r + 1) w → LookMeans b w s next) → LookMeans b w s (decides m r next)
   decides-means step.drew r next below rest here later = (below, (rest, here))
   decides-means step.dropped r next below rest here later = (below, (rest, here))
   decides-means step.rests r next below rest here later = later (resting-more r rest here)
@@ -55,14 +55,14 @@ module _ (b : Board) (w : ℕ) (s : State) where
 
   module _ (fine : boardFine b ≡ true) (fits : stateFine (b .counts) s ≡ true) where
     -- n relays are left to look at
-    look-from-means : (n r : ℕ) → b .counts .relays - r ≡ n → Resting b w s r → LookMeans b w s (lookFrom (step.stepOf b w) s (b .counts .relays - r) r)
-    look-from-means zero r left rest = subst (LookMeans b w s) (sym (look-quiet (step.stepOf b w) s (b .counts .relays) r (omega arith))) (resting-all r (omega arith) rest)
+    look-from-means : (n r : ℕ) → b .counts .relays - r ≡ n → Resting b s r w → LookMeans b w s (lookFrom (step.stepper b w) s (b .counts .relays - r) r)
+    look-from-means zero r left rest = subst (LookMeans b w s) (sym (look-quiet (step.stepper b w) s (b .counts .relays) r (omega arith))) (resting-all r (omega arith) rest)
     look-from-means (suc n) r left rest =
         let below : r < b .counts .relays = omega arith in
-        subst (LookMeans b w s) (sym (look-decides (step.stepOf b w) s (b .counts .relays) r (step.stepOf b w s r) below refl))
-        (decides-means (step.stepOf b w s r) r _ below rest (step-means b w s r fine fits below) (look-from-means n (r + 1) (omega arith)))
+        subst (LookMeans b w s) (sym (look-decides (step.stepper b w) s (b .counts .relays) r (step.stepOf b s r w) below refl))
+        (decides-means (step.stepOf b s r w) r _ below rest (step-means b w s r fine fits below) (look-from-means n (r + 1) (omega arith)))
 
-    pub look-means : LookMeans b w s (lookFrom (step.stepOf b w) s (b .counts .relays) 0)
+    pub look-means : LookMeans b w s (lookFrom (step.stepper b w) s (b .counts .relays) 0)
     look-means =
         let whole : b .counts .relays - 0 ≡ b .counts .relays = omega arith in
-        subst (λ (n : ℕ). LookMeans b w s (lookFrom (step.stepOf b w) s n 0)) whole (look-from-means (b .counts .relays) 0 whole resting-none)
+        subst (λ (n : ℕ). LookMeans b w s (lookFrom (step.stepper b w) s n 0)) whole (look-from-means (b .counts .relays) 0 whole resting-none)

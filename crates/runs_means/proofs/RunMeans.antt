@@ -12,7 +12,7 @@ use Rattle.moves.specs.Steps as step
 use Rattle.moves.proofs.StepLaws.{made-fits}
 use Rattle.moves_means.specs.Guards.{CanDraw, CanDrop}
 use Rattle.moves_means.proofs.ComesLaws.{comes-once}
-use Rattle.runs.specs.Looks.{Ending, idle, spent, undecided, conflict, Look, quiet, halts, moves, byteOf, lookFrom}
+use Rattle.runs.specs.Looks.{Ending, idle, spent, undecided, conflict, Look, quiet, halts, makes, byteOf, lookFrom}
 use Rattle.runs.specs.Runs.{noRelay, Run, ends, logged, runOf}
 use Rattle.runs.proofs.RunLaws.{run-quiet, run-halts, run-spent, run-moves}
 use Rattle.runs_means.specs.Courses.{LowestMove, Follows, Resting, StoppedBy, Ended}
@@ -22,17 +22,17 @@ module _ (b : Board) (w : ℕ) where
   -- ---- one move
 
   -- of the relays below the one that stopped the look no guard holds
-  unguarded : (s : State) (r : ℕ) → Resting b w s r → (q : ℕ) → q < r → ¬ (CanDraw b s q) × ¬ (CanDrop b s q)
+  unguarded : (s : State) (r : ℕ) → Resting b s r w → (q : ℕ) → q < r → ¬ (CanDraw b s q) × ¬ (CanDrop b s q)
   unguarded s r rest q below = rest q below .1 .1
 
-  stopped-moves : (s : State) (m : step.Move) (r : ℕ) → LookMeans b w s (moves m r) → LowestMove b w s (byteOf r m) (step.made s r m)
+  stopped-moves : (s : State) (m : step.Move) (r : ℕ) → LookMeans b w s (makes m r) → LowestMove b s (byteOf r m) (step.made s r m) w
   stopped-moves s step.drew r stopped = record { relay = r; made = inl (refl, (stopped, refl)); guarded = inl (stopped .1 .1 .1 .1); lowest = unguarded s r (stopped .1 .0) }
   stopped-moves s step.dropped r stopped = record { relay = r; made = inr (refl, (stopped, refl)); guarded = inr (stopped .1 .1 .1 .1); lowest = unguarded s r (stopped .1 .0) }
   stopped-moves s step.rests r never = absurd never
   stopped-moves s step.undecided r never = absurd never
   stopped-moves s step.conflict r never = absurd never
 
-  stopped-below : (s : State) (m : step.Move) (r : ℕ) → LookMeans b w s (moves m r) → r < b .counts .relays
+  stopped-below : (s : State) (m : step.Move) (r : ℕ) → LookMeans b w s (makes m r) → r < b .counts .relays
   stopped-below s step.drew r stopped = stopped .0
   stopped-below s step.dropped r stopped = stopped .0
   stopped-below s step.rests r never = absurd never
@@ -43,20 +43,20 @@ module _ (b : Board) (w : ℕ) where
 
   -- what the run x from state s says, with room for n moves
   pub record Says (n : ℕ) (s : State) (x : Run) : Type 0 where
-    pub follows : Follows b w s (x .bytes) (x .state)
-    pub ended : Ended b w n (length (x .bytes)) (x .state) (x .relay) (x .word)
+    pub follows : Follows b s (x .bytes) (x .state) w
+    pub ended : Ended b n (length (x .bytes)) (x .state) (x .relay) (x .word) w
 
-  says-ends : (n : ℕ) (s : State) (e : Ending) (r : ℕ) → Ended b w n 0 s r e → Says n s (ends e s r)
+  says-ends : (n : ℕ) (s : State) (e : Ending) (r : ℕ) → Ended b n 0 s r e w → Says n s (ends e s r)
   unfolding Follows
   says-ends n s e r h = record { follows = refl; ended = h }
 
-  halts-ended : (n : ℕ) (s : State) (e : Ending) (r : ℕ) → LookMeans b w s (halts e r) → Ended b w n 0 s r e
+  halts-ended : (n : ℕ) (s : State) (e : Ending) (r : ℕ) → LookMeans b w s (halts e r) → Ended b n 0 s r e w
   halts-ended n s idle r never = absurd never
   halts-ended n s spent r never = absurd never
   halts-ended n s undecided r stopped = stopped
   halts-ended n s conflict r stopped = stopped
 
-  full-ended : (s : State) (m : step.Move) (r : ℕ) → LookMeans b w s (moves m r) → Ended b w 0 0 s r spent
+  full-ended : (s : State) (m : step.Move) (r : ℕ) → LookMeans b w s (makes m r) → Ended b 0 0 s r spent w
   full-ended s step.drew r stopped = (refl, inl stopped)
   full-ended s step.dropped r stopped = (refl, inr stopped)
   full-ended s step.rests r never = absurd never
@@ -64,37 +64,37 @@ module _ (b : Board) (w : ℕ) where
   full-ended s step.conflict r never = absurd never
 
   -- one move more, and room for one more
-  ended-more : (n k : ℕ) (s : State) (r : ℕ) (e : Ending) → Ended b w n k s r e → Ended b w (suc n) (suc k) s r e
+  ended-more : (n k : ℕ) (s : State) (r : ℕ) (e : Ending) → Ended b n k s r e w → Ended b (suc n) (suc k) s r e w
   ended-more n k s r idle h = h
   ended-more n k s r spent h = (ap suc (h .0), h .1)
   ended-more n k s r undecided h = h
   ended-more n k s r conflict h = h
 
-  says-logged : (n : ℕ) (s : State) (c : ℕ) (t : State) (x : Run) → LowestMove b w s c t → Says n t x → Says (suc n) s (logged c x)
+  says-logged : (n : ℕ) (s : State) (c : ℕ) (t : State) (x : Run) → LowestMove b s c t w → Says n t x → Says (suc n) s (logged c x)
   unfolding Follows
   says-logged n s c t x move on = record { follows = (t, (move, on .follows)); ended = ended-more n (length (x .bytes)) (x .state) (x .relay) (x .word) (on .ended) }
 
   module _ (fine : boardFine b ≡ true) where
     abbrev run : ℕ → State → Run
-    run n s = runOf (step.stepOf b w) (b .counts .relays) n s
+    run n s = runOf (step.stepper b w) (b .counts .relays) n s
 
     abbrev look : State → Look
-    look s = lookFrom (step.stepOf b w) s (b .counts .relays) 0
+    look s = lookFrom (step.stepper b w) s (b .counts .relays) 0
 
     -- a look that comes to no move ends the run, whatever its room
-    says-look : (n : ℕ) (s : State) (l : Look) → look s ≡ l → LookMeans b w s l → ((m : step.Move) (r : ℕ) → look s ≡ moves m r → LookMeans b w s (moves m r) → Says n s (run n s)) → Says n s (run n s)
-    says-look n s quiet e means on = subst (Says n s) (sym (run-quiet (step.stepOf b w) (b .counts .relays) s n e)) (says-ends n s idle noRelay (refl, means))
-    says-look n s (halts h r) e means on = subst (Says n s) (sym (run-halts (step.stepOf b w) (b .counts .relays) s n h r e)) (says-ends n s h r (halts-ended n s h r means))
-    says-look n s (moves m r) e means on = on m r e means
+    says-look : (n : ℕ) (s : State) (l : Look) → look s ≡ l → LookMeans b w s l → ((m : step.Move) (r : ℕ) → look s ≡ makes m r → LookMeans b w s (makes m r) → Says n s (run n s)) → Says n s (run n s)
+    says-look n s quiet e means on = subst (Says n s) (sym (run-quiet (step.stepper b w) (b .counts .relays) s n e)) (says-ends n s idle noRelay (refl, means))
+    says-look n s (halts h r) e means on = subst (Says n s) (sym (run-halts (step.stepper b w) (b .counts .relays) s n h r e)) (says-ends n s h r (halts-ended n s h r means))
+    says-look n s (makes m r) e means on = on m r e means
 
     pub run-says : (n : ℕ) (s : State) → stateFine (b .counts) s ≡ true → Says n s (run n s)
     run-says zero s fits =
         says-look zero s (look s) refl (look-means b w s fine fits)
-        (λ m r e means. subst (Says zero s) (sym (run-spent (step.stepOf b w) (b .counts .relays) s m r e)) (says-ends zero s spent r (full-ended s m r means)))
+        (λ m r e means. subst (Says zero s) (sym (run-spent (step.stepper b w) (b .counts .relays) s m r e)) (says-ends zero s spent r (full-ended s m r means)))
     run-says (suc n) s fits =
         says-look (suc n) s (look s) refl (look-means b w s fine fits)
         (λ m r e means.
-        subst (Says (suc n) s) (sym (run-moves (step.stepOf b w) (b .counts .relays) s n m r e))
+        subst (Says (suc n) s) (sym (run-moves (step.stepper b w) (b .counts .relays) s n m r e))
         (says-logged n s (byteOf r m) (step.made s r m) (run n (step.made s r m)) (stopped-moves s m r means)
         (run-says n (step.made s r m) (made-fits (b .counts) s r m fits (stopped-below s m r means)))))
 
@@ -110,24 +110,24 @@ module _ (b : Board) (w : ℕ) where
 
   record Stopped (s : State) (r : ℕ) (e : Ending) : Type 0 where
     motion : step.Move
-    stops : StoppedBy b w s r motion
+    stops : StoppedBy b s r motion w
     says : wordBy motion ≡ e
 
-  ended-by : (n k : ℕ) (s : State) (r : ℕ) (e : Ending) → Ended b w n k s r e → ((idle ≡ e) × Resting b w s (b .counts .relays)) ⊎ Stopped s r e
+  ended-by : (n k : ℕ) (s : State) (r : ℕ) (e : Ending) → Ended b n k s r e w → ((idle ≡ e) × Resting b s (b .counts .relays) w) ⊎ Stopped s r e
   ended-by n k s r idle h = inl (refl, h .1)
   ended-by n k s r spent h = inr (⊎-elim (λ x. record { motion = step.drew; stops = x; says = refl }) (λ x. record { motion = step.dropped; stops = x; says = refl }) (h .1))
   ended-by n k s r undecided h = inr (record { motion = step.undecided; stops = h; says = refl })
   ended-by n k s r conflict h = inr (record { motion = step.conflict; stops = h; says = refl })
 
   -- where all rest, what a relay came to is that it rests
-  rests-stopped : (s : State) (r : ℕ) (e : Ending) → Resting b w s (b .counts .relays) → Stopped s r e → idle ≡ e
+  rests-stopped : (s : State) (r : ℕ) (e : Ending) → Resting b s (b .counts .relays) w → Stopped s r e → idle ≡ e
   rests-stopped s r e rest x = ap wordBy (comes-once b w s r step.rests (x .motion) (rest r (x .stops .0)) (x .stops .1 .1)) ∙ x .says
 
-  causes-once : (s : State) (r : ℕ) (d e : Ending) → ((idle ≡ d) × Resting b w s (b .counts .relays)) ⊎ Stopped s r d → ((idle ≡ e) × Resting b w s (b .counts .relays)) ⊎ Stopped s r e → d ≡ e
+  causes-once : (s : State) (r : ℕ) (d e : Ending) → ((idle ≡ d) × Resting b s (b .counts .relays) w) ⊎ Stopped s r d → ((idle ≡ e) × Resting b s (b .counts .relays) w) ⊎ Stopped s r e → d ≡ e
   causes-once s r d e (inl x) (inl y) = sym (x .0) ∙ y .0
   causes-once s r d e (inl x) (inr y) = sym (x .0) ∙ rests-stopped s r e (x .1) y
   causes-once s r d e (inr x) (inl y) = sym (rests-stopped s r d (y .1) x) ∙ y .0
   causes-once s r d e (inr x) (inr y) = sym (x .says) ∙ ap wordBy (comes-once b w s r (x .motion) (y .motion) (x .stops .1 .1) (y .stops .1 .1)) ∙ y .says
 
-  pub ended-once : (n k : ℕ) (s : State) (r : ℕ) (d e : Ending) → Ended b w n k s r d → Ended b w n k s r e → d ≡ e
+  pub ended-once : (n k : ℕ) (s : State) (r : ℕ) (d e : Ending) → Ended b n k s r d w → Ended b n k s r e w → d ≡ e
   ended-once n k s r d e x y = causes-once s r d e (ended-by n k s r d x) (ended-by n k s r e y)

@@ -1,9 +1,9 @@
 -- What a run means, over the call `runs::run`, whatever it answers under its promise: its moves, in the words of documents 000 and 002, and what each of its words says exactly.
---     Resting b w s k            each relay below k rests in state s: no guard holds of it, there is not current through both its windings, and none of them needs more than the allowance w
---     StoppedBy b w s r m        relay r is the first that does not rest in state s, and it comes to m
---     LowestMove b w s c t       one move, from state s to state t, logged as the byte c: "the first that doesn't rest decides", and comes to drew or dropped; that relay is changed and nothing else. So the guard for drawing or dropping it holds in s, and of no lower relay does one hold
---     Follows b w s cs t         the moves logged as cs lead from state s to state t, one after the other
---     Ended b w n m s r e        what the word e says, of a run with room for n moves that made m of them and stopped in state s at relay r. Spent: a further move was possible when the log was full. Undecided: some winding looked at needed more than the allowance
+--     Resting b s k w            each relay below k rests in state s: no guard holds of it, there is not current through both its windings, and none of them needs more than the allowance w
+--     StoppedBy b s r m w        relay r is the first that does not rest in state s, and it comes to m
+--     LowestMove b s c t w       one move, from state s to state t, logged as the byte c: "the first that doesn't rest decides", and comes to drew or dropped; that relay is changed and nothing else. So the guard for drawing or dropping it holds in s, and of no lower relay does one hold
+--     Follows b s cs t w         the moves logged as cs lead from state s to state t, one after the other
+--     Ended b n m s r e w        what the word e says, of a run with room for n moves that made m of them and stopped in state s at relay r. Spent: a further move was possible when the log was full. Undecided: some winding looked at needed more than the allowance
 --     RunMeans, RunExactly       of a run that is not refused: the moves it made, as many as it says and as the log has room for, follow one another from the state given to the state it answers with, and the log beyond them is as it was; its word is e exactly if `Ended` holds of e; and a run that ends idle leaves the board stable, as document 000 has it
 use Prim.Native.Nat.{ℕ, _+_, _<_, _≤_}
 use mathlib.Core.Path.{_≡_}
@@ -20,42 +20,42 @@ use Rattle.moves_means.specs.SingleMoves.{Comes}
 use Rattle.runs.specs.declared.Ran.{Ran}
 use Rattle.runs.specs.Looks.{drawMark, Ending, idle, spent, undecided, conflict}
 use Rattle.runs.specs.Runs.{noRelay}
-use Rattle.runs.specs.Running.{toldWord}
-use Rattle.runs_means.specs.LongerRuns.{Runs, Accepted, movesOf}
+use Rattle.runs.specs.Running.{toldEnding}
+use Rattle.runs_means.specs.LongerRuns.{Runs, AcceptedRun, movesOf}
 
-abbrev pub Resting : Board → ℕ → State → ℕ → Type 0
-Resting b w s k = (q : ℕ) → q < k → Comes b w s q step.rests
+abbrev pub Resting : Board → State → ℕ → ℕ → Type 0
+Resting b s k w = (q : ℕ) → q < k → Comes b s q step.rests w
 
-abbrev pub StoppedBy : Board → ℕ → State → ℕ → step.Move → Type 0
-StoppedBy b w s r m = (r < b .counts .relays) × (Resting b w s r × Comes b w s r m)
+abbrev pub StoppedBy : Board → State → ℕ → step.Move → ℕ → Type 0
+StoppedBy b s r m w = (r < b .counts .relays) × (Resting b s r w × Comes b s r m w)
 
-pub record LowestMove (b : Board) (w : ℕ) (s : State) (c : ℕ) (t : State) : Type 0 where
+pub record LowestMove (b : Board) (s : State) (c : ℕ) (t : State) (w : ℕ) : Type 0 where
   pub relay : ℕ
-  pub made : ((c ≡ relay + drawMark) × (StoppedBy b w s relay step.drew × (t ≡ withDrawn s relay))) ⊎ ((c ≡ relay) × (StoppedBy b w s relay step.dropped × (t ≡ withDropped s relay)))
+  pub made : ((c ≡ relay + drawMark) × (StoppedBy b s relay step.drew w × (t ≡ withDrawn s relay))) ⊎ ((c ≡ relay) × (StoppedBy b s relay step.dropped w × (t ≡ withDropped s relay)))
   pub guarded : CanDraw b s relay ⊎ CanDrop b s relay
   pub lowest : (q : ℕ) → q < relay → ¬ (CanDraw b s q) × ¬ (CanDrop b s q)
 
-unfoldable pub Follows : Board → ℕ → State → List ℕ → State → Type 0
-Follows b w s [] t = s ≡ t
-Follows b w s (c ∷ cs) t = (u : State) × (LowestMove b w s c u × Follows b w u cs t)
+unfoldable pub Follows : Board → State → List ℕ → State → ℕ → Type 0
+Follows b s [] t w = s ≡ t
+Follows b s (c ∷ cs) t w = (u : State) × (LowestMove b s c u w × Follows b u cs t w)
 
-abbrev pub Ended : Board → ℕ → ℕ → ℕ → State → ℕ → Ending → Type 0
-Ended b w n m s r idle = (r ≡ noRelay) × Resting b w s (b .counts .relays)
-Ended b w n m s r spent = (m ≡ n) × (StoppedBy b w s r step.drew ⊎ StoppedBy b w s r step.dropped)
-Ended b w n m s r undecided = StoppedBy b w s r step.undecided
-Ended b w n m s r conflict = StoppedBy b w s r step.conflict
+abbrev pub Ended : Board → ℕ → ℕ → State → ℕ → Ending → ℕ → Type 0
+Ended b n m s r idle w = (r ≡ noRelay) × Resting b s (b .counts .relays) w
+Ended b n m s r spent w = (m ≡ n) × (StoppedBy b s r step.drew w ⊎ StoppedBy b s r step.dropped w)
+Ended b n m s r undecided w = StoppedBy b s r step.undecided w
+Ended b n m s r conflict w = StoppedBy b s r step.conflict w
 
-pub record RunMeans (b : Board) (s : State) (w : ℕ) (log : List ℕ) (a : Ran) (l : List ℕ) : Type 0 where
-  pub moved : Follows b w s (movesOf a l) (a .state)
+pub record RunMeans (b : Board) (s : State) (log : List ℕ) (w : ℕ) (a : Ran) (l : List ℕ) : Type 0 where
+  pub moved : Follows b s (movesOf a l) (a .state) w
   pub counted : length (movesOf a l) ≡ a .moves
   pub room : a .moves ≤ length log
   pub kept : drop (a .moves) l ≡ drop (a .moves) log
-  pub ended : (e : Ending) → toldWord (a .word) ≡ given e ↔ Ended b w (length log) (a .moves) (a .state) (a .relay) e
-  pub stable : toldWord (a .word) ≡ given idle → Stable b (a .state)
+  pub ended : (e : Ending) → toldEnding (a .word) ≡ given e ↔ Ended b (length log) (a .moves) (a .state) (a .relay) e w
+  pub stable : toldEnding (a .word) ≡ given idle → Stable b (a .state)
 
 abbrev pub RunExactly : Type 0
 RunExactly =
     (b : Board) (s : State) (w : ℕ) (log : List ℕ) (a : Ran) (l : List ℕ)
-    → Runs b s w log a l
-    → Accepted b s log
-    → RunMeans b s w log a l
+    → Runs b s log w a l
+    → AcceptedRun b s log
+    → RunMeans b s log w a l

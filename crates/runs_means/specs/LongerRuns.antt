@@ -1,8 +1,8 @@
 -- Demand 3, second half, over the call `runs::run`, whatever it answers under its promise: "of two runs from one board and state the more generous one starts with every move of the other". Where the other ended idle or in conflict, it ends with that word, in that same state, after the same moves.
---     Runs b s w log a l       `run` was called on board b, state s and allowance w, was lent `log`, answered a and left the log as l
---     Accepted b s log         the call is not refused
+--     Runs b s log w a l       `run` was called on board b, state s and allowance w, was lent `log`, answered a and left the log as l
+--     AcceptedRun b s log         the call is not refused
 --     movesOf a l              the moves made: the log's bytes up to their number
---     Begins xs ys             ys starts with xs
+--     IsStart xs ys             ys starts with xs
 --     Stands a                 a ended idle or in conflict
 --     Extends a l c k          the run that answered c and left k starts with every move of the one that answered a and left l, and is the same run where that one stands
 --     LongerRun                the theorem: no shorter log and no less allowance for each winding
@@ -15,19 +15,19 @@ use Rattle.number.specs.Outcomes.{given}
 use Rattle.board.specs.declared.Board.{Board}
 use Rattle.state.specs.declared.State.{State}
 use Rattle.runs.specs.declared.Ran.{Ran}
-use Rattle.runs.specs.declared.Word.the-variants.{Idle, Conflict}
+use Rattle.runs.specs.declared.Ending.the-variants.{Idle, Conflict}
 use Rattle.runs.specs.Running.{runnable, running, toldRan}
 
-abbrev pub Runs : Board → State → ℕ → List ℕ → Ran → List ℕ → Type 0
-Runs b s w log a l = toldRan a l ≡ running b s w log
+abbrev pub Runs : Board → State → List ℕ → ℕ → Ran → List ℕ → Type 0
+Runs b s log w a l = toldRan a l ≡ running b s log w
 
-abbrev pub Accepted : Board → State → List ℕ → Type 0
-Accepted b s log = runnable b s log ≡ given tt
+abbrev pub AcceptedRun : Board → State → List ℕ → Type 0
+AcceptedRun b s log = runnable b s log ≡ given tt
 
 abbrev pub movesOf : Ran → List ℕ → List ℕ
 movesOf a l = take (a .moves) l
 
-pub record Begins (xs ys : List ℕ) : Type 0 where
+pub record IsStart (xs ys : List ℕ) : Type 0 where
   pub rest : List ℕ
   pub whole : ys ≡ xs ++ rest
 
@@ -35,16 +35,16 @@ abbrev pub Stands : Ran → Type 0
 Stands a = (a .word ≡ Idle) ⊎ (a .word ≡ Conflict)
 
 pub record Extends (a : Ran) (l : List ℕ) (c : Ran) (k : List ℕ) : Type 0 where
-  pub starts : Begins (movesOf a l) (movesOf c k)
+  pub starts : IsStart (movesOf a l) (movesOf c k)
   pub stands : Stands a → (c ≡ a) × (movesOf c k ≡ movesOf a l)
 
 abbrev pub LongerRun : Type 0
 LongerRun =
     (b : Board) (s : State) (w x : ℕ) (log long : List ℕ) (a c : Ran) (l k : List ℕ)
-    → Runs b s w log a l
-    → Runs b s x long c k
-    → Accepted b s log
-    → Accepted b s long
+    → Runs b s log w a l
+    → Runs b s long x c k
+    → AcceptedRun b s log
+    → AcceptedRun b s long
     → w ≤ x
     → length log ≤ length long
     → Extends a l c k

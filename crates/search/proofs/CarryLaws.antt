@@ -14,7 +14,7 @@ use Rattle.chains.specs.ChainList.{isIn, crosses, someCrosses, beside}
 use Rattle.chains.proofs.StepLaws.{ending-next, beside-next}
 use Rattle.search.specs.declared.Winding.{Winding}
 use Rattle.search.specs.declared.chain.Chain.{Chain}
-use Rattle.search.specs.Walks.{marked, carried, begun, gone}
+use Rattle.search.specs.Walks.{marked, carried, atPlus, gone}
 
 -- ---- steps
 
@@ -53,10 +53,10 @@ chain-fields : (k l e f m o : ℕ) (s q : Bool) → k ≡ l → e ≡ f → m �
 chain-fields k l e f m o s q i j h r = rw (i, j, h, r) refl
 
 -- the chain of plus alone, and what it carries
-pub begun-fields : (m : ℕ) → m ≡ including 0 0 → _≡_ {A = Chain} (record { length = 1; end = 0; met = m; beside = false }) begun
+pub begun-fields : (m : ℕ) → m ≡ including 0 0 → _≡_ {A = Chain} (record { length = 1; end = 0; met = m; beside = false }) atPlus
 begun-fields m e = chain-fields _ _ _ _ _ _ _ _ refl refl e refl
 
-pub begun-carried : (v : Winding) → begun ≡ carried v (plus ∷ [])
+pub begun-carried : (v : Winding) → atPlus ≡ carried v (plus ∷ [])
 unfolding carried marked beside someCrosses
 begun-carried v = refl
 

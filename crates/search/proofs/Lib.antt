@@ -5,4 +5,3 @@ pub mod ShownLaws
 pub mod ScanLaws
 pub mod WalkLaws
 pub mod VerdictLaws
-pub mod Once

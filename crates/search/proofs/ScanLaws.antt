@@ -11,32 +11,32 @@ use lib.Seq.{length-take-le}
 use borrow.Author.Tests.{leb-true, leb-false, le-leb, lt-leb}
 use Rattle.bits.proofs.BoolLaws.{by-test}
 use Rattle.number.specs.Outcomes.{given}
-use Rattle.search.specs.declared.walk.Found.{Found}
-use Rattle.search.specs.declared.walk.Found.the-variants.{Live, Dead, Spent}
+use Rattle.search.specs.declared.walk.Scan as code-scan
+use Rattle.search.specs.declared.walk.Scan.the-variants.{Showing, ShowingNone, AllowanceSpent}
 use Rattle.search.specs.declared.walk.Walked.{Walked}
-use Rattle.search.specs.Verdicts.{Word, undecided, Judgement, firstShown, effort, places, settled, unsettled, weighed}
-use Rattle.search.specs.Walks.{Scan, live, dead, spent, scan, concluded, LeftWithin, toldWalked}
+use Rattle.search.specs.Verdicts.{Finding, undecided, Verdict, firstShown, effort, places, settled, unsettled, weighed}
+use Rattle.search.specs.Walks.{Scan, showing, showing-none, allowance-spent, scan, concluded, LeftWithin, toldWalked}
 
 -- ---- the verdict of a walk
 
-pub left-live : (r : Walked) (ps : List ℕ) (w : ℕ) → r .found ≡ Live → LeftWithin w (toldWalked r ps) → r .left ≤ w
-left-live r ps w e h = subst (λ (f : Found). LeftWithin w (toldWalked (record { found = f; left = r .left; length = r .length }) ps)) e h
+pub left-live : (r : Walked) (ps : List ℕ) (w : ℕ) → r .found ≡ Showing → LeftWithin (toldWalked r ps) w → r .left ≤ w
+left-live r ps w e h = subst (λ (f : code-scan.Scan). LeftWithin (toldWalked (record { found = f; left = r .left; length = r .length }) ps) w) e h
 
-pub left-dead : (r : Walked) (ps : List ℕ) (w : ℕ) → r .found ≡ Dead → LeftWithin w (toldWalked r ps) → r .left ≤ w
-left-dead r ps w e h = subst (λ (f : Found). LeftWithin w (toldWalked (record { found = f; left = r .left; length = r .length }) ps)) e h
+pub left-dead : (r : Walked) (ps : List ℕ) (w : ℕ) → r .found ≡ ShowingNone → LeftWithin (toldWalked r ps) w → r .left ≤ w
+left-dead r ps w e h = subst (λ (f : code-scan.Scan). LeftWithin (toldWalked (record { found = f; left = r .left; length = r .length }) ps) w) e h
 
-pub concluded-live : (r : Walked) (ps qs : List ℕ) (w : ℕ) → length ps ≡ 64 → r .length ≤ 64 → qs ≡ places (take (r .length) ps) → r .found ≡ Live → _≡_ {A = Judgement} (record { word = given Word.live; effort = w - r .left; length = r .length; places = qs }) (concluded w (toldWalked r ps))
+pub concluded-live : (r : Walked) (ps qs : List ℕ) (w : ℕ) → length ps ≡ 64 → r .length ≤ 64 → qs ≡ places (take (r .length) ps) → r .found ≡ Showing → _≡_ {A = Verdict} (record { finding = given Finding.live; effort = w - r .left; length = r .length; places = qs }) (concluded (toldWalked r ps) w)
 concluded-live r ps qs w room short shown e =
     let long : r .length ≡ length (take (r .length) ps) = sym (length-take-le (r .length) ps (omega (arith, room, short))) in
-    ap (λ (k : ℕ). record { word = given Word.live; effort = w - r .left; length = k; places = qs }) long
-    ∙ ap (λ (l : List ℕ). record { word = given Word.live; effort = w - r .left; length = length (take (r .length) ps); places = l }) shown
+    ap (λ (k : ℕ). record { finding = given Finding.live; effort = w - r .left; length = k; places = qs }) long
+    ∙ ap (λ (l : List ℕ). record { finding = given Finding.live; effort = w - r .left; length = length (take (r .length) ps); places = l }) shown
     ∙ rw e refl
 
-pub concluded-dead : (r : Walked) (ps : List ℕ) (w : ℕ) → r .found ≡ Dead → _≡_ {A = Judgement} (record { word = given Word.dead; effort = w - r .left; length = 0; places = replicate 64 0 }) (concluded w (toldWalked r ps))
+pub concluded-dead : (r : Walked) (ps : List ℕ) (w : ℕ) → r .found ≡ ShowingNone → _≡_ {A = Verdict} (record { finding = given Finding.dead; effort = w - r .left; length = 0; places = replicate 64 0 }) (concluded (toldWalked r ps) w)
 unfolding places
 concluded-dead r ps w e = rw e refl
 
-pub concluded-spent : (r : Walked) (ps : List ℕ) (w : ℕ) → r .found ≡ Spent → _≡_ {A = Judgement} (record { word = given undecided; effort = w; length = 0; places = replicate 64 0 }) (concluded w (toldWalked r ps))
+pub concluded-spent : (r : Walked) (ps : List ℕ) (w : ℕ) → r .found ≡ AllowanceSpent → _≡_ {A = Verdict} (record { finding = given undecided; effort = w; length = 0; places = replicate 64 0 }) (concluded (toldWalked r ps) w)
 unfolding places
 concluded-spent r ps w e = rw e refl
 
@@ -44,9 +44,9 @@ concluded-spent r ps w e = rw e refl
 
 -- a scan that found none in the first goes on to the second with what is left; any other is handed back
 abbrev pub after : Scan → (ℕ → Scan) → Scan
-after (live c left) go = live c left
-after (dead left) go = go left
-after spent go = spent
+after (showing c left) go = showing c left
+after (showing-none left) go = go left
+after allowance-spent go = allowance-spent
 
 pub scan-append : (s : List ℕ → Bool) (xs ys : List (List ℕ)) (w : ℕ) → scan s (xs ++ ys) w ≡ after (scan s xs w) (scan s ys)
 unfolding scan
@@ -59,7 +59,7 @@ scan-append s (c ∷ xs) ys (suc w) =
 
 -- ---- a scan with the whole allowance is the verdict
 
-pub scan-left : (s : List ℕ → Bool) (cs : List (List ℕ)) (w : ℕ) → LeftWithin w (scan s cs w)
+pub scan-left : (s : List ℕ → Bool) (cs : List (List ℕ)) (w : ℕ) → LeftWithin (scan s cs w) w
 unfolding scan
 scan-left s [] w = omega arith
 scan-left s (c ∷ cs) zero = tt
@@ -68,14 +68,14 @@ scan-left s (c ∷ cs) (suc w) =
     (λ shown. rw shown (omega arith))
     (λ past. rw past (left-wider w (suc w) (scan s cs w) (omega arith) (scan-left s cs w)))
   where
-    left-wider : (w x : ℕ) (o : Scan) → w ≤ x → LeftWithin w o → LeftWithin x o
-    left-wider w x (live c left) more h = omega (arith, more, h)
-    left-wider w x (dead left) more h = omega (arith, more, h)
-    left-wider w x spent more h = tt
+    left-wider : (w x : ℕ) (o : Scan) → w ≤ x → LeftWithin o w → LeftWithin o x
+    left-wider w x (showing c left) more h = omega (arith, more, h)
+    left-wider w x (showing-none left) more h = omega (arith, more, h)
+    left-wider w x allowance-spent more h = tt
 
 -- w of the allowance x is left before the chains cs
 concluded-scan : (s : List ℕ → Bool) (cs : List (List ℕ)) (x w : ℕ) → w ≤ x
-    → concluded x (scan s cs w) ≡ cond (leb (effort s cs) w) (settled (x - w + effort s cs) (firstShown s cs)) (unsettled x)
+    → concluded (scan s cs w) x ≡ cond (leb (effort s cs) w) (settled (x - w + effort s cs) (firstShown s cs)) (unsettled x)
 unfolding scan effort firstShown
 concluded-scan s [] x w most =
     let same : x - w ≡ x - w + 0 = omega arith in
@@ -95,7 +95,7 @@ concluded-scan s (c ∷ cs) x (suc w) most =
     leb-suc : (m n : ℕ) → leb (suc m) (suc n) ≡ leb m n
     leb-suc m n = by-test (leb m n) (λ h. le-leb (suc m) (suc n) (omega (arith, leb-true m n h)) ∙ sym h) (λ h. lt-leb (suc m) (suc n) (omega (arith, leb-false m n h)) ∙ sym h)
 
-pub scan-weighed : (s : List ℕ → Bool) (cs : List (List ℕ)) (w : ℕ) → concluded w (scan s cs w) ≡ weighed s cs w
+pub scan-weighed : (s : List ℕ → Bool) (cs : List (List ℕ)) (w : ℕ) → concluded (scan s cs w) w ≡ weighed s cs w
 unfolding weighed
 scan-weighed s cs w =
     let same : w - w + effort s cs ≡ effort s cs = omega arith in

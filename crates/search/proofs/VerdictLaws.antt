@@ -17,8 +17,8 @@ use Rattle.number.proofs.OutcomeLaws.{refusal-equal}
 use Rattle.search.specs.declared.Winding.{Winding}
 use Rattle.search.specs.declared.Finding.{Finding}
 use Rattle.search.specs.declared.Finding.the-variants.{Live, Dead, Undecided, Refused}
-use Rattle.search.specs.declared.Verdict.{Verdict}
-use Rattle.search.specs.Verdicts.{Judgement, undecided, firstShown, effort, settled, unsettled, weighed, judgement, judged, toldFinding, toldVerdict}
+use Rattle.search.specs.declared.Verdict as code-verdict
+use Rattle.search.specs.Verdicts.{Verdict, undecided, firstShown, effort, settled, unsettled, weighed, verdictBy, inSets, toldFinding, toldVerdict}
 
 -- ---- the verdict turns at the effort
 
@@ -31,17 +31,17 @@ unfolding weighed
 weighed-short s cs w short = rw (lt-leb (effort s cs) w short) refl
 
 -- what an allowance w settles, every larger one x settles the same way
-pub weighed-larger : (s : List ℕ → Bool) (cs : List (List ℕ)) (w x : ℕ) → w ≤ x → (weighed s cs w .word ≡ given undecided) ⊎ (weighed s cs x ≡ weighed s cs w)
+pub weighed-larger : (s : List ℕ → Bool) (cs : List (List ℕ)) (w x : ℕ) → w ≤ x → (weighed s cs w .finding ≡ given undecided) ⊎ (weighed s cs x ≡ weighed s cs w)
 weighed-larger s cs w x more =
     by-test (leb (effort s cs) w)
     (λ enough. inr (within (leb-true (effort s cs) w enough)))
-    (λ short. inl (ap (λ (j : Judgement). j .word) (weighed-short s cs w (leb-false (effort s cs) w short))))
+    (λ short. inl (ap (λ (j : Verdict). j .finding) (weighed-short s cs w (leb-false (effort s cs) w short))))
   where
     within : effort s cs ≤ w → weighed s cs x ≡ weighed s cs w
     within enough = weighed-within s cs x (omega (arith, enough, more)) ∙ sym (weighed-within s cs w enough)
 
-pub judged-larger : (near : List ℕ) (t : ℕ) (v : Winding) (w x : ℕ) → w ≤ x → (judged near t v w .word ≡ given undecided) ⊎ (judged near t v x ≡ judged near t v w)
-unfolding judged judgement
+pub judged-larger : (near : List ℕ) (t : ℕ) (v : Winding) (w x : ℕ) → w ≤ x → (verdictBy near (inSets t) v w .finding ≡ given undecided) ⊎ (verdictBy near (inSets t) v x ≡ verdictBy near (inSets t) v w)
+unfolding verdictBy
 judged-larger near t v w x more = weighed-larger _ _ w x more
 
 -- ---- the first chain shown
@@ -115,27 +115,27 @@ effort-some s c cs = omega arith
 
 -- ---- the answer's cases are told apart
 
-told-finding-once : (x y : Finding) → toldFinding x ≡ toldFinding y → x ≡ y
-told-finding-once Live Live e = refl
-told-finding-once Live Dead e = cc
-told-finding-once Live Undecided e = cc
-told-finding-once Live (Refused q) e = cc
-told-finding-once Dead Live e = cc
-told-finding-once Dead Dead e = refl
-told-finding-once Dead Undecided e = cc
-told-finding-once Dead (Refused q) e = cc
-told-finding-once Undecided Live e = cc
-told-finding-once Undecided Dead e = cc
-told-finding-once Undecided Undecided e = refl
-told-finding-once Undecided (Refused q) e = cc
-told-finding-once (Refused r) Live e = cc
-told-finding-once (Refused r) Dead e = cc
-told-finding-once (Refused r) Undecided e = cc
-told-finding-once (Refused r) (Refused q) e = ap Refused (refusal-equal r q (cc) (cc))
+told-finding-injective : (x y : Finding) → toldFinding x ≡ toldFinding y → x ≡ y
+told-finding-injective Live Live e = refl
+told-finding-injective Live Dead e = cc
+told-finding-injective Live Undecided e = cc
+told-finding-injective Live (Refused q) e = cc
+told-finding-injective Dead Live e = cc
+told-finding-injective Dead Dead e = refl
+told-finding-injective Dead Undecided e = cc
+told-finding-injective Dead (Refused q) e = cc
+told-finding-injective Undecided Live e = cc
+told-finding-injective Undecided Dead e = cc
+told-finding-injective Undecided Undecided e = refl
+told-finding-injective Undecided (Refused q) e = cc
+told-finding-injective (Refused r) Live e = cc
+told-finding-injective (Refused r) Dead e = cc
+told-finding-injective (Refused r) Undecided e = cc
+told-finding-injective (Refused r) (Refused q) e = ap Refused (refusal-equal r q (cc) (cc))
 
-pub told-verdict-once : (x y : Verdict) → toldVerdict x ≡ toldVerdict y → x ≡ y
-told-verdict-once x y e = λ i. record {
-  finding = told-finding-once (x .finding) (y .finding) (λ j. e j .word) i;
+pub told-verdict-injective : (x y : code-verdict.Verdict) → toldVerdict x ≡ toldVerdict y → x ≡ y
+told-verdict-injective x y e = λ i. record {
+  finding = told-finding-injective (x .finding) (y .finding) (λ j. e j .finding) i;
   effort = e i .effort;
   length = e i .length;
   terminals = e i .places;
@@ -143,10 +143,10 @@ told-verdict-once x y e = λ i. record {
 
 -- ---- at most 64 terminals are looked at
 
-pub judged-most : (near : List ℕ) (t : ℕ) (v : Winding) (w : ℕ) → 64 < t → judgement near 64 v w ≡ judged near t v w
-unfolding judged
+pub judged-most : (near : List ℕ) (t : ℕ) (v : Winding) (w : ℕ) → 64 < t → verdictBy near 64 v w ≡ verdictBy near (inSets t) v w
+unfolding inSets
 judged-most near t v w more = rw (lt-ltb 64 t more) refl
 
-pub judged-given : (near : List ℕ) (t : ℕ) (v : Winding) (w : ℕ) → t ≤ 64 → judgement near t v w ≡ judged near t v w
-unfolding judged
+pub judged-given : (near : List ℕ) (t : ℕ) (v : Winding) (w : ℕ) → t ≤ 64 → verdictBy near t v w ≡ verdictBy near (inSets t) v w
+unfolding inSets
 judged-given near t v w most = rw (le-ltb 64 t most) refl

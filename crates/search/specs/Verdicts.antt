@@ -5,8 +5,8 @@
 --     settled e f            live with effort e and the chain shown, or dead with effort e
 --     unsettled w            undecided: "undecided reports W"
 --     weighed s cs w         the verdict by the chains cs within the allowance w
---     judgement near t v w   the verdict on winding v within the allowance w, by all chains of t terminals that `near` joins
---     judged near t v w      the same; the sets `near` are of 64 terminals, and of more only those are looked at
+--     verdictBy near t v w   the verdict on winding v within the allowance w, by all chains of t terminals that `near` joins
+--     inSets t               of t terminals those that the sets have: they are of 64, and of more only those are looked at
 --     unanswered n p         "a refused judgement no verdict, effort 0 and length 0"
 --     toldFinding, toldVerdict   the answer's cases in the rule book's words and numbers
 use Prim.Native.Nat.{ℕ, suc, _-_}
@@ -20,16 +20,16 @@ use Rattle.board.specs.Rules.{mostTerminals}
 use Rattle.neighbours.specs.Neighbours.{joined}
 use Rattle.chains.specs.ChainList.{chains, shows}
 use Rattle.search.specs.declared.Winding.{Winding}
-use Rattle.search.specs.declared.Finding.{Finding}
+use Rattle.search.specs.declared.Finding as code-finding
 use Rattle.search.specs.declared.Finding.the-variants.{Live, Dead, Undecided, Refused}
-use Rattle.search.specs.declared.Verdict.{Verdict}
+use Rattle.search.specs.declared.Verdict as code-verdict
 
 -- the rule book's three words
-pub data Word : Type 0 where
-  live dead undecided : Word
+pub data Finding : Type 0 where
+  live dead undecided : Finding
 
-pub record Judgement : Type 0 where
-  pub word : Outcome Word
+pub record Verdict : Type 0 where
+  pub finding : Outcome Finding
   pub effort : ℕ
   pub length : ℕ
   pub places : List ℕ
@@ -45,30 +45,30 @@ effort s (c ∷ cs) = suc (cond (s c) 0 (effort s cs))
 unfoldable pub places : List ℕ → List ℕ
 places c = c ++ replicate (mostTerminals - lib.ListN.length c) 0
 
-abbrev pub settled : ℕ → Option (List ℕ) → Judgement
-settled e (some c) = record { word = given live; effort = e; length = lib.ListN.length c; places = places c }
-settled e none = record { word = given dead; effort = e; length = 0; places = places [] }
+abbrev pub settled : ℕ → Option (List ℕ) → Verdict
+settled e (some c) = record { finding = given live; effort = e; length = lib.ListN.length c; places = places c }
+settled e none = record { finding = given dead; effort = e; length = 0; places = places [] }
 
-abbrev pub unsettled : ℕ → Judgement
-unsettled w = record { word = given undecided; effort = w; length = 0; places = places [] }
+abbrev pub unsettled : ℕ → Verdict
+unsettled w = record { finding = given undecided; effort = w; length = 0; places = places [] }
 
-unfoldable pub weighed : (List ℕ → Bool) → List (List ℕ) → ℕ → Judgement
+unfoldable pub weighed : (List ℕ → Bool) → List (List ℕ) → ℕ → Verdict
 weighed s cs w = cond (leb (effort s cs) w) (settled (effort s cs) (firstShown s cs)) (unsettled w)
 
-unfoldable pub judgement : List ℕ → ℕ → Winding → ℕ → Judgement
-judgement near t v w = weighed (shows (v .a) (v .b)) (chains (joined near) t) w
+unfoldable pub verdictBy : List ℕ → ℕ → Winding → ℕ → Verdict
+verdictBy near t v w = weighed (shows (v .a) (v .b)) (chains (joined near) t) w
 
-unfoldable pub judged : List ℕ → ℕ → Winding → ℕ → Judgement
-judged near t v w = judgement near (cond (ltb mostTerminals t) mostTerminals t) v w
+unfoldable pub inSets : ℕ → ℕ
+inSets t = cond (ltb mostTerminals t) mostTerminals t
 
-abbrev pub unanswered : ℕ → ℕ → Judgement
-unanswered n p = record { word = refused n p; effort = 0; length = 0; places = places [] }
+abbrev pub unanswered : ℕ → ℕ → Verdict
+unanswered n p = record { finding = refused n p; effort = 0; length = 0; places = places [] }
 
-abbrev pub toldFinding : Finding → Outcome Word
+abbrev pub toldFinding : code-finding.Finding → Outcome Finding
 toldFinding Live = given live
 toldFinding Dead = given dead
 toldFinding Undecided = given undecided
 toldFinding (Refused r) = refused (r .number) (r .place)
 
-abbrev pub toldVerdict : Verdict → Judgement
-toldVerdict v = record { word = toldFinding (v .finding); effort = v .effort; length = v .length; places = v .terminals }
+abbrev pub toldVerdict : code-verdict.Verdict → Verdict
+toldVerdict v = record { finding = toldFinding (v .finding); effort = v .effort; length = v .length; places = v .terminals }

@@ -7,7 +7,7 @@ ghost use Prim.Native.Nat.{_<_};
 ghost use lib.Dec.{eqb};
 ghost use Rattle.board.specs.Rules.{mostTerminals};
 ghost use Rattle.chains.specs.ChainList.{crosses};
-ghost use Rattle.search.specs.Walks.{begun, gone};
+ghost use Rattle.search.specs.Walks.{atPlus, gone};
 
 // Terminal 0.
 const PLUS: u8 = 0;
@@ -40,8 +40,8 @@ fn crosses(winding: Winding, x: u8, y: u8) -> bool
 
 impl Chain {
     // The chain of plus alone.
-    pub fn begin() -> Self
-        ensures { λ r. ⌜ r ≡ begun ⌝ }
+    pub fn at_plus() -> Self
+        ensures { λ r. ⌜ r ≡ atPlus ⌝ }
     {
         Chain {
             length: 1,

@@ -10,22 +10,22 @@ ghost use Prim.Native.Nat.{_-_, _<_, _≤_};
 ghost use lib.ListN.{take};
 ghost use Rattle.bits.specs.Sets.{member, firstFrom};
 ghost use Rattle.board.specs.Rules.{mostTerminals};
-ghost use Rattle.search.specs.Verdicts.{places as placed, judgement, toldVerdict};
-ghost use Rattle.search.specs.Walks.{pathIn, Carries, Comes, entered, tried, concluded, LeftWithin, toldWalked};
+ghost use Rattle.search.specs.Verdicts.{places as placed, verdictBy, toldVerdict};
+ghost use Rattle.search.specs.Walks.{pathIn, Carries, WalkComes, entered, tried, concluded, LeftWithin, toldWalked};
 
 // Terminal 1.
 const MINUS: u8 = 1;
 
 // What a walk comes to: a chain that shows the winding; none among the chains walked; or the allowance is spent first.
-pub enum Found {
-    Live,
-    Dead,
-    Spent,
+pub enum Scan {
+    Showing,
+    ShowingNone,
+    AllowanceSpent,
 }
 
 // What a walk comes to, what is left of the allowance, and how many terminals the chain has at which it came to that.
 pub struct Walked {
-    pub found: Found,
+    pub found: Scan,
     pub left: u32,
     pub length: usize,
 }
@@ -56,12 +56,12 @@ fn enter(
 ) -> Walked
     requires { ⌜ terminals ≤ mostTerminals ⌝ }
     requires { ⌜ Carries winding chain (now places) ⌝ }
-    ensures { λ r. ⌜ Comes r chain (now (places .entry)) (now (places .exit)) (entered (now (near .entry)) terminals winding (pathIn chain (now (places .entry))) left) ⌝ }
+    ensures { λ r. ⌜ WalkComes r chain (now (places .entry)) (now (places .exit)) (entered (now (near .entry)) terminals winding (pathIn chain (now (places .entry))) left) ⌝ }
 {
     let length = chain.length;
     if left == 0 {
         return Walked {
-            found: Found::Spent,
+            found: Scan::AllowanceSpent,
             left,
             length,
         };
@@ -70,20 +70,20 @@ fn enter(
     if chain.end == MINUS {
         if chain.beside {
             return Walked {
-                found: Found::Live,
+                found: Scan::Showing,
                 left,
                 length,
             };
         }
         return Walked {
-            found: Found::Dead,
+            found: Scan::ShowingNone,
             left,
             length,
         };
     }
     if terminals as usize <= length {
         return Walked {
-            found: Found::Dead,
+            found: Scan::ShowingNone,
             left,
             length,
         };
@@ -105,7 +105,7 @@ fn try_next(
     requires { ⌜ Carries winding chain (now places) ⌝ }
     requires { ⌜ chain .length < terminals ⌝ }
     requires { ⌜ n ≤ terminals ⌝ }
-    ensures { λ r. ⌜ Comes r chain (now (places .entry)) (now (places .exit)) (tried (now (near .entry)) terminals winding (pathIn chain (now (places .entry))) n left) ⌝ }
+    ensures { λ r. ⌜ WalkComes r chain (now (places .entry)) (now (places .exit)) (tried (now (near .entry)) terminals winding (pathIn chain (now (places .entry))) n left) ⌝ }
 {
     let end = chain.end as usize;
     let unmet = bits::remaining(near[end], chain.met);
@@ -113,7 +113,7 @@ fn try_next(
     let length = chain.length;
     if terminals <= next {
         return Walked {
-            found: Found::Dead,
+            found: Scan::ShowingNone,
             left,
             length,
         };
@@ -122,7 +122,7 @@ fn try_next(
     let longer = chain.on_to(winding, next);
     let walked = enter(near, terminals, winding, longer, left, places);
     let found = walked.found;
-    if let Found::Dead = found {
+    if let Scan::ShowingNone = found {
         let left = walked.left;
         try_next(near, terminals, winding, chain, next + 1, left, places)
     } else {
@@ -147,12 +147,12 @@ fn shown(places: [u8; 64], length: usize) -> [u8; 64]
 // The verdict that a walk from plus comes to, of which the allowance is given.
 fn verdict(walked: Walked, places: [u8; 64], allowance: u32) -> Verdict
     requires { ⌜ walked .length ≤ mostTerminals ⌝ }
-    requires { ⌜ LeftWithin allowance (toldWalked walked places) ⌝ }
-    ensures { λ r. ⌜ toldVerdict r ≡ concluded allowance (toldWalked walked places) ⌝ }
+    requires { ⌜ LeftWithin (toldWalked walked places) allowance ⌝ }
+    ensures { λ r. ⌜ toldVerdict r ≡ concluded (toldWalked walked places) allowance ⌝ }
 {
     let found = walked.found;
     match found {
-        Found::Live => {
+        Scan::Showing => {
             let length = walked.length;
             let terminals = shown(places, length);
             Verdict {
@@ -162,7 +162,7 @@ fn verdict(walked: Walked, places: [u8; 64], allowance: u32) -> Verdict
                 terminals,
             }
         }
-        Found::Dead => {
+        Scan::ShowingNone => {
             let terminals = [0u8; 64];
             Verdict {
                 finding: Finding::Dead,
@@ -171,7 +171,7 @@ fn verdict(walked: Walked, places: [u8; 64], allowance: u32) -> Verdict
                 terminals,
             }
         }
-        Found::Spent => {
+        Scan::AllowanceSpent => {
             let terminals = [0u8; 64];
             Verdict {
                 finding: Finding::Undecided,
@@ -186,9 +186,9 @@ fn verdict(walked: Walked, places: [u8; 64], allowance: u32) -> Verdict
 // Judges the winding by a walk from plus.
 pub fn from_plus(near: &[u64; 64], terminals: u8, winding: Winding, allowance: u32) -> Verdict
     requires { ⌜ terminals ≤ mostTerminals ⌝ }
-    ensures { λ r. ⌜ toldVerdict r ≡ judgement (now (near .entry)) terminals winding allowance ⌝ }
+    ensures { λ r. ⌜ toldVerdict r ≡ verdictBy (now (near .entry)) terminals winding allowance ⌝ }
 {
-    let chain = Chain::begin();
+    let chain = Chain::at_plus();
     let mut places = [0u8; 64];
     let walked = enter(near, terminals, winding, chain, allowance, &mut places);
     verdict(walked, places, allowance)

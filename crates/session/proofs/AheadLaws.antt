@@ -15,17 +15,17 @@ use Rattle.board.specs.declared.Board.{Board}
 use Rattle.lines.specs.Lines.{Line}
 use Rattle.events.specs.Events.{eventAt, ranLine, eventLine}
 use Rattle.session.specs.ToCome.{toComeAt, toCome}
-use Rattle.session.specs.Carried.{Stage, first, events, over, refusing, Carried, Coming, line, none, goesOn, closes, eventOf, nextEvent, nextAt, nextOf}
+use Rattle.session.specs.Carried.{Stage, first, events, over, refusing, Session, Coming, line, no-line, goesOn, closes, eventOf, nextEvent, nextAt, nextOf}
 
-pub data Ahead (z : Carried) (s : List ℕ) : Type 0 where
-  runs-first : z .stage ≡ first → nextOf z s ≡ goesOn z (ranLine (z .board) (z .allowance) (z .event) (z .state)) (z .place) → Ahead z s
-  makes-event : (v : Found ℕ) → z .stage ≡ events → z .place < length s → eventAt (z .board) s (z .place) ≡ given v → nextOf z s ≡ goesOn z (eventLine (z .board) (z .allowance) (z .event) (z .state) (v .value)) (v .next) → Ahead z s
+pub data Ahead (z : Session) (s : List ℕ) : Type 0 where
+  runs-first : z .stage ≡ first → nextOf z s ≡ goesOn z (ranLine (z .board) (z .event) (z .state) (z .allowance)) (z .place) → Ahead z s
+  makes-event : (v : Found ℕ) → z .stage ≡ events → z .place < length s → eventAt (z .board) s (z .place) ≡ given v → nextOf z s ≡ goesOn z (eventLine (z .board) (z .event) (z .state) (v .value) (z .allowance)) (v .next) → Ahead z s
   bad-event : (n p : ℕ) → z .stage ≡ events → z .place < length s → eventAt (z .board) s (z .place) ≡ refused n p → nextOf z s ≡ closes z n p → Ahead z s
   tells-refusal : (n p : ℕ) → z .stage ≡ refusing n p → nextOf z s ≡ closes z n p → Ahead z s
-  at-end : z .stage ≡ events → length s ≤ z .place → nextOf z s ≡ (z, none) → Ahead z s
-  is-over : z .stage ≡ over → nextOf z s ≡ (z, none) → Ahead z s
+  at-end : z .stage ≡ events → length s ≤ z .place → nextOf z s ≡ (z, no-line) → Ahead z s
+  is-over : z .stage ≡ over → nextOf z s ≡ (z, no-line) → Ahead z s
 
-module _ (z : Carried) (s : List ℕ) where
+module _ (z : Session) (s : List ℕ) where
   module _ (is : z .stage ≡ events) where
     next-is-event : nextOf z s ≡ nextEvent z s
     unfolding nextOf nextAt
@@ -56,20 +56,20 @@ pub event-next : (b : Board) (s : List ℕ) (at : ℕ) (v : Found ℕ) → event
 unfolding eventAt
 event-next b s at v e = number-next-within s at (v .value) (v .next) (wanted-found _ noSuchName s at (v .value) (v .next) e .1) .1
 
-line-never : (l : Line) → none ≡ line l → ⊥
+line-never : (l : Line) → no-line ≡ line l → ⊥
 line-never l e = let z : _≡_ {A = ℕ} 0 1 = ap tag e in omega arith
   where
     tag : Coming → ℕ
-    tag none = 0
+    tag no-line = 0
     tag (line m) = 1
 
 -- after a line there is less to come
-module _ (z y : Carried) (s : List ℕ) (l : Line) (is : nextOf z s ≡ (y, line l)) where
-  left-by : (x : Carried) (c : Coming) → nextOf z s ≡ (x, c) → toCome y s ≡ toCome x s
-  left-by x c e = ap (λ (p : Carried × Coming). toCome (p .0) s) (sym is ∙ e)
+module _ (z y : Session) (s : List ℕ) (l : Line) (is : nextOf z s ≡ (y, line l)) where
+  left-by : (x : Session) (c : Coming) → nextOf z s ≡ (x, c) → toCome y s ≡ toCome x s
+  left-by x c e = ap (λ (p : Session × Coming). toCome (p .0) s) (sym is ∙ e)
 
-  never-none : nextOf z s ≡ (z, none) → ⊥
-  never-none e = line-never l (ap (λ (p : Carried × Coming). p .1) (sym e ∙ is))
+  never-none : nextOf z s ≡ (z, no-line) → ⊥
+  never-none e = line-never l (ap (λ (p : Session × Coming). p .1) (sym e ∙ is))
 
   less-by : Ahead z s → toCome y s < toCome z s
   unfolding toCome toComeAt

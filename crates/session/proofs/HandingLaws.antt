@@ -8,36 +8,36 @@ use Rattle.number.specs.Outcomes.{Outcome, refused}
 use Rattle.number.specs.Refusals.{bufferTooShort}
 use Rattle.lines.specs.declared.Line.{Line}
 use Rattle.lines.specs.declared.LineWritten.{LineWritten}
-use Rattle.lines.specs.Lines.{longestLine, lineWriting, toldLine, toldLength}
+use Rattle.lines.specs.Lines.{longestLine, lineWriting, toldLine, toldLineWritten}
 use Rattle.lines.proofs.LineLaws.{line-written}
 use Rattle.session.specs.declared.HandOut.{HandOut}
 use Rattle.session.specs.declared.HandOut.the-variants.{Over}
 use Rattle.session.specs.declared.next.Next.{Next}
 use Rattle.session.specs.declared.next.Coming.the-variants as comes
-use Rattle.session.specs.Carried.{Carried, Coming, line, none, nextOf, toldSession, toldComing, toldNext}
-use Rattle.session.specs.HandingOut.{writtenAnswer, handedBy, handing, toldAnswer, toldHanded}
+use Rattle.session.specs.Carried.{Session, Coming, line, no-line, nextOf, toldSession, toldComing, toldNext}
+use Rattle.session.specs.HandingOut.{writtenAnswer, handedBy, nextLine, toldHandOut, toldHanded}
 
-module _ (z : Carried) (s out : List ℕ) where
-  pub handing-short : length out < longestLine → record { session = z; answer = refused bufferTooShort 0; out = out } ≡ handing z s out
-  unfolding handing
+module _ (z : Session) (s out : List ℕ) where
+  pub handing-short : length out < longestLine → record { session = z; answer = refused bufferTooShort 0; out = out } ≡ nextLine z s out
+  unfolding nextLine
   handing-short short = rw (lt-leb longestLine (length out) short)
 
   -- the buffer has room, and x is what comes next
   module _ (x : Next) (room : longestLine ≤ length out) (next : toldNext x ≡ nextOf z s) where
-    handing-by : (c : Coming) → toldComing (x .coming) ≡ c → handedBy (toldSession (x .session), c) out ≡ handing z s out
-    unfolding handing
+    handing-by : (c : Coming) → toldComing (x .coming) ≡ c → handedBy (toldSession (x .session), c) out ≡ nextLine z s out
+    unfolding nextLine
     handing-by c is =
-        let came : _≡_ {A = Carried × Coming} (toldSession (x .session), c) (nextOf z s) = ap {B = Carried × Coming} (λ d. (toldSession (x .session), d)) (sym is) ∙ next in
-        ap (λ (y : Carried × Coming). handedBy y out) came ∙ rw (le-leb longestLine (length out) room) refl
+        let came : _≡_ {A = Session × Coming} (toldSession (x .session), c) (nextOf z s) = ap {B = Session × Coming} (λ d. (toldSession (x .session), d)) (sym is) ∙ next in
+        ap (λ (y : Session × Coming). handedBy y out) came ∙ rw (le-leb longestLine (length out) room) refl
 
-    pub handing-over : x .coming ≡ comes.Over → toldHanded (record { session = x .session; answer = Over }) out ≡ handing z s out
+    pub handing-over : x .coming ≡ comes.Over → toldHanded (record { session = x .session; answer = Over }) out ≡ nextLine z s out
     unfolding handedBy
-    handing-over is = handing-by none (ap toldComing is)
+    handing-over is = handing-by no-line (ap toldComing is)
 
     pub handing-line : (l : Line) (w : LineWritten) (a : HandOut) (out′ : List ℕ) → x .coming ≡ comes.Line l
-        → _≡_ {A = Outcome ℕ × List ℕ} (toldLength w, out′) (lineWriting (toldLine l) out)
-        → toldAnswer a ≡ writtenAnswer (toldLength w)
-        → toldHanded (record { session = x .session; answer = a }) out′ ≡ handing z s out
+        → _≡_ {A = Outcome ℕ × List ℕ} (toldLineWritten w, out′) (lineWriting (toldLine l) out)
+        → toldHandOut a ≡ writtenAnswer (toldLineWritten w)
+        → toldHanded (record { session = x .session; answer = a }) out′ ≡ nextLine z s out
     unfolding handedBy
     handing-line l w a out′ is put told =
         let written = put ∙ line-written (toldLine l) out room in

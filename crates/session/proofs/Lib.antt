@@ -5,4 +5,3 @@ pub mod AheadLaws
 pub mod HandingLaws
 pub mod CallLaws
 pub mod ToldLaws
-pub mod Once

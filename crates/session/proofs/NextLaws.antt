@@ -16,11 +16,11 @@ use Rattle.number.specs.Numbers.{numberAt, toldNumber}
 use Rattle.board_reader.specs.Reading.{longestInput}
 use Rattle.board_reader.proofs.FieldLaws.{wanted-refused, wanted-fails, wanted-passes, told-found, told-refused}
 use Rattle.session.specs.declared.Stage.the-variants as stage
-use Rattle.session.specs.declared.Session.{Session}
+use Rattle.session.specs.declared.Session as code-session
 use Rattle.events.specs.declared.Shown as code
 use Rattle.session.specs.declared.next.Coming.the-variants as comes
 use Rattle.events.specs.Events.{Shown, eventAt, ranLine, eventLine, toldShown}
-use Rattle.session.specs.Carried.{Carried, Coming, none, following, goesOn, closes, eventOf, nextEvent, nextAt, nextOf, toldSession, toldNext}
+use Rattle.session.specs.Carried.{Session, Coming, no-line, following, goesOn, closes, eventOf, nextEvent, nextAt, nextOf, toldSession, toldNext}
 
 module _ (e : ℕ) where
   pub following-on : e ≤ longestInput → e + 1 ≡ following e
@@ -39,12 +39,12 @@ following-most e = most (leb e longestInput)
     most true = omega arith
     most false = omega arith
 
-pub goes-on-told : (z : Session) (x : code.Shown) (at e : ℕ) → e ≡ following (z .event)
+pub goes-on-told : (z : code-session.Session) (x : code.Shown) (at e : ℕ) → e ≡ following (z .event)
     → toldNext (record { session = record { board = z .board; allowance = z .allowance; state = x .state; event = e; place = at; stage = stage.Events }; coming = comes.Line (x .line) }) ≡ goesOn (toldSession z) (toldShown x) at
 goes-on-told z x at e is = rw is
 
-module _ (z : Carried) (s : List ℕ) where
-  pub event-none : length s ≤ z .place → _≡_ {A = Carried × Coming} (z, none) (nextEvent z s)
+module _ (z : Session) (s : List ℕ) where
+  pub event-none : length s ≤ z .place → _≡_ {A = Session × Coming} (z, no-line) (nextEvent z s)
   unfolding nextEvent
   event-none done = rw (le-leb (length s) (z .place) done)
 
@@ -66,15 +66,15 @@ module _ (z : Carried) (s : List ℕ) where
         let bad : eventAt (z .board) s (z .place) ≡ refused noSuchName (z .place) = wanted-fails _ noSuchName s (z .place) v next (told-found _ x v next is read) (le-ltb (v / 2) (z .board .counts .buttons) beyond) in
         ap (eventOf z) (sym bad) ∙ event-by
 
-    pub event-made : (v next : ℕ) (y : Shown) → x ≡ Read v next → v / 2 < z .board .counts .buttons → y ≡ eventLine (z .board) (z .allowance) (z .event) (z .state) v → goesOn z y next ≡ nextEvent z s
+    pub event-made : (v next : ℕ) (y : Shown) → x ≡ Read v next → v / 2 < z .board .counts .buttons → y ≡ eventLine (z .board) (z .event) (z .state) v (z .allowance) → goesOn z y next ≡ nextEvent z s
     unfolding eventOf eventAt
     event-made v next y is below told =
         let ok : eventAt (z .board) s (z .place) ≡ found v next = wanted-passes _ noSuchName s (z .place) v next (told-found _ x v next is read) (lt-ltb (v / 2) (z .board .counts .buttons) below) in
         ap (λ (x : Shown). goesOn z x next) told ∙ ap (eventOf z) (sym ok) ∙ event-by
 
 -- the next line, by the stage
-module _ (z : Session) (s : List ℕ) where
-  pub next-first : (y : Shown) → z .stage ≡ stage.First → y ≡ ranLine (z .board) (z .allowance) (z .event) (z .state) → goesOn (toldSession z) y (z .place) ≡ nextOf (toldSession z) s
+module _ (z : code-session.Session) (s : List ℕ) where
+  pub next-first : (y : Shown) → z .stage ≡ stage.First → y ≡ ranLine (z .board) (z .event) (z .state) (z .allowance) → goesOn (toldSession z) y (z .place) ≡ nextOf (toldSession z) s
   unfolding nextOf nextAt
   next-first y is told = rw (told, is)
 
@@ -86,6 +86,6 @@ module _ (z : Session) (s : List ℕ) where
   unfolding nextOf nextAt
   next-refusing q is = rw is
 
-  pub next-over : z .stage ≡ stage.Over → _≡_ {A = Carried × Coming} (toldSession z, none) (nextOf (toldSession z) s)
+  pub next-over : z .stage ≡ stage.Over → _≡_ {A = Session × Coming} (toldSession z, no-line) (nextOf (toldSession z) s)
   unfolding nextOf nextAt
   next-over is = rw is

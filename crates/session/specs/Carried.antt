@@ -1,7 +1,7 @@
 -- What a session carries from line to line, and its next line.
 --     Stage                  what the next line is: first, that of the first run; events, that of an event; refusing n p, that of the refusal n at p; over, none
---     Carried                the board and allowance, the state, the number and place of the next event, and the stage
---     opened o, opening s    the session that begins with the head o; with the head of the input s
+--     Session                the board and allowance, the state, the number and place of the next event, and the stage
+--     begunFrom o, opening s    the session that begins with the head o; with the head of the input s
 --     Coming                 the next line, or none
 --     following e            the number after e. It stands still past the longest input, where no session comes: each event takes a byte
 --     goesOn z x at          z tells x, and goes on with the event at a place
@@ -25,7 +25,7 @@ use Rattle.board_reader.specs.Reading.{longestInput}
 use Rattle.lines.specs.Lines.{Line, closing, toldLine}
 use Rattle.session.specs.declared.Stage as code-stage
 use Rattle.session.specs.declared.Stage.the-variants as said
-use Rattle.session.specs.declared.Session.{Session}
+use Rattle.session.specs.declared.Session as code-session
 use Rattle.session.specs.declared.next.Coming as code-coming
 use Rattle.session.specs.declared.next.Coming.the-variants as comes
 use Rattle.session.specs.declared.next.Next.{Next}
@@ -36,7 +36,7 @@ pub data Stage : Type 0 where
   first events over : Stage
   refusing : ℕ → ℕ → Stage
 
-pub record Carried : Type 0 where
+pub record Session : Type 0 where
   pub board : Board
   pub allowance : ℕ
   pub state : State
@@ -44,40 +44,40 @@ pub record Carried : Type 0 where
   pub place : ℕ
   pub stage : Stage
 
-unfoldable pub opened : Outcome (Found Head) → Carried
-opened (given h) = record { board = h .value .board; allowance = h .value .allowance; state = freshState; event = 0; place = h .next; stage = first }
-opened (refused n p) = record { board = emptyBoard; allowance = 0; state = freshState; event = 0; place = 0; stage = refusing n p }
+unfoldable pub begunFrom : Outcome (Found Head) → Session
+begunFrom (given h) = record { board = h .value .board; allowance = h .value .allowance; state = freshState; event = 0; place = h .next; stage = first }
+begunFrom (refused n p) = record { board = emptyBoard; allowance = 0; state = freshState; event = 0; place = 0; stage = refusing n p }
 
-unfoldable pub opening : List ℕ → Carried
-opening s = opened (headAt s)
+unfoldable pub beginning : List ℕ → Session
+beginning s = begunFrom (headAt s)
 
 pub data Coming : Type 0 where
   line : Line → Coming
-  none : Coming
+  no-line : Coming
 
 unfoldable pub following : ℕ → ℕ
 following e = cond (leb e longestInput) (suc e) e
 
-abbrev pub goesOn : Carried → Shown → ℕ → Carried × Coming
+abbrev pub goesOn : Session → Shown → ℕ → Session × Coming
 goesOn z x at = (record { board = z .board; allowance = z .allowance; state = x .1; event = following (z .event); place = at; stage = events }, line (x .0))
 
-abbrev pub closes : Carried → ℕ → ℕ → Carried × Coming
+abbrev pub closes : Session → ℕ → ℕ → Session × Coming
 closes z n p = (record { board = z .board; allowance = z .allowance; state = z .state; event = z .event; place = z .place; stage = over }, line (closing n p))
 
-unfoldable pub eventOf : Carried → Outcome (Found ℕ) → Carried × Coming
-eventOf z (given v) = goesOn z (eventLine (z .board) (z .allowance) (z .event) (z .state) (v .value)) (v .next)
+unfoldable pub eventOf : Session → Outcome (Found ℕ) → Session × Coming
+eventOf z (given v) = goesOn z (eventLine (z .board) (z .event) (z .state) (v .value) (z .allowance)) (v .next)
 eventOf z (refused n p) = closes z n p
 
-unfoldable pub nextEvent : Carried → List ℕ → Carried × Coming
-nextEvent z s = cond (leb (length s) (z .place)) (z, none) (eventOf z (eventAt (z .board) s (z .place)))
+unfoldable pub nextEvent : Session → List ℕ → Session × Coming
+nextEvent z s = cond (leb (length s) (z .place)) (z, no-line) (eventOf z (eventAt (z .board) s (z .place)))
 
-unfoldable pub nextAt : Stage → Carried → List ℕ → Carried × Coming
-nextAt first z s = goesOn z (ranLine (z .board) (z .allowance) (z .event) (z .state)) (z .place)
+unfoldable pub nextAt : Stage → Session → List ℕ → Session × Coming
+nextAt first z s = goesOn z (ranLine (z .board) (z .event) (z .state) (z .allowance)) (z .place)
 nextAt events z s = nextEvent z s
-nextAt over z s = (z, none)
+nextAt over z s = (z, no-line)
 nextAt (refusing n p) z s = closes z n p
 
-unfoldable pub nextOf : Carried → List ℕ → Carried × Coming
+unfoldable pub nextOf : Session → List ℕ → Session × Coming
 nextOf z s = nextAt (z .stage) z s
 
 abbrev pub toldStage : code-stage.Stage → Stage
@@ -86,12 +86,12 @@ toldStage said.Events = events
 toldStage said.Over = over
 toldStage (said.Refused r) = refusing (r .number) (r .place)
 
-abbrev pub toldSession : Session → Carried
+abbrev pub toldSession : code-session.Session → Session
 toldSession z = record { board = z .board; allowance = z .allowance; state = z .state; event = z .event; place = z .place; stage = toldStage (z .stage) }
 
 abbrev pub toldComing : code-coming.Coming → Coming
 toldComing (comes.Line l) = line (toldLine l)
-toldComing comes.Over = none
+toldComing comes.Over = no-line
 
-abbrev pub toldNext : Next → Carried × Coming
+abbrev pub toldNext : Next → Session × Coming
 toldNext r = (toldSession (r .session), toldComing (r .coming))

@@ -1,10 +1,10 @@
 -- Handing out a session's lines, one at a time, into a lent buffer. "Log and output buffer stay as lent"; "Written bytes begin the buffer; the rest stays."
---     Answer                 a line of so many bytes, or none
---     HandedOut              the session to carry on, the answer, and the buffer afterwards
+--     HandOut                 a line of so many bytes, or none
+--     Handed              the session to carry on, the answer, and the buffer afterwards
 --     writtenAnswer o        the answer where writing the line came to o; only for the inner function `answer_of`
 --     handedBy x out         what is handed out where x comes next
---     handing z s out        the call: 16 if the longest line has no room in the buffer, and then the session as given
---     toldAnswer, toldHanded     the answer's cases in these words and the rule book's numbers
+--     nextLine z s out        the call: 16 if the longest line has no room in the buffer, and then the session as given
+--     toldHandOut, toldHanded     the answer's cases in these words and the rule book's numbers
 use Prim.Native.Nat.{ℕ}
 use mathlib.Core.Bool.{cond}
 use mathlib.Core.List.{List, _++_}
@@ -13,39 +13,39 @@ use lib.ListN.{length, drop}
 use Rattle.number.specs.Outcomes.{Outcome, given, refused}
 use Rattle.number.specs.Refusals.{bufferTooShort}
 use Rattle.lines.specs.Lines.{longestLine, lineText}
-use Rattle.session.specs.declared.HandOut.{HandOut}
+use Rattle.session.specs.declared.HandOut as code-handout
 use Rattle.session.specs.declared.HandOut.the-variants as said
-use Rattle.session.specs.declared.Handed.{Handed}
-use Rattle.session.specs.Carried.{Carried, Coming, line, none, nextOf, toldSession}
+use Rattle.session.specs.declared.Handed as code-handed
+use Rattle.session.specs.Carried.{Session, Coming, line, no-line, nextOf, toldSession}
 
-pub data Answer : Type 0 where
-  written : ℕ → Answer
-  nothing : Answer
+pub data HandOut : Type 0 where
+  written : ℕ → HandOut
+  nothing : HandOut
 
-pub record HandedOut : Type 0 where
-  pub session : Carried
-  pub answer : Outcome Answer
+pub record Handed : Type 0 where
+  pub session : Session
+  pub answer : Outcome HandOut
   pub out : List ℕ
 
-abbrev pub writtenAnswer : Outcome ℕ → Outcome Answer
+abbrev pub writtenAnswer : Outcome ℕ → Outcome HandOut
 writtenAnswer (given n) = given (written n)
 writtenAnswer (refused n p) = refused n p
 
-unfoldable pub handedBy : Carried × Coming → List ℕ → HandedOut
+unfoldable pub handedBy : Session × Coming → List ℕ → Handed
 handedBy (z, line l) out = record { session = z; answer = given (written (length (lineText l))); out = lineText l ++ drop (length (lineText l)) out }
-handedBy (z, none) out = record { session = z; answer = given nothing; out = out }
+handedBy (z, no-line) out = record { session = z; answer = given nothing; out = out }
 
-unfoldable pub handing : Carried → List ℕ → List ℕ → HandedOut
-handing z s out =
+unfoldable pub nextLine : Session → List ℕ → List ℕ → Handed
+nextLine z s out =
     cond (leb longestLine (length out))
     (handedBy (nextOf z s) out)
     (record { session = z; answer = refused bufferTooShort 0; out = out })
 
-abbrev pub toldAnswer : HandOut → Outcome Answer
-toldAnswer (said.Line n) = given (written n)
-toldAnswer said.Over = given nothing
-toldAnswer (said.Refused r) = refused (r .number) (r .place)
+abbrev pub toldHandOut : code-handout.HandOut → Outcome HandOut
+toldHandOut (said.Line n) = given (written n)
+toldHandOut said.Over = given nothing
+toldHandOut (said.Refused r) = refused (r .number) (r .place)
 
 -- the answer r, with the buffer o afterwards
-abbrev pub toldHanded : Handed → List ℕ → HandedOut
-toldHanded r o = record { session = toldSession (r .session); answer = toldAnswer (r .answer); out = o }
+abbrev pub toldHanded : code-handed.Handed → List ℕ → Handed
+toldHanded r o = record { session = toldSession (r .session); answer = toldHandOut (r .answer); out = o }

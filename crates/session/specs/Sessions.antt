@@ -3,7 +3,7 @@
 --     withAllowance b o      the board b, with what reading the allowance came to
 --     headAt s               the head of the session s, and the place of its first event, or the refusal
 --     eventLines o tell go   the lines from an event on: `tell` is the event's own, `go` the lines after it; a refused event ends the session
---     linesFrom k b w s t e at    the lines of the events from place `at` on, the first of them event e in state t; of at most k events
+--     linesFrom k b s t e at w    the lines of the events from place `at` on, the first of them event e in state t; of at most k events
 --     headLines o s          the lines of the session s with the head o
 --     sessionLines s         the lines of the session s: there are no more events than bytes
 --     lineTexts              lines as texts
@@ -41,18 +41,18 @@ abbrev pub eventLines : Outcome (Found ℕ) → (ℕ → Shown) → (State → �
 eventLines (given v) tell go = tell (v .value) .0 ∷ go (tell (v .value) .1) (v .next)
 eventLines (refused n p) tell go = closing n p ∷ []
 
-unfoldable pub linesFrom : ℕ → Board → ℕ → List ℕ → State → ℕ → ℕ → List Line
-linesFrom zero b w s t e at = []
-linesFrom (suc k) b w s t e at =
+unfoldable pub linesFrom : ℕ → Board → List ℕ → State → ℕ → ℕ → ℕ → List Line
+linesFrom zero b s t e at w = []
+linesFrom (suc k) b s t e at w =
     cond (leb (length s) at)
     []
-    (eventLines (eventAt b s at) (eventLine b w e t) (λ u next. linesFrom k b w s u (suc e) next))
+    (eventLines (eventAt b s at) (λ v. eventLine b e t v w) (λ u next. linesFrom k b s u (suc e) next w))
 
 unfoldable pub headLines : Outcome (Found Head) → List ℕ → List Line
 headLines (refused n p) s = closing n p ∷ []
 headLines (given h) s =
-    let first = ranLine (h .value .board) (h .value .allowance) 0 freshState in
-    first .0 ∷ linesFrom (length s) (h .value .board) (h .value .allowance) s (first .1) 1 (h .next)
+    let first = ranLine (h .value .board) 0 freshState (h .value .allowance) in
+    first .0 ∷ linesFrom (length s) (h .value .board) s (first .1) 1 (h .next) (h .value .allowance)
 
 unfoldable pub sessionLines : List ℕ → List Line
 sessionLines s = headLines (headAt s) s

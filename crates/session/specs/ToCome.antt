@@ -4,7 +4,7 @@
 use Prim.Native.Nat.{ℕ, suc, _-_}
 use mathlib.Core.List.{List}
 use lib.ListN.{length}
-use Rattle.session.specs.Carried.{Stage, first, events, over, refusing, Carried}
+use Rattle.session.specs.Carried.{Stage, first, events, over, refusing, Session}
 
 unfoldable pub toComeAt : Stage → ℕ → ℕ
 toComeAt first n = suc n
@@ -12,5 +12,5 @@ toComeAt events n = n
 toComeAt over n = 0
 toComeAt (refusing m p) n = 1
 
-unfoldable pub toCome : Carried → List ℕ → ℕ
+unfoldable pub toCome : Session → List ℕ → ℕ
 toCome z s = toComeAt (z .stage) (length s - z .place)

@@ -100,7 +100,7 @@ fn next_event(session: Session, s: &[u8]) -> Next
                 );
             }
             let state = session.state;
-            let shown = events::event_line(board, session.allowance, session.event, state, value);
+            let shown = events::event_line(board, session.event, state, value, session.allowance);
             go_on(session, shown, next)
         }
         Number::Refused(refusal) => close(session, refusal),
@@ -116,7 +116,7 @@ pub fn advance(session: Session, s: &[u8]) -> Next
         Stage::First => {
             let board = session.board;
             let state = session.state;
-            let shown = events::run_line(board, session.allowance, session.event, state);
+            let shown = events::run_line(board, session.event, state, session.allowance);
             go_on(session, shown, session.place)
         }
         Stage::Events => next_event(session, s),

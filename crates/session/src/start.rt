@@ -3,7 +3,7 @@ ghost use mathlib.Core.Path.{_≡_};
 ghost use Rattle.number.specs.Outcomes.{refused};
 ghost use Rattle.number.specs.Numbers.{toldNumber};
 ghost use Rattle.session.specs.Sessions.{withAllowance};
-ghost use Rattle.session.specs.Carried.{opened, toldSession};
+ghost use Rattle.session.specs.Carried.{begunFrom, toldSession};
 use crate::Session;
 use crate::Stage;
 use board::Board;
@@ -13,7 +13,7 @@ use state::State;
 
 // The session of a bad file: its one line is the refusal.
 pub fn refuse(refusal: Refusal) -> Session
-    ensures { λ r. ⌜ toldSession r ≡ opened (refused (refusal .number) (refusal .place)) ⌝ }
+    ensures { λ r. ⌜ toldSession r ≡ begunFrom (refused (refusal .number) (refusal .place)) ⌝ }
 {
     Session {
         board: board::empty(),
@@ -27,7 +27,7 @@ pub fn refuse(refusal: Refusal) -> Session
 
 // The session of a board and of what reading its allowance came to.
 pub fn begin_with(board: Board, allowance: Number) -> Session
-    ensures { λ r. ⌜ toldSession r ≡ opened (withAllowance board (toldNumber allowance)) ⌝ }
+    ensures { λ r. ⌜ toldSession r ≡ begunFrom (withAllowance board (toldNumber allowance)) ⌝ }
 {
     match allowance {
         Number::Read(allowance, place) => Session {

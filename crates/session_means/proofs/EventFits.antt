@@ -13,7 +13,7 @@ use Rattle.board.specs.Rules.{boardFine}
 use Rattle.state.specs.declared.State.{State}
 use Rattle.state.specs.States.{stateFine, isPushed, withPushed, withReleased, left}
 use Rattle.state.proofs.StateLaws.{usable-fine, state-fits-push, state-fits-release}
-use Rattle.moves.specs.Steps.{stepOf}
+use Rattle.moves.specs.Steps.{stepper}
 use Rattle.presses.specs.Presses.{pressable, pushing, releasing}
 use Rattle.runs.specs.Running.{longestLog, ran}
 use Rattle.runs.proofs.RunningLaws.{runnable-log, running-by}
@@ -48,12 +48,12 @@ log-short = omega (arith, length-replicate {A = ℕ} 4096 0)
 module _ (b : Board) (fine : boardFine b ≡ true) where
   -- ---- a run
 
-  pub ran-fits : (w e : ℕ) (t : State) → stateFine (b .counts) t ≡ true → ShownFits b (ranLine b w e t)
+  pub ran-fits : (w e : ℕ) (t : State) → stateFine (b .counts) t ≡ true → ShownFits b (ranLine b e t w)
   unfolding ranLine ran
   ran-fits w e t fits =
       let goes = runnable-log b t sessionLog (usable-fine b t fine fits) log-short in
       subst (λ r. ShownFits b (tells e r)) (running-by b t sessionLog w (given tt) goes)
-      (record { twelve = tt; drawn = refl; fits = run-fits (b .counts) (stepOf b w) (length sessionLog) t fits })
+      (record { twelve = tt; drawn = refl; fits = run-fits (b .counts) (stepper b w) (length sessionLog) t fits })
 
   -- ---- a push or a release
 
@@ -86,11 +86,11 @@ module _ (b : Board) (fine : boardFine b ≡ true) where
 
   -- ---- the event
 
-  pressed-fits : (w e : ℕ) (x : State × Outcome (Unit {0})) → PressFits b x → ShownFits b (pressedLine b w e x)
+  pressed-fits : (w e : ℕ) (x : State × Outcome (Unit {0})) → PressFits b x → ShownFits b (pressedLine b e x w)
   unfolding pressedLine
   pressed-fits w e (t, given u) so = ran-fits w e t (so .fits)
   pressed-fits w e (t, refused n p) so = record { twelve = so .twelve; drawn = refl; fits = so .fits }
 
-  pub event-fits : (w e : ℕ) (t : State) (v : ℕ) → stateFine (b .counts) t ≡ true → ltb (v / 2) (b .counts .buttons) ≡ true → ShownFits b (eventLine b w e t v)
+  pub event-fits : (w e : ℕ) (t : State) (v : ℕ) → stateFine (b .counts) t ≡ true → ltb (v / 2) (b .counts .buttons) ≡ true → ShownFits b (eventLine b e t v w)
   unfolding eventLine
   event-fits w e t v fits below = pressed-fits w e (pressing b t v) (press-fits t v fits below)

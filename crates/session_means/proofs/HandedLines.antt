@@ -8,75 +8,75 @@ use lib.ListN.{length}
 use borrow.Author.Tests.{leb-true}
 use Rattle.number.specs.Outcomes.{refused}
 use Rattle.number.specs.Refusals.{bufferTooShort}
-use Rattle.number.proofs.OutcomeLaws.{refused-never, given-same}
+use Rattle.number.proofs.OutcomeLaws.{refused-never, given-injective}
 use Rattle.lines.specs.Lines.{longestLine}
-use Rattle.session.specs.declared.Session.{Session}
-use Rattle.session.specs.declared.Handed.{Handed}
+use Rattle.session.specs.declared.Session as code-session
+use Rattle.session.specs.declared.Handed as code-handed
 use Rattle.session.specs.declared.HandOut.the-variants.{Over}
-use Rattle.session.specs.HandingOut.{nothing, HandedOut, handing, toldAnswer, toldHanded}
+use Rattle.session.specs.HandingOut.{nothing, Handed, nextLine, toldHandOut, toldHanded}
 use Rattle.session.specs.Sessions.{lineTexts}
-use Rattle.session.specs.Carried.{Carried, Coming, line, none, nextOf, toldSession}
+use Rattle.session.specs.Carried.{Session, Coming, line, no-line, nextOf, toldSession}
 use Rattle.session.proofs.CallLaws.{nothing-never, call-over, call-line, came}
 use Rattle.session_means.specs.HandedLines.{Called, Hands, HandsOut, Tells, LinesHandedOut, AllHandedOut}
 use Rattle.session_means.proofs.StillLaws.{still, Numbered, still-next, numbered-next}
 use Rattle.session_means.proofs.OpeningLaws.{opening-still, opening-numbered}
 
 -- the texts of the lines that z has still to tell
-abbrev ahead : Session → List ℕ → List (List ℕ)
+abbrev ahead : code-session.Session → List ℕ → List (List ℕ)
 ahead z s = lineTexts (still (toldSession z) s)
 
-record From (s : List ℕ) (z : Session) (ts : List (List ℕ)) (z′ : Session) : Type 0 where
+record From (s : List ℕ) (z : code-session.Session) (ts : List (List ℕ)) (z′ : code-session.Session) : Type 0 where
   pub told : ahead z s ≡ ts ++ ahead z′ s
   pub numbered : Numbered (toldSession z′) s
 
 module _ (s : List ℕ) where
-  hands-first : (z y : Session) (t : List ℕ) → Numbered (toldSession z) s → Hands s z t y → From s z (t ∷ []) y
+  hands-first : (z y : code-session.Session) (t : List ℕ) → Numbered (toldSession z) s → Hands s z t y → From s z (t ∷ []) y
   unfolding lineTexts
   hands-first z y t numbered h =
       let c = came z s (h .out) (h .out′) (h .answer) (h .called) (h .bytes) (h .line) in
-      let next : nextOf (toldSession z) s ≡ (toldSession y, line (c .line-told)) = c .next ∙ ap {B = Carried × Coming} (λ (x : Session). (toldSession x, line (c .line-told))) (h .after) in
+      let next : nextOf (toldSession z) s ≡ (toldSession y, line (c .line-told)) = c .next ∙ ap {B = Session × Coming} (λ (x : code-session.Session). (toldSession x, line (c .line-told))) (h .after) in
       record {
         told = ap lineTexts (still-next (toldSession z) s numbered _ next) ∙ ap (λ (x : List ℕ). x ∷ ahead y s) (sym (c .text) ∙ h .text);
         numbered = numbered-next (toldSession z) s numbered _ _ next;
       }
 
-  from-start : (ts : List (List ℕ)) (z z′ : Session) → Numbered (toldSession z) s → HandsOut s z ts z′ → From s z ts z′
-  from-start [] z z′ numbered same = record { told = ap (λ (x : Session). ahead x s) same; numbered = subst (λ (x : Session). Numbered (toldSession x) s) same numbered }
+  from-start : (ts : List (List ℕ)) (z z′ : code-session.Session) → Numbered (toldSession z) s → HandsOut s z ts z′ → From s z ts z′
+  from-start [] z z′ numbered same = record { told = ap (λ (x : code-session.Session). ahead x s) same; numbered = subst (λ (x : code-session.Session). Numbered (toldSession x) s) same numbered }
   from-start (t ∷ ts) z z′ numbered (y, (h, after)) =
       let one = hands-first z y t numbered h in
       let rest = from-start ts y z′ (one .numbered) after in
       record { told = one .told ∙ ap {B = List (List ℕ)} (λ ls. t ∷ ls) (rest .told); numbered = rest .numbered }
 
-  tells-by : (z : Session) (out out′ : List ℕ) (r : Handed) → Numbered (toldSession z) s → longestLine ≤ length out → Called z s out r out′ → (x : Carried × Coming) → nextOf (toldSession z) s ≡ x → Tells (ahead z s) r out′
+  tells-by : (z : code-session.Session) (out out′ : List ℕ) (r : code-handed.Handed) → Numbered (toldSession z) s → longestLine ≤ length out → Called z s out r out′ → (x : Session × Coming) → nextOf (toldSession z) s ≡ x → Tells (ahead z s) r out′
   unfolding lineTexts
-  tells-by z out out′ r numbered room called (y, none) is = rw (still-next (toldSession z) s numbered _ is) (call-over z s out out′ r called room y is)
+  tells-by z out out′ r numbered room called (y, no-line) is = rw (still-next (toldSession z) s numbered _ is) (call-over z s out out′ r called room y is)
   tells-by z out out′ r numbered room called (y, line l) is = rw (still-next (toldSession z) s numbered _ is) (call-line z s out out′ r called room y l is)
 
 pub lines-handed-out : LinesHandedOut
 lines-handed-out s z z′ ts begun out =
-    let start : Numbered (toldSession z) s = subst (λ (x : Carried). Numbered x s) (sym begun) (opening-numbered s) in
+    let start : Numbered (toldSession z) s = subst (λ (x : Session). Numbered x s) (sym begun) (opening-numbered s) in
     let so = from-start s ts z z′ start out in
     record {
       rest = ahead z′ s;
-      all = ap lineTexts (sym (opening-still s) ∙ ap (λ (x : Carried). still x s) (sym begun)) ∙ so .told;
+      all = ap lineTexts (sym (opening-still s) ∙ ap (λ (x : Session). still x s) (sym begun)) ∙ so .told;
       next = λ out out′ r room called. tells-by s z′ out out′ r (so .numbered) room called (nextOf (toldSession z′) s) refl;
     }
 
 -- a call that says that there is none has room for a line
-over-room : (z : Session) (s out out′ : List ℕ) (r : Handed) → Called z s out r out′ → r .answer ≡ Over → (t : Bool) → leb longestLine (length out) ≡ t → longestLine ≤ length out
-unfolding handing
+over-room : (z : code-session.Session) (s out out′ : List ℕ) (r : code-handed.Handed) → Called z s out r out′ → r .answer ≡ Over → (t : Bool) → leb longestLine (length out) ≡ t → longestLine ≤ length out
+unfolding nextLine
 over-room z s out out′ r called over true room = leb-true longestLine (length out) room
 over-room z s out out′ r called over false short =
     let told : toldHanded r out′ ≡ record { session = toldSession z; answer = refused bufferTooShort 0; out = out } = called ∙ rw short refl in
-    absurd (refused-never bufferTooShort 0 nothing (sym (ap (λ (h : HandedOut). h .answer) told) ∙ ap toldAnswer over))
+    absurd (refused-never bufferTooShort 0 nothing (sym (ap (λ (h : Handed). h .answer) told) ∙ ap toldHandOut over))
 
-none-left : (rest : List (List ℕ)) (r : Handed) (out′ : List ℕ) → Tells rest r out′ → r .answer ≡ Over → rest ≡ []
+none-left : (rest : List (List ℕ)) (r : code-handed.Handed) (out′ : List ℕ) → Tells rest r out′ → r .answer ≡ Over → rest ≡ []
 none-left [] r out′ tells over = refl
-none-left (t ∷ ts) r out′ tells over = absurd (nothing-never (length t) (given-same _ _ (ap toldAnswer (sym over ∙ tells .0))))
+none-left (t ∷ ts) r out′ tells over = absurd (nothing-never (length t) (given-injective _ _ (ap toldHandOut (sym over ∙ tells .0))))
 
 pub all-handed-out : AllHandedOut
 all-handed-out s z z′ ts out out′ r begun handed called over =
     let so = lines-handed-out s z z′ ts begun handed in
     let room = over-room z′ s out out′ r called over (leb longestLine (length out)) refl in
-    let none = none-left (so .rest) r out′ (so .next out out′ r room called) over in
-    sym (so .all ∙ ap (λ (rest : List (List ℕ)). ts ++ rest) none ∙ append-nil ts)
+    let no-line = none-left (so .rest) r out′ (so .next out out′ r room called) over in
+    sym (so .all ∙ ap (λ (rest : List (List ℕ)). ts ++ rest) no-line ∙ append-nil ts)

@@ -8,11 +8,11 @@ use Rattle.lines.specs.Lines.{Line, event, closing}
 use Rattle.events.specs.Events.{Shown}
 use Rattle.events.proofs.DrawnLaws.{drawn-is-sum}
 use Rattle.session.specs.Sessions.{Head, sessionLines}
-use Rattle.session_means.specs.LinesDrawn.{Shows, SumsFrom, LinesDrawn}
+use Rattle.session_means.specs.LinesDrawn.{EventShows, SumsFrom, LinesDrawn}
 use Rattle.session_means.proofs.EventFits.{ShownFits}
 use Rattle.session_means.proofs.LinesWalk.{Along, HeadFine, head-fine, head-walk}
 
-shown-sum : (h : Head) (e : ℕ) (t : State) (x : Shown) (ls : List Line) → Shows h e t x → ShownFits (h .board) x → SumsFrom h (suc e) (x .1) ls → SumsFrom h e t (x .0 ∷ ls)
+shown-sum : (h : Head) (e : ℕ) (t : State) (x : Shown) (ls : List Line) → EventShows h e t x → ShownFits (h .board) x → SumsFrom h (suc e) (x .1) ls → SumsFrom h e t (x .0 ∷ ls)
 shown-sum h e t (event n o m d, u) ls shows so on = (u, (record { shows = shows; fits = so .fits; sum = so .drawn ∙ drawn-is-sum (h .board .counts) u (so .fits) }, on))
 shown-sum h e t (closing n p, u) ls shows so on = absurd (so .drawn)
 

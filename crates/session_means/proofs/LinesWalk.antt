@@ -19,14 +19,14 @@ use Rattle.file_means.proofs.ReadFine.{read-fine}
 use Rattle.lines.specs.Lines.{Line, closing}
 use Rattle.events.specs.Events.{Shown, eventAt, eventLine}
 use Rattle.session.specs.Sessions.{Head, withAllowance, headAt, eventLines, linesFrom, headLines}
-use Rattle.session_means.specs.LinesDrawn.{Shows}
+use Rattle.session_means.specs.LinesDrawn.{EventShows}
 use Rattle.session_means.proofs.EventFits.{ShownFits, ran-fits, event-fits}
 
 -- what is to be shown of the lines from event e on, in state t: of none, of the line that ends a session, and of an event's line before others
 pub record Along (h : Head) (Q : ℕ → State → List Line → Type 0) : Type 0 where
   pub none : (e : ℕ) (t : State) → Q e t []
   pub closes : (e : ℕ) (t : State) (n p : ℕ) → Q e t (closing n p ∷ [])
-  pub shown : (e : ℕ) (t : State) (x : Shown) (ls : List Line) → Shows h e t x → ShownFits (h .board) x → Q (suc e) (x .1) ls → Q e t (x .0 ∷ ls)
+  pub shown : (e : ℕ) (t : State) (x : Shown) (ls : List Line) → EventShows h e t x → ShownFits (h .board) x → Q (suc e) (x .1) ls → Q e t (x .0 ∷ ls)
 
 -- ---- the events
 
@@ -41,9 +41,9 @@ module _ (h : Head) (s : List ℕ) (fine : boardFine (h .board) ≡ true) (Q : �
 
   -- event e, in state t that fits, and the lines after it
   event-walk : (e : ℕ) (t : State) (o : Outcome (Found ℕ)) (go : State → ℕ → List Line) → stateFine (h .board .counts) t ≡ true → Gives Named o
-      → ((u : State) (next : ℕ) → stateFine (h .board .counts) u ≡ true → Q (suc (suc e)) u (go u next)) → Q (suc e) t (eventLines o (eventLine (h .board) (h .allowance) (suc e) t) go)
+      → ((u : State) (next : ℕ) → stateFine (h .board .counts) u ≡ true → Q (suc (suc e)) u (go u next)) → Q (suc e) t (eventLines o (λ v. eventLine (h .board) (suc e) t v (h .allowance)) go)
   event-walk e t (given v) go fits named on =
-      let x = eventLine (h .board) (h .allowance) (suc e) t (v .value) in
+      let x = eventLine (h .board) (suc e) t (v .value) (h .allowance) in
       let after = event-fits (h .board) fine (h .allowance) (suc e) t (v .value) fits named in
       so .shown (suc e) t x _ (v .value, refl) after (on (x .1) (v .next) (after .fits))
   event-walk e t (refused n p) go fits named on = so .closes (suc e) t n p
@@ -52,12 +52,12 @@ module _ (h : Head) (s : List ℕ) (fine : boardFine (h .board) ≡ true) (Q : �
   unless-over e t true ls all = so .none e t
   unless-over e t false ls all = all
 
-  lines-walk : (k : ℕ) (t : State) (e at : ℕ) → stateFine (h .board .counts) t ≡ true → Q (suc e) t (linesFrom k (h .board) (h .allowance) s t (suc e) at)
+  lines-walk : (k : ℕ) (t : State) (e at : ℕ) → stateFine (h .board .counts) t ≡ true → Q (suc e) t (linesFrom k (h .board) s t (suc e) at (h .allowance))
   unfolding linesFrom
   lines-walk zero t e at fits = so .none (suc e) t
   lines-walk (suc k) t e at fits =
       unless-over (suc e) t (leb (length s) at) _
-      (event-walk e t (eventAt (h .board) s at) (λ u next. linesFrom k (h .board) (h .allowance) s u (suc (suc e)) next) fits (event-named at)
+      (event-walk e t (eventAt (h .board) s at) (λ u next. linesFrom k (h .board) s u (suc (suc e)) next (h .allowance)) fits (event-named at)
       (λ u next after. lines-walk k u (suc e) next after))
 
 -- ---- the session

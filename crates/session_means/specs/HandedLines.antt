@@ -16,14 +16,14 @@ use Rattle.session.specs.declared.Session.{Session}
 use Rattle.session.specs.declared.Handed.{Handed}
 use Rattle.session.specs.declared.HandOut.the-variants.{Line, Over}
 use Rattle.session.specs.Sessions.{sessionLines, lineTexts}
-use Rattle.session.specs.Carried.{opening, toldSession}
-use Rattle.session.specs.HandingOut.{handing, toldHanded}
+use Rattle.session.specs.Carried.{beginning, toldSession}
+use Rattle.session.specs.HandingOut.{nextLine, toldHanded}
 
 abbrev pub Begun : List ℕ → Session → Type 0
-Begun s z = toldSession z ≡ opening s
+Begun s z = toldSession z ≡ beginning s
 
 abbrev pub Called : Session → List ℕ → List ℕ → Handed → List ℕ → Type 0
-Called z s out r out′ = toldHanded r out′ ≡ handing (toldSession z) s out
+Called z s out r out′ = toldHanded r out′ ≡ nextLine (toldSession z) s out
 
 pub record Hands (s : List ℕ) (z : Session) (t : List ℕ) (y : Session) : Type 0 where
   pub out : List ℕ

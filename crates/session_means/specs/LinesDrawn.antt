@@ -1,5 +1,5 @@
 -- Rule book, "The session program": "One line for the first run (event 0), then one for each event: event number, word, moves, and the sum of 2 to the relay number over drawn relays." A line tells the state's word of drawn relays there; in every session that is the sum.
---     Shows h e t x           x is what event e shows in state t, in a session with the head h: its line, and the state after it. Event 0 is the first run
+--     EventShows h e t x           x is what event e shows in state t, in a session with the head h: its line, and the state after it. Event 0 is the first run
 --     PrintsSum h e t l d u   the line l is what event e shows in state t, and leaves state u, which fits the board; and its last number d is the sum over those of the board's relays that are drawn in u
 --     SumsFrom h e t ls       so it is of each event's line of ls: the first is event e's, in state t, and each later one is the next event's, in the state that the line before it leaves. A closing line is the last
 --     LinesDrawn              so it is of the lines of every session whose board and allowance are read, from the fresh state
@@ -15,12 +15,12 @@ use Rattle.events.specs.Events.{Shown, ranLine, eventLine}
 use Rattle.events.specs.Drawn.{sumBelow}
 use Rattle.session.specs.Sessions.{Head, headAt, sessionLines}
 
-abbrev pub Shows : Head → ℕ → State → Shown → Type 0
-Shows h zero t x = x ≡ ranLine (h .board) (h .allowance) 0 t
-Shows h (suc e) t x = (v : ℕ) × (x ≡ eventLine (h .board) (h .allowance) (suc e) t v)
+abbrev pub EventShows : Head → ℕ → State → Shown → Type 0
+EventShows h zero t x = x ≡ ranLine (h .board) 0 t (h .allowance)
+EventShows h (suc e) t x = (v : ℕ) × (x ≡ eventLine (h .board) (suc e) t v (h .allowance))
 
 pub record PrintsSum (h : Head) (e : ℕ) (t : State) (l : Line) (d : ℕ) (u : State) : Type 0 where
-  pub shows : Shows h e t (l, u)
+  pub shows : EventShows h e t (l, u)
   pub fits : stateFine (h .board .counts) u ≡ true
   pub sum : d ≡ sumBelow (h .board .counts .relays) u
 

@@ -1,5 +1,5 @@
 -- Which windings the parts so far gave each relay. Rule book: "Every relay is regular, with exactly one part of kind 4, or steel-core, with exactly one of kind 5 and one of kind 6."
---     noWindings          none yet
+--     noneWound          none yet
 --     windingFree w k     8 does not hold of a part of kind k: its relay does not have this winding yet, and is not of the other sort
 --     gained w k          the windings once a part of kind k has come too
 --     wound w r           relay r lacks no winding
@@ -10,12 +10,12 @@ use mathlib.Core.Bool.{Bool, true, not, _&&_, _||_}
 use Rattle.bits.specs.Sets.{member, including}
 use Rattle.kinds.specs.declared.Kind.{Kind}
 use Rattle.kinds.specs.declared.Kind.the-variants.{Wire, Upper, Lower, Button, Regular, Drawing, Dropping}
-use Rattle.windings.specs.declared.Windings.{Windings}
+use Rattle.windings.specs.declared.WoundSoFar.{WoundSoFar}
 
-abbrev pub noWindings : Windings
-noWindings = record { regular = 0; drawing = 0; dropping = 0 }
+abbrev pub noneWound : WoundSoFar
+noneWound = record { regular = 0; drawing = 0; dropping = 0 }
 
-abbrev pub windingFree : Windings → Kind → Bool
+abbrev pub windingFree : WoundSoFar → Kind → Bool
 windingFree w Wire = true
 windingFree w (Upper r) = true
 windingFree w (Lower r) = true
@@ -24,7 +24,7 @@ windingFree w (Regular r) = not (member (w .regular) r) && (not (member (w .draw
 windingFree w (Drawing r) = not (member (w .regular) r) && not (member (w .drawing) r)
 windingFree w (Dropping r) = not (member (w .regular) r) && not (member (w .dropping) r)
 
-abbrev pub gained : Windings → Kind → Windings
+abbrev pub gained : WoundSoFar → Kind → WoundSoFar
 gained w Wire = w
 gained w (Upper r) = w
 gained w (Lower r) = w
@@ -33,12 +33,12 @@ gained w (Regular r) = record { regular = including (w .regular) r; drawing = w 
 gained w (Drawing r) = record { regular = w .regular; drawing = including (w .drawing) r; dropping = w .dropping }
 gained w (Dropping r) = record { regular = w .regular; drawing = w .drawing; dropping = including (w .dropping) r }
 
-abbrev pub wound : Windings → ℕ → Bool
+abbrev pub wound : WoundSoFar → ℕ → Bool
 wound w r = member (w .regular) r || member (w .drawing) r && member (w .dropping) r
 
 unfoldable pub every : ℕ → (ℕ → Bool) → Bool
 every zero f = true
 every (suc n) f = every n f && f n
 
-unfoldable pub complete : ℕ → Windings → Bool
+unfoldable pub complete : ℕ → WoundSoFar → Bool
 complete n w = every n (wound w)

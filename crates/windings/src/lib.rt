@@ -2,11 +2,11 @@
 ghost use mathlib.Core.Path.{_≡_};
 ghost use mathlib.Core.Bool.{not, _&&_};
 ghost use Rattle.bits.specs.Sets.{member};
-ghost use Rattle.windings.specs.Windings.{noWindings, windingFree, gained, wound, complete};
+ghost use Rattle.windings.specs.Windings.{noneWound, windingFree, gained, wound, complete};
 use kinds::Kind;
 
 // The relays that have a part of kind 4, of kind 5 and of kind 6.
-pub struct Windings {
+pub struct WoundSoFar {
     pub regular: u64,
     pub drawing: u64,
     pub dropping: u64,
@@ -23,12 +23,12 @@ fn in_neither(x: u64, y: u64, relay: u8) -> bool
     !bits::has(y, n)
 }
 
-impl Windings {
+impl WoundSoFar {
     // What no part gave: nothing.
     pub fn none() -> Self
-        ensures { λ r. ⌜ r ≡ noWindings ⌝ }
+        ensures { λ r. ⌜ r ≡ noneWound ⌝ }
     {
-        Windings {
+        WoundSoFar {
             regular: 0,
             drawing: 0,
             dropping: 0,

@@ -1,12 +1,15 @@
 -- `board::empty` meets its contract: its 256 places are the filler.
+use borrow.Author.Needs.{needs}
 use Rattle.board.proofs.empty.Statement.{statement}
 use Rattle.board.proofs.empty.Tie as tie
-use mathlib.Core.Path.{refl}
+use mathlib.Core.Path.{ap}
+use lib.ListN.{replicate}
+use Rattle.board.specs.declared.Part.{Part}
 use Rattle.board.specs.Parts.{emptyBoard, padded}
 
 returns : tie.Need-returns
 unfolding emptyBoard padded
-returns c = refl
+returns c = ap (λ (p : Part). record { counts = _; parts = replicate 256 p }) (c .blank .ensures)
 
 pub empty-spec : {M : Type 1} → statement M
-empty-spec = tie.close (tie.spec returns)
+empty-spec = tie.close (tie.spec (λ c κs. search needs) returns)

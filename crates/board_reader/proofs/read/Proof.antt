@@ -3,7 +3,7 @@ use borrow.Author.Needs.{needs}
 use Rattle.board_reader.proofs.read.Statement.{statement}
 use Rattle.board_reader.proofs.read.Tie as tie
 use mathlib.Core.Path.{ap, _∙_}
-use Rattle.board_reader.specs.Reading.{toldAnswer}
+use Rattle.board_reader.specs.Reading.{toldReadAnswer}
 use Rattle.board_reader.proofs.PartsLaws.{answer-refused}
 use Rattle.board_reader.proofs.ReadLaws.{counts-stopped, counts-went, reading-long, reading-stopped, reading-went}
 use Rattle.board.proofs.RuleLaws.{counts-in-range}
@@ -15,7 +15,7 @@ returns c = answer-refused (c .no-board .result) _ _ _ (c .no-board .ensures .0)
 returns-2 : tie.Need-returns-2
 returns-2 c =
     let at-read-counts = c .before .before .before in
-    answer-refused (c .no-board2 .result) _ _ _ (c .no-board2 .ensures .0) (c .no-board2 .ensures .1) (ap toldAnswer (c .before .enum-told .given .1)) ∙ reading-stopped _ _ _ (c .before .before .before .before .if1 .left) (counts-stopped _ (at-read-counts .read-counts .result) _ (c .before .enum-told .given .1) (at-read-counts .read-counts .ensures))
+    answer-refused (c .no-board2 .result) _ _ _ (c .no-board2 .ensures .0) (c .no-board2 .ensures .1) (ap toldReadAnswer (c .before .enum-told .given .1)) ∙ reading-stopped _ _ _ (c .before .before .before .before .if1 .left) (counts-stopped _ (at-read-counts .read-counts .result) _ (c .before .enum-told .given .1) (at-read-counts .read-counts .ensures))
 
 read-parts-requires : tie.Need-read-parts-requires
 read-parts-requires c κs =

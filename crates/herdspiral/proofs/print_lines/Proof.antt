@@ -24,9 +24,11 @@ loop-less : tie.Need-loop-less Inv-loop μ-loop
 loop-less c = c .before .before .before .before .before .hand-out .ensures _ (c .before .before .answer .given .1) .1
 
 loop-again : tie.Need-loop-again Inv-loop μ-loop
-loop-again c = let long : length (c .before .before .before .before .before .hand-out .last .1 .1 .0) ≡ 16384 =
-    let at-loop = c .before .before .before .before .before .before .before .before .before .before .before in
-    search needs in (omega (arith, c .before .before .before .before .before .hand-out .ensures _ (c .before .before .answer .given .1) .0, at-loop .loop .inv .1), long)
+loop-again c =
+    let at-hand-out = c .before .before .before .before .before in
+    let at-loop = at-hand-out .before .before .before .before .before .before in
+    let long : length (at-hand-out .hand-out .last .1 .1 .0) ≡ 16384 = search needs in
+    (omega (arith, at-hand-out .hand-out .ensures _ (c .before .before .answer .given .1) .0, at-loop .loop .inv .1), long)
 
 pub print-lines-spec : {M : Type 1} → statement M
 print-lines-spec =

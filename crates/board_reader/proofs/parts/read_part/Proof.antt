@@ -51,8 +51,8 @@ returns-5 c =
     let at-read-within = at-kind-read .before .before in
     no-part-told (c .no-part5 .result) _ _ _ (c .no-part5 .ensures) (place-refused (c .before .place-of4 .result) _ _ (c .before .place-of4 .ensures) (at-enum-told4 .enum-told4 .given .1)) ∙ name-refused _ _ _ _ _ _ (told-found _ _ _ _ (at-kind-read .kind-read .given .1) (at-read-within .read-within .ensures)) _ _ (told-found _ _ _ _ (at-a-read .a-read .given .1) (at-read-terminal .read-terminal .ensures)) _ _ (told-found _ _ _ _ (at-b-read .b-read .given .1) (at-read-terminal2 .read-terminal2 .ensures)) (c .before .before .before .before .before .if1 .left) _ _ (told-refused _ _ _ (at-enum-told4 .enum-told4 .given .1) (c .before .before .before .before .read-name .ensures))
 
-cast-kind-of : tie.Need-cast-kind-of
-cast-kind-of c =
+cast-of : tie.Need-cast-of
+cast-of c =
     let entry = c .before .before .before .before .before .before .before .before .before .before .before .before .before .before .before .before .before .before in
     let below = entry .good .1 .1 .0 .1 .1 in
     record { fits = name-below _ _ _ _ _ _ 256 (told-found _ _ _ _ (c .before .name-read .given .1) (c .before .before .before .read-name .ensures)) (omega (arith, below .1 .0 .1)) (omega (arith, below .1 .1 .0 .1)) (omega arith) }
@@ -68,7 +68,7 @@ returns-6 c =
     let at-read-terminal = at-a-read .before .before in
     let at-kind-read = at-read-terminal .before .before in
     let at-read-within = at-kind-read .before .before in
-    no-part-told (c .no-part6 .result) _ _ _ (c .no-part6 .ensures) (c .before .refuse2 .ensures) ∙ winding-refused _ _ _ _ _ _ (told-found _ _ _ _ (at-kind-read .kind-read .given .1) (at-read-within .read-within .ensures)) _ _ (told-found _ _ _ _ (at-a-read .a-read .given .1) (at-read-terminal .read-terminal .ensures)) _ _ (told-found _ _ _ _ (at-b-read .b-read .given .1) (at-read-terminal2 .read-terminal2 .ensures)) (at-if1 .if1 .left) _ _ (told-found _ _ _ _ (at-name-read .name-read .given .1) (at-read-name .read-name .ensures)) (ap (windingFree _) (sym (c .before .before .before .before .kind-of .ensures)) ∙ sym (c .before .before .before .free .ensures) ∙ not-true _ (c .before .before .if2 .taken))
+    no-part-told (c .no-part6 .result) _ _ _ (c .no-part6 .ensures) (c .before .refuse2 .ensures) ∙ winding-refused _ _ _ _ _ _ (told-found _ _ _ _ (at-kind-read .kind-read .given .1) (at-read-within .read-within .ensures)) _ _ (told-found _ _ _ _ (at-a-read .a-read .given .1) (at-read-terminal .read-terminal .ensures)) _ _ (told-found _ _ _ _ (at-b-read .b-read .given .1) (at-read-terminal2 .read-terminal2 .ensures)) (at-if1 .if1 .left) _ _ (told-found _ _ _ _ (at-name-read .name-read .given .1) (at-read-name .read-name .ensures)) (ap (windingFree _) (sym (c .before .before .before .before .of .ensures)) ∙ sym (c .before .before .before .free .ensures) ∙ not-true _ (c .before .before .if2 .taken))
 
 cast-t25 : tie.Need-cast-t25
 cast-t25 c =
@@ -86,8 +86,8 @@ cast-t28 c =
 
 returns-7 : tie.Need-returns-7
 returns-7 c =
-    let at-kind-of = c .before .before in
-    let at-read-name = at-kind-of .before .before .before .before in
+    let at-of = c .before .before in
+    let at-read-name = at-of .before .before .before .before in
     let at-if1 = at-read-name .before in
     let at-b-read = at-if1 .before .before in
     let at-read-terminal2 = at-b-read .before .before in
@@ -95,7 +95,7 @@ returns-7 c =
     let at-read-terminal = at-a-read .before .before in
     let at-kind-read = at-read-terminal .before .before in
     let at-read-within = at-kind-read .before .before in
-    part-as _ _ _ refl refl (at-kind-of .kind-of .ensures) ∙ part-found _ _ _ _ _ _ (told-found _ _ _ _ (at-kind-read .kind-read .given .1) (at-read-within .read-within .ensures)) _ _ (told-found _ _ _ _ (at-a-read .a-read .given .1) (at-read-terminal .read-terminal .ensures)) _ _ (told-found _ _ _ _ (at-b-read .b-read .given .1) (at-read-terminal2 .read-terminal2 .ensures)) (at-if1 .if1 .left) _ _ (told-found _ _ _ _ (c .before .before .before .before .name-read .given .1) (at-read-name .read-name .ensures)) (ap (windingFree _) (sym (at-kind-of .kind-of .ensures)) ∙ sym (c .before .free .ensures) ∙ not-false _ (c .if2 .left))
+    part-as _ _ _ refl refl (at-of .of .ensures) ∙ part-found _ _ _ _ _ _ (told-found _ _ _ _ (at-kind-read .kind-read .given .1) (at-read-within .read-within .ensures)) _ _ (told-found _ _ _ _ (at-a-read .a-read .given .1) (at-read-terminal .read-terminal .ensures)) _ _ (told-found _ _ _ _ (at-b-read .b-read .given .1) (at-read-terminal2 .read-terminal2 .ensures)) (at-if1 .if1 .left) _ _ (told-found _ _ _ _ (c .before .before .before .before .name-read .given .1) (at-read-name .read-name .ensures)) (ap (windingFree _) (sym (at-of .of .ensures)) ∙ sym (c .before .free .ensures) ∙ not-false _ (c .if2 .left))
 
 pub read-part-spec : {M : Type 1} → statement M
 read-part-spec =
@@ -128,7 +128,7 @@ read-part-spec =
     (λ c κs. search needs)
     (λ c κs. search needs)
     returns-5
-    cast-kind-of
+    cast-of
     (λ c κs. search needs)
     (λ c κs. search needs)
     (λ c κs. search needs)

@@ -9,7 +9,7 @@ use borrow.Author.Tests.{not-true, not-false}
 use lib.ListN.{length}
 use Rattle.board_reader.proofs.PartsLaws.{Walk, walk-start, walk-on, walk-refused, walk-lacking, walk-end, part-stopped, part-went, answer-refused, board-refused, board-found}
 use mathlib.Core.Path.{ap}
-use Rattle.board_reader.specs.Reading.{answered, toldAnswer}
+use Rattle.board_reader.specs.Reading.{answered, toldReadAnswer}
 use lib.ListN.{length-set}
 
 abbrev Inv-loop : tie.InvT-loop
@@ -19,12 +19,12 @@ abbrev μ-loop : tie.MeasureT-loop
 μ-loop s start counts parts₀ windings₀ at₀ count i₀ parts windings at i = count - i
 
 loop-holds : tie.Need-loop-holds Inv-loop μ-loop
-loop-holds c = (refl, c .before .before .before .pre, omega arith, refl, walk-start _ _ _ _ _ (c .before .filler .ensures) (c .none .ensures))
+loop-holds c = (refl, c .before .before .before .pre, omega arith, refl, walk-start _ _ _ _ _ (c .before .blank .ensures) (c .none .ensures))
 
 returns : tie.Need-returns Inv-loop μ-loop
 returns c =
     let at-read-part = c .before .before .before in
-    answer-refused (c .no-board .result) _ _ _ (c .no-board .ensures .0) (c .no-board .ensures .1) (ap toldAnswer (c .before .enum-told .given .1)) ∙ ap answered (board-refused _ _ _ _ (walk-refused _ _ _ _ _ _ _ (c .before .before .before .before .before .loop .inv .4) _ _ (c .before .before .before .before .loop-test .taken) (part-stopped _ (at-read-part .read-part .result) _ (c .before .enum-told .given .1) (at-read-part .read-part .ensures))))
+    answer-refused (c .no-board .result) _ _ _ (c .no-board .ensures .0) (c .no-board .ensures .1) (ap toldReadAnswer (c .before .enum-told .given .1)) ∙ ap answered (board-refused _ _ _ _ (walk-refused _ _ _ _ _ _ _ (c .before .before .before .before .before .loop .inv .4) _ _ (c .before .before .before .before .loop-test .taken) (part-stopped _ (at-read-part .read-part .result) _ (c .before .enum-told .given .1) (at-read-part .read-part .ensures))))
 
 loop-again : tie.Need-loop-again Inv-loop μ-loop
 loop-again c =
