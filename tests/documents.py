@@ -1,4 +1,5 @@
-"""docs/READING.md lists every file of definitions with its number of lines, and docs/COST.md every crate with its own."""
+"""docs/READING.md lists every file of definitions once with its number of lines, adds up those of its first part, and names
+laws that are there; docs/COST.md has every crate with its own counts."""
 import os
 import re
 import sys
@@ -6,7 +7,10 @@ import sys
 sys.path.insert(0, os.path.join(os.path.dirname(os.path.abspath(__file__)), "lib"))
 import repository
 
-reading = dict(re.findall(r"^\| `(crates/[^`]+)` \| (\d+) \|", repository.text("docs", "READING.md"), re.M))
+page = repository.text("docs", "READING.md")
+ROW = r"^\| `(crates/[^`]+)` \| (\d+) \|"
+rows = re.findall(ROW, page, re.M)
+reading = dict(rows)
 cost = {name: tuple(map(int, counts)) for name, *counts in re.findall(r"^\| `(\w+)` \| (\d+) \| (\d+) \| (\d+) \| (\d+) \|", repository.text("docs", "COST.md"), re.M)}
 
 checks = []
@@ -19,4 +23,17 @@ for crate in repository.crates():
     checks.append((f"docs/COST.md: {crate} has {own}, not {cost.get(crate)}", cost.get(crate) == own))
 for name in reading:
     checks.append((f"docs/READING.md: {name} is there", os.path.exists(repository.path(name))))
+    checks.append((f"docs/READING.md: {name} has one row", [row for row, _ in rows].count(name) == 1))
+
+# The stated sum of the first part, and that of the whole.
+first = sum(int(count) for _, count in re.findall(ROW, page.split("\n## Part two")[0], re.M))
+whole = sum(int(count) for _, count in rows)
+stated = re.findall(r"^Part one: ([\d,]+) lines of ([\d,]+)\.", page, re.M)
+checks.append((f"docs/READING.md: part one has {first:,} lines of {whole:,}, not {stated}", stated == [(f"{first:,}", f"{whole:,}")]))
+
+# A law is named after the file that proves it: `crate/proofs/File.antt`: `law`, `law`.
+for name, laws in re.findall(r"`(\w+/proofs/\w+\.antt)`: ((?:`[\w-]+`(?:, )?)+)", page):
+    proofs = repository.text("crates", name) if os.path.exists(repository.path("crates", name)) else ""
+    for law in re.findall(r"`([\w-]+)`", laws):
+        checks.append((f"docs/READING.md: {name} proves {law}", bool(re.search(rf"^\s*pub {law} :", proofs, re.M))))
 sys.exit(repository.report(checks))

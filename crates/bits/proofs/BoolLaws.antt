@@ -1,4 +1,5 @@
--- Laws of tests: both of two in a row hold exactly if their conjunction does, one of two exactly if their disjunction does, and a test goes one way or the other.
+-- Laws of tests: both of two in a row hold exactly if their conjunction does, one of two exactly if their disjunction
+-- does, and a test goes one way or the other.
 use mathlib.Core.Path.{_≡_, refl}
 use mathlib.Core.Logic.{_⊎_, inl, inr}
 use mathlib.Core.Bool.{Bool, true, false, _&&_, _||_, false≢true}

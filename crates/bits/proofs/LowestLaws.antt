@@ -1,4 +1,5 @@
--- Laws of the first number from n up that passes a test, and of the lowest member of a set from n up: what `lowest_from` needs, one law for each step of its loop, and what a search among a set's members needs.
+-- Laws of the first number from n up that passes a test, and of the lowest member of a set from n up: what
+-- `lowest_from` needs, one law for each step of its loop, and what a search among a set's members needs.
 use Prim.Native.Nat.{ℕ, zero, suc, _+_, _-_, _*_, _/_, _%_, _^_, _<_, _≤_}
 use native.Mathlib.Omega.{arith}
 use native.Mathlib.Nat.{mod-lt, div-eq-of-lt, lt-of-lt-of-le}
@@ -22,7 +23,8 @@ pub first-here : (ok : ℕ → Bool) (t n : ℕ) → n < t → ok n ≡ true →
 unfolding firstFrom
 first-here ok t n h here = rw (less t n h, here) refl
 
-pub first-on : (ok : ℕ → Bool) (t n : ℕ) → n < t → ok n ≡ false → firstFrom ok (t - n) n ≡ firstFrom ok (t - (n + 1)) (n + 1)
+pub first-on : (ok : ℕ → Bool) (t n : ℕ) → n < t → ok n ≡ false → firstFrom ok (t - n) n ≡ firstFrom ok
+    (t - (n + 1)) (n + 1)
 unfolding firstFrom
 first-on ok t n h past = rw (less t n h, past) (ap (firstFrom ok (t - (n + 1))) (sym (add-one n)))
 
@@ -30,7 +32,9 @@ first-on ok t n h past = rw (less t n h, past) (ap (firstFrom ok (t - (n + 1))) 
 first-none : (ok : ℕ → Bool) (k n t : ℕ) → t ≡ n + k → ((m : ℕ) → n ≤ m → ok m ≡ false) → t ≡ firstFrom ok k n
 unfolding firstFrom
 first-none ok zero n t e none = omega (arith, e)
-first-none ok (suc k) n t e none = rw (none n (omega arith)) (first-none ok k (suc n) t (omega (arith, e)) (λ m from. none m (omega (arith, from))))
+first-none ok (suc k) n t e none =
+    rw (none n (omega arith)) (first-none ok k (suc n) t (omega (arith, e))
+    (λ m from. none m (omega (arith, from))))
 
 pub first-end : (ok : ℕ → Bool) (t n : ℕ) → t ≤ n → n ≡ firstFrom ok (t - n) n
 unfolding firstFrom
@@ -48,13 +52,17 @@ pub first-after : (ok : ℕ → Bool) (k n m : ℕ) → m ≡ firstFrom ok k n �
 first-after ok k n m e = omega (arith, e, first-least ok k n)
 
 -- tests that agree on the numbers tried find the same one
-pub first-same : (ok fine : ℕ → Bool) (k n : ℕ) → ((m : ℕ) → m < n + k → ok m ≡ fine m) → firstFrom ok k n ≡ firstFrom fine k n
+pub first-same : (ok fine : ℕ → Bool) (k n : ℕ) → ((m : ℕ) → m < n + k → ok m ≡ fine m)
+    → firstFrom ok k n ≡ firstFrom fine k n
 unfolding firstFrom
 first-same ok fine zero n agree = refl
-first-same ok fine (suc k) n agree = rw (agree n (omega arith), first-same ok fine k (suc n) (λ m below. agree m (omega (arith, below)))) refl
+first-same ok fine (suc k) n agree =
+    rw (agree n (omega arith), first-same ok fine k (suc n) (λ m below. agree m (omega (arith, below)))) refl
 
 -- fewer numbers are tried: the first is the same, or there is none among them
-pub first-fewer : (ok : ℕ → Bool) (k l n : ℕ) → k ≤ l → (firstFrom ok l n < n + k → firstFrom ok k n ≡ firstFrom ok l n) × (n + k ≤ firstFrom ok l n → firstFrom ok k n ≡ n + k)
+pub first-fewer : (ok : ℕ → Bool) (k l n : ℕ) → k ≤ l
+    → (firstFrom ok l n < n + k → firstFrom ok k n ≡ firstFrom ok l n)
+    × (n + k ≤ firstFrom ok l n → firstFrom ok k n ≡ n + k)
 unfolding firstFrom
 first-fewer ok zero l n few = (λ below. absurd (omega (arith, below, first-least ok l n)), λ past. omega arith)
 first-fewer ok (suc k) zero n few = absurd (omega (arith, few))
@@ -84,7 +92,8 @@ lowest-room s m rest small e some =
     (λ below. ltb-true m 64 below)
     (λ above. absurd (some (e ∙ div-eq-of-lt (lt-of-lt-of-le small (pow-mono (ltb-false m 64 above))))))
 
-pub lowest-none : (s n m rest : ℕ) → m ≤ 64 → rest ≡ s / 2 ^ m → rest ≡ 0 → lowestFrom s n ≡ firstFrom (member s) (64 - m) m → 64 ≡ lowestFrom s n
+pub lowest-none : (s n m rest : ℕ) → m ≤ 64 → rest ≡ s / 2 ^ m → rest ≡ 0 → lowestFrom s n ≡ firstFrom (member s)
+    (64 - m) m → 64 ≡ lowestFrom s n
 lowest-none s n m rest most e none same =
     let small : s < 2 ^ m = omega (arith, split s m, mod-lt s (pow-pos m), ap (λ (x : ℕ). x * 2 ^ m) (sym e ∙ none)) in
     first-none (member s) (64 - m) m 64 (omega (arith, most)) (λ k from. member-beyond s m k small from) ∙ sym same

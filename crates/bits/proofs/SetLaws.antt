@@ -1,17 +1,21 @@
--- The laws of sets of small numbers: what `including`, `excluding` and `remaining` do to each member and to the width, and that a set is known by its members.
--- Every proof that speaks of drawn relays, pushed buttons or windings cites these. The last section is for the proofs of `has`, `with`, `without` and `all_below`.
+-- The laws of sets of small numbers: what `including`, `excluding` and `remaining` do to each member and to the width,
+-- and that a set is known by its members.
+-- Every proof that speaks of drawn relays, pushed buttons or windings cites these. The last section is for the proofs
+-- of `has`, `with`, `without` and `all_below`.
 -- Assumes nothing.
 use Prim.Native.Nat.{ℕ, zero, suc, _+_, _-_, _*_, _/_, _%_, _^_, _≤_, _<_}
 use mathlib.Core.Path.{_≡_, refl, sym, ap, ap₂, _∙_}
 use mathlib.Core.Bool.{true, false, not, _&&_, _||_, or-true, or-false, false≢true}
 use native.Mathlib.Omega.{arith}
-use native.Mathlib.Nat.{mod-lt, div-eq-of-lt, div-one, pow-suc, lt-of-lt-of-le, add-div-right, one-mul, zero-mul, add-zero, zero-div, sub-add-cancel}
+use native.Mathlib.Nat.{mod-lt, div-eq-of-lt, div-one, pow-suc, lt-of-lt-of-le, add-div-right, one-mul, zero-mul}
+use native.Mathlib.Nat.{add-zero, zero-div, sub-add-cancel}
 use native.Mathlib.Numerals.{one-add}
 use borrow.Author.Tests.{ltb-true, ltb-false, eqb-true, eqb-false, lt-ltb, le-ltb, eq-eqb, ne-eqb}
 use lib.Dec.{ltb, eqb}
 use lib.Arith.{bin-ind}
 use lib.Pow.{pow-pos, pow-mono, split, shr-shr, shl-exact}
-use lib.Bits.{bitAnd, bitOr, bitXor, and-block, and-mask, and-zero-r, and-zero-l, or-add-and, xor-add-and, and-shr, xor-shr, and-mod, xor-mod}
+use lib.Bits.{bitAnd, bitOr, bitXor, and-block, and-mask, and-zero-r, and-zero-l, or-add-and, xor-add-and, and-shr}
+use lib.Bits.{xor-shr, and-mod, xor-mod}
 use Rattle.bits.proofs.BoolLaws.{by-test}
 use Rattle.bits.specs.Sets.{member, including, excluding, remaining, within}
 
@@ -23,7 +27,8 @@ member-lowest s = ap (λ (x : ℕ). eqb (x % 2) 1) (div-one s)
 
 member-next : (s n : ℕ) → member s (suc n) ≡ member (s / 2) n
 unfolding member
-member-next s n = ap (λ (k : ℕ). eqb (s / 2 ^ k % 2) 1) (sym (one-add n)) ∙ ap (λ (x : ℕ). eqb (x % 2) 1) (sym (shr-shr s 1 n))
+member-next s n =
+    ap (λ (k : ℕ). eqb (s / 2 ^ k % 2) 1) (sym (one-add n)) ∙ ap (λ (x : ℕ). eqb (x % 2) 1) (sym (shr-shr s 1 n))
 
 member-set : (s n : ℕ) → member s n ≡ true → s / 2 ^ n % 2 ≡ 1
 unfolding member
@@ -80,7 +85,13 @@ member-worth s n set =
 taken-same : (s n : ℕ) → member s n ≡ true → member (s - 2 ^ n) n ≡ false
 taken-same s n set =
     clear-member (s - 2 ^ n) n
-    (omega (arith, member-set s n set, add-div-right (s - 2 ^ n) (pow-pos n), ap (λ (x : ℕ). x / 2 ^ n) (sub-add-cancel (member-worth s n set))))
+    (omega (
+      arith,
+      member-set s n set,
+      add-div-right (s - 2 ^ n) (pow-pos n),
+      ap (λ (x : ℕ). x / 2 ^ n)
+          (sub-add-cancel (member-worth s n set)),
+    ))
 
 taken-other : (s n m : ℕ) → member s n ≡ true → (m ≡ n → ⊥) → member (s - 2 ^ n) m ≡ member s m
 taken-other s n m set other =
@@ -132,7 +143,8 @@ member-including-other s n m other =
 pub member-including : (s n m : ℕ) → m < 64 → member (including s n) m ≡ (member s m || eqb m n)
 member-including s n m fits =
     by-test (eqb m n)
-    (λ same. ap (λ (k : ℕ). member (including s k) m) (sym (eqb-true m n same)) ∙ member-including-same s m fits ∙ rw same (sym (or-true (member s m))))
+    (λ same. ap (λ (k : ℕ). member (including s k) m) (sym (eqb-true m n same)) ∙ member-including-same s m fits
+    ∙ rw same (sym (or-true (member s m))))
     (λ other. member-including-other s n m (eqb-false m n other) ∙ rw other (sym (or-false (member s m))))
 
 pub member-excluding-same : (s n : ℕ) → member (excluding s n) n ≡ false
@@ -168,12 +180,17 @@ pub members-same : (s t : ℕ) → ((n : ℕ) → member s n ≡ member t n) →
 members-same =
     bin-ind (λ (s : ℕ). (t : ℕ) → ((n : ℕ) → member s n ≡ member t n) → s ≡ t)
     (λ t same. sym (no-members t (λ n. sym (same n) ∙ member-none n)))
-    (λ s half t same. omega (arith, half (t / 2) (λ n. sym (member-next s n) ∙ same (suc n) ∙ member-next t n), lowest-same s t (same 0)))
+    (λ s half t same. omega (
+      arith,
+      half (t / 2) (λ n. sym (member-next s n) ∙ same (suc n) ∙ member-next t n),
+      lowest-same s t (same 0),
+    ))
 
 -- ---- the width: every member is below k exactly if the number is below 2 ^ k
 
 pub member-beyond : (s k n : ℕ) → s < 2 ^ k → k ≤ n → member s n ≡ false
-member-beyond s k n small beyond = clear-member s n (omega (arith, div-eq-of-lt (lt-of-lt-of-le small (pow-mono beyond))))
+member-beyond s k n small beyond =
+    clear-member s n (omega (arith, div-eq-of-lt (lt-of-lt-of-le small (pow-mono beyond))))
 
 pub member-below : (s k n : ℕ) → s < 2 ^ k → member s n ≡ true → n < k
 member-below s k n small set =
@@ -201,7 +218,8 @@ member-including-below s k n m small fits set =
     (λ e. member-below s k m small (sym (member-including-other s n m (eqb-false m n e)) ∙ set))
 
 pub including-below : (s k n : ℕ) → s < 2 ^ k → n < k → including s n < 2 ^ k
-including-below s k n small fits = below-member (including s n) k (λ m set. member-including-below s k n m small fits set)
+including-below s k n small fits =
+    below-member (including s n) k (λ m set. member-including-below s k n m small fits set)
 
 pub excluding-below : (s k n : ℕ) → s < 2 ^ k → excluding s n < 2 ^ k
 excluding-below s k n small =
@@ -212,7 +230,8 @@ excluding-below s k n small =
 -- ---- the members of a set that are not in another
 
 -- bit by bit
-remaining-bit : (s t n : ℕ) → remaining s t / 2 ^ n % 2 ≡ bitXor (s / 2 ^ n % 2) (bitAnd (s / 2 ^ n % 2) (t / 2 ^ n % 2))
+remaining-bit : (s t n : ℕ) → remaining s t / 2 ^ n % 2 ≡ bitXor (s / 2 ^ n % 2)
+    (bitAnd (s / 2 ^ n % 2) (t / 2 ^ n % 2))
 unfolding remaining
 remaining-bit s t n =
     ap (λ (x : ℕ). x % 2 ^ 1) (xor-shr s (bitAnd s t) n ∙ ap (bitXor (s / 2 ^ n)) (and-shr s t n))
@@ -224,9 +243,15 @@ member-remaining s t n =
     by-test (member s n)
     (λ set.
     by-test (member t n)
-    (λ taken. rw (set, taken) (clear-member (remaining s t) n (remaining-bit s t n ∙ ap₂ (λ (x y : ℕ). bitXor x (bitAnd x y)) (member-set s n set) (member-set t n taken))))
-    (λ left. rw (set, left) (set-member (remaining s t) n (remaining-bit s t n ∙ ap₂ (λ (x y : ℕ). bitXor x (bitAnd x y)) (member-set s n set) (member-clear t n left)))))
-    (λ clear. rw clear (clear-member (remaining s t) n (remaining-bit s t n ∙ ap (λ (x : ℕ). bitXor x (bitAnd x (t / 2 ^ n % 2))) (member-clear s n clear) ∙ ap (bitXor 0) (and-zero-l (t / 2 ^ n % 2)))))
+    (λ taken. rw (set, taken)
+    (clear-member (remaining s t) n (remaining-bit s t n ∙ ap₂ (λ (x y : ℕ). bitXor x (bitAnd x y))
+    (member-set s n set) (member-set t n taken))))
+    (λ left. rw (set, left)
+    (set-member (remaining s t) n (remaining-bit s t n ∙ ap₂ (λ (x y : ℕ). bitXor x (bitAnd x y))
+    (member-set s n set) (member-clear t n left)))))
+    (λ clear. rw clear
+    (clear-member (remaining s t) n (remaining-bit s t n ∙ ap (λ (x : ℕ). bitXor x (bitAnd x (t / 2 ^ n % 2)))
+    (member-clear s n clear) ∙ ap (bitXor 0) (and-zero-l (t / 2 ^ n % 2)))))
 
 -- ---- what the code's shifts and masks are, for the proofs of `has`, `with`, `without` and `all_below`
 
@@ -254,7 +279,8 @@ or-including s n fits =
     (λ clear. omega (arith, or-add-and s (2 ^ n), and-absent s n clear, including-new s n fits clear))
 
 xor-excluding : (s n : ℕ) → member s n ≡ true → bitXor s (2 ^ n) ≡ excluding s n
-xor-excluding s n set = omega (arith, xor-add-and s (2 ^ n), and-member s n set, excluding-member s n set, member-worth s n set)
+xor-excluding s n set =
+    omega (arith, xor-add-and s (2 ^ n), and-member s n set, excluding-member s n set, member-worth s n set)
 
 pub with-shifted : (s n : ℕ) → n < 64 → bitOr s (1 * 2 ^ n % 2 ^ 64) ≡ including s n
 with-shifted s n fits = ap (bitOr s) (shifted-one n fits) ∙ or-including s n fits
@@ -267,7 +293,15 @@ unfolding within
 within-shifted s k =
     by-test (ltb s (2 ^ k))
     (λ small. eq-eqb (s / 2 ^ k) 0 (div-eq-of-lt (ltb-true s (2 ^ k) small)) ∙ sym small)
-    (λ large. ne-eqb (s / 2 ^ k) 0 (λ e. omega (arith, split s k, mod-lt s (pow-pos k), ltb-false s (2 ^ k) large, ap (λ (x : ℕ). x * 2 ^ k) e)) ∙ sym large)
+    (λ large. ne-eqb (s / 2 ^ k) 0
+    (λ e. omega (
+      arith,
+      split s k,
+      mod-lt s (pow-pos k),
+      ltb-false s (2 ^ k) large,
+      ap (λ (x : ℕ). x * 2 ^ k)
+          e,
+    )) ∙ sym large)
 
 pub within-room : (s k : ℕ) → s < 2 ^ 64 → 64 ≤ k → within s k ≡ true
 unfolding within

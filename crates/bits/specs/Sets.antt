@@ -6,7 +6,8 @@
 --     firstFrom ok k n  the first of n, n + 1, … (k numbers) that passes the test `ok`; else the number after them
 --     lowestFrom s n    the lowest member of s from n up; where there is none, 64, or n if that is more
 --     within s n        every member of s is below n
--- The rule book's sets are the drawn relays, the pushed buttons and the windings that each relay has; its "sum of 2 to the relay number over drawn relays" is such a set as a number.
+-- The rule book's sets are the drawn relays, the pushed buttons and the windings that each relay has; its "sum of 2 to
+-- the relay number over drawn relays" is such a set as a number.
 use Prim.Native.Nat.{ℕ, zero, suc, _+_, _-_, _/_, _%_, _^_}
 use mathlib.Core.Bool.{Bool, cond}
 use lib.Dec.{ltb, eqb}

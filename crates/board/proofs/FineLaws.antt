@@ -1,4 +1,5 @@
--- Laws of boards that break no rule: being fine goes by the counts and the first C parts alone; what it says of the counts, of each part and of each relay; and the empty board is fine.
+-- Laws of boards that break no rule: being fine goes by the counts and the first C parts alone; what it says of the
+-- counts, of each part and of each relay; and the empty board is fine.
 use mathlib.Core.Path.{_≡_, refl, ap₂}
 use mathlib.Core.Bool.{true, _&&_}
 use mathlib.Core.List.{List, []}
@@ -31,7 +32,9 @@ fine-parts-fit b fine = fine-fit (b .counts) noneWound (partsOf b) (both-true (c
 
 pub fine-relays-wound : (b : Board) → boardFine b ≡ true → Wound (b .counts .relays) (partsOf b)
 unfolding boardFine
-fine-relays-wound b fine = fine-wound (b .counts) (partsOf b) (fine-range b fine .most-relays) (both-true (countsFine (b .counts)) _ fine .1)
+fine-relays-wound b fine =
+    fine-wound (b .counts) (partsOf b) (fine-range b fine .most-relays)
+    (both-true (countsFine (b .counts)) _ fine .1)
 
 pub empty-fine : boardFine emptyBoard ≡ true
 unfolding boardFine emptyBoard countsFine inRange partsFine complete every

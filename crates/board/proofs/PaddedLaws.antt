@@ -1,4 +1,5 @@
--- Laws of parts as an array of 256 places: how long it is, that its first places hold the parts, and what the next part does to it. What the reader and the writer of board files need.
+-- Laws of parts as an array of 256 places: how long it is, that its first places hold the parts, and what the next part
+-- does to it. What the reader and the writer of board files need.
 use Prim.Native.Nat.{ℕ, _<_, _≤_}
 use mathlib.Core.Path.{_≡_, ap, _∙_}
 use mathlib.Core.List.{List, [], _∷_, _++_}
@@ -17,7 +18,8 @@ unfolding padded
 padded-first ps = filled-first 256 blank ps
 
 -- a board whose count is right has these parts
-pub padded-parts : (c : Counts) (ps : List Part) → c .parts ≡ length ps → partsOf (record { counts = c; parts = padded ps }) ≡ ps
+pub padded-parts : (c : Counts) (ps : List Part) → c .parts ≡ length ps
+    → partsOf (record { counts = c; parts = padded ps }) ≡ ps
 padded-parts c ps count = ap (λ (n : ℕ). take n (padded ps)) count ∙ padded-first ps
 
 pub padded-set : (ps : List Part) (p : Part) → length ps < 256 → set (padded ps) (length ps) p ≡ padded (ps ++ (p ∷ []))

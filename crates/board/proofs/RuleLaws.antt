@@ -1,4 +1,5 @@
--- Laws of the rules behind refusals 3 to 9, over plain variables: what the tests of `board`'s functions say of `countsFine` and `partsFine`.
+-- Laws of the rules behind refusals 3 to 9, over plain variables: what the tests of `board`'s functions say of
+-- `countsFine` and `partsFine`.
 use Prim.Native.Nat.{ℕ, _+_, _≤_, _<_}
 use mathlib.Core.Path.{_≡_, refl, sym, ap, _∙_}
 use mathlib.Core.List.{List, [], _∷_}
@@ -39,9 +40,18 @@ counts-in-range c fine =
       most-parts = leb-true (c .parts) 256 (both-true (leb 0 (c .parts)) _ (parts .1) .1);
     }
 
-pub counts-fine-last : (c : Counts) → 2 ≤ c .terminals → c .terminals ≤ 64 → c .relays ≤ 32 → c .buttons ≤ 32 → leb (c .parts) 256 ≡ countsFine c
+pub counts-fine-last : (c : Counts) → 2 ≤ c .terminals → c .terminals ≤ 64 → c .relays ≤ 32 → c .buttons ≤ 32
+    → leb (c .parts) 256 ≡ countsFine c
 unfolding countsFine inRange
-counts-fine-last c low high relays buttons = simp (leb·zero, le-leb 2 (c .terminals) low, le-leb (c .terminals) 64 high, le-leb (c .relays) 32 relays, le-leb (c .buttons) 32 buttons)
+counts-fine-last c low high relays buttons =
+    simp (
+      leb·zero,
+      le-leb 2 (c .terminals) low,
+      le-leb (c .terminals) 64 high,
+      le-leb (c .relays) 32 relays,
+      le-leb
+          (c .buttons) 32 buttons,
+    )
 
 -- a part's tests one after the other: the first that fails decides, and the last is the answer
 module _ (c : Counts) (w : WoundSoFar) (p : Part) where
@@ -57,13 +67,17 @@ module _ (c : Counts) (w : WoundSoFar) (p : Part) where
   unfolding partFine partFits
   part-ends-equal a b e = simp (lt-ltb (p .a) (c .terminals) a, lt-ltb (p .b) (c .terminals) b, eq-eqb (p .a) (p .b) e)
 
-  pub part-name-off : p .a < c .terminals → p .b < c .terminals → (p .a ≡ p .b → ⊥) → nameFine c (p .kind) ≡ false → false ≡ partFine c w p
+  pub part-name-off : p .a < c .terminals → p .b < c .terminals → (p .a ≡ p .b → ⊥) → nameFine c (p .kind) ≡ false
+      → false ≡ partFine c w p
   unfolding partFine partFits
-  part-name-off a b e n = simp (lt-ltb (p .a) (c .terminals) a, lt-ltb (p .b) (c .terminals) b, ne-eqb (p .a) (p .b) e, n)
+  part-name-off a b e n =
+      simp (lt-ltb (p .a) (c .terminals) a, lt-ltb (p .b) (c .terminals) b, ne-eqb (p .a) (p .b) e, n)
 
-  pub part-fine-last : p .a < c .terminals → p .b < c .terminals → (p .a ≡ p .b → ⊥) → nameFine c (p .kind) ≡ true → windingFree w (p .kind) ≡ partFine c w p
+  pub part-fine-last : p .a < c .terminals → p .b < c .terminals → (p .a ≡ p .b → ⊥) → nameFine c (p .kind) ≡ true
+      → windingFree w (p .kind) ≡ partFine c w p
   unfolding partFine partFits
-  part-fine-last a b e n = simp (lt-ltb (p .a) (c .terminals) a, lt-ltb (p .b) (c .terminals) b, ne-eqb (p .a) (p .b) e, n)
+  part-fine-last a b e n =
+      simp (lt-ltb (p .a) (c .terminals) a, lt-ltb (p .b) (c .terminals) b, ne-eqb (p .a) (p .b) e, n)
 
   parts-off : (ps : List Part) → partFine c w p ≡ false → partsFine c w (p ∷ ps) ≡ false
   unfolding partsFine
@@ -78,12 +92,19 @@ unfolding partsFine
 parts-end c w = refl
 
 -- a walk along the first n parts of l: at place i, `all` is what the parts from there on come to after the windings w
-module _ (c : Counts) (w : WoundSoFar) (l : List Part) (n i : ℕ) (all : Bool) (long : n ≤ length l) (here : all ≡ partsFine c w (drop i (take n l))) where
+module _ (c : Counts) (w : WoundSoFar) (l : List Part) (n i : ℕ) (all : Bool) (long : n ≤ length l)
+    (here : all ≡ partsFine c w (drop i (take n l))) where
   pub parts-walk-off : i < n → partFine c w (getD l i blank) ≡ false → false ≡ all
-  parts-walk-off below off = sym (here ∙ ap (partsFine c w) (first-from blank l n long i below) ∙ parts-off c w (getD l i blank) (drop (i + 1) (take n l)) off)
+  parts-walk-off below off =
+      sym (here ∙ ap (partsFine c w) (first-from blank l n long i below)
+      ∙ parts-off c w (getD l i blank) (drop (i + 1) (take n l)) off)
 
-  pub parts-walk-on : (w′ : WoundSoFar) → i < n → partFine c w (getD l i blank) ≡ true → w′ ≡ gained w (getD l i blank .kind) → all ≡ partsFine c w′ (drop (i + 1) (take n l))
-  parts-walk-on w′ below fine more = here ∙ ap (partsFine c w) (first-from blank l n long i below) ∙ parts-on c w (getD l i blank) (drop (i + 1) (take n l)) fine ∙ ap (λ v. partsFine c v (drop (i + 1) (take n l))) (sym more)
+  pub parts-walk-on : (w′ : WoundSoFar) → i < n → partFine c w (getD l i blank) ≡ true
+      → w′ ≡ gained w (getD l i blank .kind) → all ≡ partsFine c w′ (drop (i + 1) (take n l))
+  parts-walk-on w′ below fine more =
+      here ∙ ap (partsFine c w) (first-from blank l n long i below)
+      ∙ parts-on c w (getD l i blank) (drop (i + 1) (take n l)) fine
+      ∙ ap (λ v. partsFine c v (drop (i + 1) (take n l))) (sym more)
 
   pub parts-walk-end : n ≤ i → complete (c .relays) w ≡ all
   parts-walk-end past = sym (here ∙ ap (partsFine c w) (first-past blank l n long i past) ∙ parts-end c w)
@@ -92,6 +113,7 @@ pub board-counts-off : (b : Board) → countsFine (b .counts) ≡ false → fals
 unfolding boardFine
 board-counts-off b off = simp off
 
-pub board-fine-last : (b : Board) → countsFine (b .counts) ≡ true → partsFine (b .counts) noneWound (partsOf b) ≡ boardFine b
+pub board-fine-last : (b : Board) → countsFine (b .counts) ≡ true
+    → partsFine (b .counts) noneWound (partsOf b) ≡ boardFine b
 unfolding boardFine
 board-fine-last b fine = simp fine

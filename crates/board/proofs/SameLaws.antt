@@ -1,4 +1,5 @@
--- Laws of the comparison of boards: what the tests of `same_counts` and `same_part` say, and that boards compare as the same exactly if their counts and first C parts are equal.
+-- Laws of the comparison of boards: what the tests of `same_counts` and `same_part` say, and that boards compare as the
+-- same exactly if their counts and first C parts are equal.
 use Prim.Native.Nat.{ℕ, _+_, _<_, _≤_}
 use mathlib.Core.Path.{_≡_, refl, sym, ap, ap₂, _∙_}
 use mathlib.Core.Bool.{Bool, true, false, false≢true}
@@ -28,13 +29,27 @@ module _ (x y : Counts) where
   unfolding sameCounts
   counts-relays-differ t r = simp (eq-eqb (x .terminals) (y .terminals) t, ne-eqb (x .relays) (y .relays) r)
 
-  pub counts-buttons-differ : x .terminals ≡ y .terminals → x .relays ≡ y .relays → (x .buttons ≡ y .buttons → ⊥) → false ≡ sameCounts x y
+  pub counts-buttons-differ : x .terminals ≡ y .terminals → x .relays ≡ y .relays → (x .buttons ≡ y .buttons → ⊥)
+      → false ≡ sameCounts x y
   unfolding sameCounts
-  counts-buttons-differ t r b = simp (eq-eqb (x .terminals) (y .terminals) t, eq-eqb (x .relays) (y .relays) r, ne-eqb (x .buttons) (y .buttons) b)
+  counts-buttons-differ t r b =
+      simp (
+        eq-eqb (x .terminals) (y .terminals) t,
+        eq-eqb (x .relays) (y .relays) r,
+        ne-eqb (x .buttons)
+            (y .buttons) b,
+      )
 
-  pub counts-same-last : x .terminals ≡ y .terminals → x .relays ≡ y .relays → x .buttons ≡ y .buttons → eqb (x .parts) (y .parts) ≡ sameCounts x y
+  pub counts-same-last : x .terminals ≡ y .terminals → x .relays ≡ y .relays → x .buttons ≡ y .buttons
+      → eqb (x .parts) (y .parts) ≡ sameCounts x y
   unfolding sameCounts
-  counts-same-last t r b = simp (eq-eqb (x .terminals) (y .terminals) t, eq-eqb (x .relays) (y .relays) r, eq-eqb (x .buttons) (y .buttons) b)
+  counts-same-last t r b =
+      simp (
+        eq-eqb (x .terminals) (y .terminals) t,
+        eq-eqb (x .relays) (y .relays) r,
+        eq-eqb (x .buttons)
+            (y .buttons) b,
+      )
 
 module _ (p q : Part) where
   pub part-a-differs : (p .a ≡ q .a → ⊥) → false ≡ samePart p q
@@ -45,13 +60,17 @@ module _ (p q : Part) where
   unfolding samePart
   part-b-differs a b = simp (eq-eqb (p .a) (q .a) a, ne-eqb (p .b) (q .b) b)
 
-  pub part-kind-differs : p .a ≡ q .a → p .b ≡ q .b → (kindNumber (p .kind) ≡ kindNumber (q .kind) → ⊥) → false ≡ samePart p q
+  pub part-kind-differs : p .a ≡ q .a → p .b ≡ q .b → (kindNumber (p .kind) ≡ kindNumber (q .kind) → ⊥)
+      → false ≡ samePart p q
   unfolding samePart sameKind
-  part-kind-differs a b k = simp (eq-eqb (p .a) (q .a) a, eq-eqb (p .b) (q .b) b, ne-eqb (kindNumber (p .kind)) (kindNumber (q .kind)) k)
+  part-kind-differs a b k =
+      simp (eq-eqb (p .a) (q .a) a, eq-eqb (p .b) (q .b) b, ne-eqb (kindNumber (p .kind)) (kindNumber (q .kind)) k)
 
-  pub part-same-last : p .a ≡ q .a → p .b ≡ q .b → kindNumber (p .kind) ≡ kindNumber (q .kind) → eqb (nameOf (p .kind)) (nameOf (q .kind)) ≡ samePart p q
+  pub part-same-last : p .a ≡ q .a → p .b ≡ q .b → kindNumber (p .kind) ≡ kindNumber (q .kind)
+      → eqb (nameOf (p .kind)) (nameOf (q .kind)) ≡ samePart p q
   unfolding samePart sameKind
-  part-same-last a b k = simp (eq-eqb (p .a) (q .a) a, eq-eqb (p .b) (q .b) b, eq-eqb (kindNumber (p .kind)) (kindNumber (q .kind)) k)
+  part-same-last a b k =
+      simp (eq-eqb (p .a) (q .a) a, eq-eqb (p .b) (q .b) b, eq-eqb (kindNumber (p .kind)) (kindNumber (q .kind)) k)
 
 parts-apart : (p q : Part) (ps qs : List Part) → samePart p q ≡ false → sameParts (p ∷ ps) (q ∷ qs) ≡ false
 unfolding sameParts
@@ -66,18 +85,26 @@ unfolding sameParts
 none-alike = refl
 
 -- a walk along the first n parts of l and m: at place i, `all` is what those from there on come to
-module _ (l m : List Part) (n i : ℕ) (all : Bool) (long : n ≤ length l) (longer : n ≤ length m) (here : all ≡ sameParts (drop i (take n l)) (drop i (take n m))) where
+module _ (l m : List Part) (n i : ℕ) (all : Bool) (long : n ≤ length l) (longer : n ≤ length m)
+    (here : all ≡ sameParts (drop i (take n l)) (drop i (take n m))) where
   step : i < n → all ≡ sameParts (getD l i blank ∷ drop (i + 1) (take n l)) (getD m i blank ∷ drop (i + 1) (take n m))
   step below = here ∙ ap₂ sameParts (first-from blank l n long i below) (first-from blank m n longer i below)
 
   pub same-walk-off : i < n → samePart (getD l i blank) (getD m i blank) ≡ false → false ≡ all
-  same-walk-off below off = sym (step below ∙ parts-apart (getD l i blank) (getD m i blank) (drop (i + 1) (take n l)) (drop (i + 1) (take n m)) off)
+  same-walk-off below off =
+      sym (step below ∙ parts-apart (getD l i blank) (getD m i blank) (drop (i + 1) (take n l))
+      (drop (i + 1) (take n m)) off)
 
-  pub same-walk-on : i < n → samePart (getD l i blank) (getD m i blank) ≡ true → all ≡ sameParts (drop (i + 1) (take n l)) (drop (i + 1) (take n m))
-  same-walk-on below same = step below ∙ parts-alike (getD l i blank) (getD m i blank) (drop (i + 1) (take n l)) (drop (i + 1) (take n m)) same
+  pub same-walk-on : i < n → samePart (getD l i blank) (getD m i blank) ≡ true
+      → all ≡ sameParts (drop (i + 1) (take n l)) (drop (i + 1) (take n m))
+  same-walk-on below same =
+      step below ∙ parts-alike (getD l i blank) (getD m i blank) (drop (i + 1) (take n l)) (drop (i + 1) (take n m))
+      same
 
   pub same-walk-end : n ≤ i → true ≡ all
-  same-walk-end past = sym (here ∙ ap₂ sameParts (first-past blank l n long i past) (first-past blank m n longer i past) ∙ none-alike)
+  same-walk-end past =
+      sym (here ∙ ap₂ sameParts (first-past blank l n long i past) (first-past blank m n longer i past)
+      ∙ none-alike)
 
 counts-equal : (x y : Counts) → sameCounts x y ≡ true → x ≡ y
 unfolding sameCounts
@@ -97,14 +124,18 @@ module _ (x y : Board) where
   board-counts-differ off = simp off
 
   -- with equal counts the first C parts decide
-  pub board-same-last : sameCounts (x .counts) (y .counts) ≡ true → sameParts (take (x .counts .parts) (x .parts)) (take (x .counts .parts) (y .parts)) ≡ sameBoard x y
+  pub board-same-last : sameCounts (x .counts) (y .counts) ≡ true → sameParts (take (x .counts .parts) (x .parts))
+      (take (x .counts .parts) (y .parts)) ≡ sameBoard x y
   unfolding sameBoard
   board-same-last same =
-      let n : x .counts .parts ≡ y .counts .parts = ap (λ (c : Counts). c .parts) (counts-equal (x .counts) (y .counts) same) in
+      let n : x .counts .parts ≡ y .counts .parts =
+      ap (λ (c : Counts). c .parts) (counts-equal (x .counts) (y .counts) same) in
       simp same (ap (λ (k : ℕ). sameParts (take (x .counts .parts) (x .parts)) (take k (y .parts))) n)
 
   -- an array has 256 places, so a count above that takes them all
-  pub board-same-all : length (x .parts) ≡ 256 → length (y .parts) ≡ 256 → 256 < x .counts .parts → sameCounts (x .counts) (y .counts) ≡ true → sameParts (take 256 (x .parts)) (take 256 (y .parts)) ≡ sameBoard x y
+  pub board-same-all : length (x .parts) ≡ 256 → length (y .parts) ≡ 256 → 256 < x .counts .parts
+      → sameCounts (x .counts) (y .counts) ≡ true → sameParts (take 256 (x .parts))
+      (take 256 (y .parts)) ≡ sameBoard x y
   board-same-all l m more same =
       ap₂ sameParts
       (take-all 256 (x .parts) (omega arith) ∙ sym (take-all (x .counts .parts) (x .parts) (omega arith)))
@@ -116,7 +147,8 @@ kinds-equal : (k l : Kind) → sameKind k l ≡ true → k ≡ l
 unfolding sameKind
 kinds-equal k l same =
     let both = both-true _ _ same in
-    sym (kind-of-parts k) ∙ ap₂ kindOf (eqb-true (kindNumber k) (kindNumber l) (both .0)) (eqb-true (nameOf k) (nameOf l) (both .1)) ∙ kind-of-parts l
+    sym (kind-of-parts k) ∙ ap₂ kindOf (eqb-true (kindNumber k) (kindNumber l) (both .0))
+    (eqb-true (nameOf k) (nameOf l) (both .1)) ∙ kind-of-parts l
 
 parts-equal : (p q : Part) → samePart p q ≡ true → p ≡ q
 unfolding samePart
@@ -139,11 +171,25 @@ lists-equal (p ∷ ps) (q ∷ qs) same =
 
 counts-self : (c : Counts) → sameCounts c c ≡ true
 unfolding sameCounts
-counts-self c = simp (eq-eqb (c .terminals) (c .terminals) refl, eq-eqb (c .relays) (c .relays) refl, eq-eqb (c .buttons) (c .buttons) refl, eq-eqb (c .parts) (c .parts) refl)
+counts-self c =
+    simp (
+      eq-eqb (c .terminals) (c .terminals) refl,
+      eq-eqb (c .relays) (c .relays) refl,
+      eq-eqb (c .buttons)
+          (c .buttons) refl,
+      eq-eqb (c .parts) (c .parts) refl,
+    )
 
 part-self : (p : Part) → samePart p p ≡ true
 unfolding samePart sameKind
-part-self p = simp (eq-eqb (p .a) (p .a) refl, eq-eqb (p .b) (p .b) refl, eq-eqb (kindNumber (p .kind)) (kindNumber (p .kind)) refl, eq-eqb (nameOf (p .kind)) (nameOf (p .kind)) refl)
+part-self p =
+    simp (
+      eq-eqb (p .a) (p .a) refl,
+      eq-eqb (p .b) (p .b) refl,
+      eq-eqb (kindNumber (p .kind)) (kindNumber (p .kind))
+          refl,
+      eq-eqb (nameOf (p .kind)) (nameOf (p .kind)) refl,
+    )
 
 list-self : (ps : List Part) → sameParts ps ps ≡ true
 unfolding sameParts

@@ -1,5 +1,8 @@
--- Rules 8 and 9 stand for the rule book's sentence "Every relay is regular, with exactly one part of kind 4, or steel-core, with exactly one of kind 5 and one of kind 6": parts break none of 5 to 9 exactly if each keeps 5 to 7 and every relay is of one sort.
--- A relay's sum for a kind is what the windings have of it already, 1 or 0, and the parts still to come that give it. A part only moves 1 from the parts to the windings, so the sums stay as they are along the parts.
+-- Rules 8 and 9 stand for the rule book's sentence "Every relay is regular, with exactly one part of kind 4, or
+-- steel-core, with exactly one of kind 5 and one of kind 6": parts break none of 5 to 9 exactly if each keeps 5 to 7
+-- and every relay is of one sort.
+-- A relay's sum for a kind is what the windings have of it already, 1 or 0, and the parts still to come that give it. A
+-- part only moves 1 from the parts to the windings, so the sums stay as they are along the parts.
 use Prim.Native.Nat.{ℕ, _+_, _≤_, _<_}
 use native.Mathlib.Omega.{arith}
 use mathlib.Core.Path.{_≡_, refl, sym, ap, _∙_}
@@ -33,7 +36,8 @@ worth-most true = omega arith
 worth-most false = omega arith
 
 -- a new member n counts for r exactly if r is n
-including-worth : (s n r : ℕ) → n < 64 → member s n ≡ false → worth (member (including s n) r) ≡ worth (member s r) + worth (eqb n r)
+including-worth : (s n r : ℕ) → n < 64 → member s n ≡ false → worth (member (including s n) r) ≡ worth
+    (member s r) + worth (eqb n r)
 including-worth s n r fits clear =
     by-test (eqb n r)
     (λ same. rw (same, ← eqb-true n r same, clear, member-including-same s n fits))
@@ -65,9 +69,12 @@ in-neither s t n free =
     let both = both-true (not (member s n)) (not (member t n)) free in
     (not-true _ (both .0), not-true _ (both .1))
 
-regular-free : (w : WoundSoFar) (n : ℕ) → windingFree w (Regular n) ≡ true → (member (w .regular) n ≡ false) × (member (w .drawing) n ≡ false) × (member (w .dropping) n ≡ false)
+regular-free : (w : WoundSoFar) (n : ℕ) → windingFree w (Regular n) ≡ true → (member (w .regular) n ≡ false)
+    × (member (w .drawing) n ≡ false) × (member (w .dropping) n ≡ false)
 regular-free w n free =
-    let both = both-true (not (member (w .regular) n)) (not (member (w .drawing) n) && not (member (w .dropping) n)) free in
+    let both =
+    both-true (not (member (w .regular) n)) (not (member (w .drawing) n) && not (member (w .dropping) n)) free
+    in
     let others = in-neither (w .drawing) (w .dropping) n (both .1) in
     (not-true _ (both .0), others .0, others .1)
 
@@ -82,12 +89,30 @@ module _ (c : Counts) (few : c .relays ≤ 32) (w : WoundSoFar) (r : ℕ) where
   gain (Upper n) named free = record { regular = omega arith; drawing = omega arith; dropping = omega arith }
   gain (Lower n) named free = record { regular = omega arith; drawing = omega arith; dropping = omega arith }
   gain (Button n) named free = record { regular = omega arith; drawing = omega arith; dropping = omega arith }
-  gain (Regular n) named free = record { regular = including-worth (w .regular) n r (named-room c n few named) (regular-free w n free .0); drawing = omega arith; dropping = omega arith }
-  gain (Drawing n) named free = record { regular = omega arith; drawing = including-worth (w .drawing) n r (named-room c n few named) (in-neither (w .regular) (w .drawing) n free .1); dropping = omega arith }
-  gain (Dropping n) named free = record { regular = omega arith; drawing = omega arith; dropping = including-worth (w .dropping) n r (named-room c n few named) (in-neither (w .regular) (w .dropping) n free .1) }
+  gain (Regular n) named free =
+      record {
+        regular = including-worth (w .regular) n r (named-room c n few named) (regular-free w n free .0);
+        drawing = omega arith;
+        dropping = omega arith;
+      }
+  gain (Drawing n) named free =
+      record {
+        regular = omega arith;
+        drawing = including-worth (w .drawing) n r (named-room c n few named)
+            (in-neither (w .regular) (w .drawing) n free .1);
+        dropping = omega arith;
+      }
+  gain (Dropping n) named free =
+      record {
+        regular = omega arith;
+        drawing = omega arith;
+        dropping = including-worth (w .dropping) n r
+            (named-room c n few named) (in-neither (w .regular) (w .dropping) n free .1);
+      }
 
 -- a relay stays of at most one sort
-apart-gained : (w : WoundSoFar) (r : ℕ) (k : Kind) → windingFree w k ≡ true → Gain w k r → MostOneSort w r → MostOneSort (gained w k) r
+apart-gained : (w : WoundSoFar) (r : ℕ) (k : Kind) → windingFree w k ≡ true → Gain w k r → MostOneSort w r
+    → MostOneSort (gained w k) r
 unfolding carries
 apart-gained w r Wire free more apart = apart
 apart-gained w r (Upper n) free more apart = apart
@@ -121,19 +146,26 @@ sums-same p q r (inl (x, y, z)) = inl (sym p ∙ x, sym q ∙ y, sym r ∙ z)
 sums-same p q r (inr (x, y, z)) = inr (sym p ∙ x, sym q ∙ y, sym r ∙ z)
 
 abbrev OneSort : WoundSoFar → ℕ → List Part → Type 0
-OneSort w r ps = Sums (worth (member (w .regular) r) + windingsOf 4 r ps) (worth (member (w .drawing) r) + windingsOf 5 r ps) (worth (member (w .dropping) r) + windingsOf 6 r ps)
+OneSort w r ps =
+    Sums (worth (member (w .regular) r) + windingsOf 4 r ps) (worth (member (w .drawing) r) + windingsOf 5 r ps)
+    (worth (member (w .dropping) r) + windingsOf 6 r ps)
 
 -- a part's 1 moves from the parts to the windings
-sort-before : (w : WoundSoFar) (r : ℕ) (p : Part) (ps : List Part) → Gain w (p .kind) r → OneSort (gained w (p .kind)) r ps → OneSort w r (p ∷ ps)
+sort-before : (w : WoundSoFar) (r : ℕ) (p : Part) (ps : List Part) → Gain w (p .kind) r
+    → OneSort (gained w (p .kind)) r ps → OneSort w r (p ∷ ps)
 unfolding windingsOf
-sort-before w r p ps more = sums-same (omega (arith, more .regular)) (omega (arith, more .drawing)) (omega (arith, more .dropping))
+sort-before w r p ps more =
+    sums-same (omega (arith, more .regular)) (omega (arith, more .drawing)) (omega (arith, more .dropping))
 
-sort-after : (w : WoundSoFar) (r : ℕ) (p : Part) (ps : List Part) → Gain w (p .kind) r → OneSort w r (p ∷ ps) → OneSort (gained w (p .kind)) r ps
+sort-after : (w : WoundSoFar) (r : ℕ) (p : Part) (ps : List Part) → Gain w (p .kind) r → OneSort w r (p ∷ ps)
+    → OneSort (gained w (p .kind)) r ps
 unfolding windingsOf
-sort-after w r p ps more = sums-same (omega (arith, more .regular)) (omega (arith, more .drawing)) (omega (arith, more .dropping))
+sort-after w r p ps more =
+    sums-same (omega (arith, more .regular)) (omega (arith, more .drawing)) (omega (arith, more .dropping))
 
 -- with no parts to come the sums are the windings alone
-end-sums : (g d s : Bool) → (g || d && s) ≡ true → worth g + worth d ≤ 1 → worth g + worth s ≤ 1 → Sums (worth g + 0) (worth d + 0) (worth s + 0)
+end-sums : (g d s : Bool) → (g || d && s) ≡ true → worth g + worth d ≤ 1 → worth g + worth s ≤ 1
+    → Sums (worth g + 0) (worth d + 0) (worth s + 0)
 end-sums true true s all drawing dropping = absurd (omega arith)
 end-sums true false true all drawing dropping = absurd (omega arith)
 end-sums true false false all drawing dropping = inl (refl, refl, refl)
@@ -150,61 +182,85 @@ sums-end false false s (inl (x, y, z)) = absurd (omega arith)
 sums-end false false s (inr (x, y, z)) = absurd (omega arith)
 
 -- a part whose relay's sums are of one sort is free
-regular-sums : (g d s : Bool) (one x y z : ℕ) → one ≡ 1 → Sums (worth g + (one + x)) (worth d + (0 + y)) (worth s + (0 + z)) → (not g && (not d && not s)) ≡ true
-regular-sums g d s one x y z e (inl (p, q, r)) = true-both (worth-none g (omega arith)) (true-both (worth-none d (omega arith)) (worth-none s (omega arith)))
+regular-sums : (g d s : Bool) (one x y z : ℕ) → one ≡ 1 → Sums (worth g + (one + x)) (worth d + (0 + y))
+    (worth s + (0 + z)) → (not g && (not d && not s)) ≡ true
+regular-sums g d s one x y z e (inl (p, q, r)) =
+    true-both (worth-none g (omega arith)) (true-both (worth-none d (omega arith)) (worth-none s (omega arith)))
 regular-sums g d s one x y z e (inr (p, q, r)) = absurd (omega arith)
 
-drawing-sums : (g d : Bool) (one x y z : ℕ) → one ≡ 1 → Sums (worth g + (0 + x)) (worth d + (one + y)) z → (not g && not d) ≡ true
+drawing-sums : (g d : Bool) (one x y z : ℕ) → one ≡ 1 → Sums (worth g + (0 + x)) (worth d + (one + y)) z
+    → (not g && not d) ≡ true
 drawing-sums g d one x y z e (inl (p, q, r)) = absurd (omega arith)
 drawing-sums g d one x y z e (inr (p, q, r)) = true-both (worth-none g (omega arith)) (worth-none d (omega arith))
 
-dropping-sums : (g s : Bool) (one x y z : ℕ) → one ≡ 1 → Sums (worth g + (0 + x)) y (worth s + (one + z)) → (not g && not s) ≡ true
+dropping-sums : (g s : Bool) (one x y z : ℕ) → one ≡ 1 → Sums (worth g + (0 + x)) y (worth s + (one + z))
+    → (not g && not s) ≡ true
 dropping-sums g s one x y z e (inl (p, q, r)) = absurd (omega arith)
 dropping-sums g s one x y z e (inr (p, q, r)) = true-both (worth-none g (omega arith)) (worth-none s (omega arith))
 
 module _ (c : Counts) (w : WoundSoFar) (ps : List Part) where
-  sorted-free : (a b : ℕ) (k : Kind) → nameFine c k ≡ true → ((r : ℕ) → r < c .relays → OneSort w r (record { a = a; b = b; kind = k } ∷ ps)) → windingFree w k ≡ true
+  sorted-free : (a b : ℕ) (k : Kind) → nameFine c k ≡ true
+      → ((r : ℕ) → r < c .relays → OneSort w r (record { a = a; b = b; kind = k } ∷ ps)) → windingFree w k ≡ true
   unfolding nameFine windingsOf carries
   sorted-free a b Wire named sorts = refl
   sorted-free a b (Upper n) named sorts = refl
   sorted-free a b (Lower n) named sorts = refl
   sorted-free a b (Button n) named sorts = refl
-  sorted-free a b (Regular n) named sorts = regular-sums (member (w .regular) n) (member (w .drawing) n) (member (w .dropping) n) (worth (eqb n n)) (windingsOf 4 n ps) (windingsOf 5 n ps) (windingsOf 6 n ps) (ap worth (eq-eqb n n refl)) (sorts n (ltb-true n (c .relays) named))
-  sorted-free a b (Drawing n) named sorts = drawing-sums (member (w .regular) n) (member (w .drawing) n) (worth (eqb n n)) (windingsOf 4 n ps) (windingsOf 5 n ps) _ (ap worth (eq-eqb n n refl)) (sorts n (ltb-true n (c .relays) named))
-  sorted-free a b (Dropping n) named sorts = dropping-sums (member (w .regular) n) (member (w .dropping) n) (worth (eqb n n)) (windingsOf 4 n ps) _ (windingsOf 6 n ps) (ap worth (eq-eqb n n refl)) (sorts n (ltb-true n (c .relays) named))
+  sorted-free a b (Regular n) named sorts =
+      regular-sums (member (w .regular) n) (member (w .drawing) n) (member (w .dropping) n) (worth (eqb n n))
+      (windingsOf 4 n ps) (windingsOf 5 n ps) (windingsOf 6 n ps) (ap worth (eq-eqb n n refl))
+      (sorts n (ltb-true n (c .relays) named))
+  sorted-free a b (Drawing n) named sorts =
+      drawing-sums (member (w .regular) n) (member (w .drawing) n) (worth (eqb n n)) (windingsOf 4 n ps)
+      (windingsOf 5 n ps) _ (ap worth (eq-eqb n n refl)) (sorts n (ltb-true n (c .relays) named))
+  sorted-free a b (Dropping n) named sorts =
+      dropping-sums (member (w .regular) n) (member (w .dropping) n) (worth (eqb n n)) (windingsOf 4 n ps) _
+      (windingsOf 6 n ps) (ap worth (eq-eqb n n refl)) (sorts n (ltb-true n (c .relays) named))
 
 -- ---- along the parts
 
-part-splits : (c : Counts) (w : WoundSoFar) (p : Part) → partFine c w p ≡ true → (partFits c p ≡ true) × (windingFree w (p .kind) ≡ true)
+part-splits : (c : Counts) (w : WoundSoFar) (p : Part) → partFine c w p ≡ true → (partFits c p ≡ true)
+    × (windingFree w (p .kind) ≡ true)
 unfolding partFine
 part-splits c w p fine = both-true (partFits c p) (windingFree w (p .kind)) fine
 
-splits-part : (c : Counts) (w : WoundSoFar) (p : Part) → partFits c p ≡ true → windingFree w (p .kind) ≡ true → partFine c w p ≡ true
+splits-part : (c : Counts) (w : WoundSoFar) (p : Part) → partFits c p ≡ true → windingFree w (p .kind) ≡ true
+    → partFine c w p ≡ true
 unfolding partFine
 splits-part c w p fits free = true-both fits free
 
 pub part-named : (c : Counts) (p : Part) → partFits c p ≡ true → nameFine c (p .kind) ≡ true
 unfolding partFits
-part-named c p fits = both-true (terminalFine c (p .a) && terminalFine c (p .b) && endsFine (p .a) (p .b)) (nameFine c (p .kind)) fits .1
+part-named c p fits =
+    both-true (terminalFine c (p .a) && terminalFine c (p .b) && endsFine (p .a) (p .b)) (nameFine c (p .kind))
+    fits .1
 
-fine-sort : (c : Counts) → c .relays ≤ 32 → (r : ℕ) → r < c .relays → (w : WoundSoFar) (ps : List Part) → MostOneSort w r → partsFine c w ps ≡ true → OneSort w r ps
+fine-sort : (c : Counts) → c .relays ≤ 32 → (r : ℕ) → r < c .relays → (w : WoundSoFar) (ps : List Part)
+    → MostOneSort w r → partsFine c w ps ≡ true → OneSort w r ps
 unfolding partsFine complete windingsOf
-fine-sort c few r below w [] apart fine = end-sums (member (w .regular) r) (member (w .drawing) r) (member (w .dropping) r) (every-below (wound w) (c .relays) r fine below) (apart .drawing) (apart .dropping)
+fine-sort c few r below w [] apart fine =
+    end-sums (member (w .regular) r) (member (w .drawing) r) (member (w .dropping) r)
+    (every-below (wound w) (c .relays) r fine below) (apart .drawing) (apart .dropping)
 fine-sort c few r below w (p ∷ ps) apart fine =
     let both = both-true (partFine c w p) (partsFine c (gained w (p .kind)) ps) fine in
     let part = part-splits c w p (both .0) in
     let more = gain c few w r (p .kind) (part-named c p (part .0)) (part .1) in
-    sort-before w r p ps more (fine-sort c few r below (gained w (p .kind)) ps (apart-gained w r (p .kind) (part .1) more apart) (both .1))
+    sort-before w r p ps more (fine-sort c few r below (gained w (p .kind)) ps
+    (apart-gained w r (p .kind) (part .1) more apart) (both .1))
 
-sort-fine : (c : Counts) → c .relays ≤ 32 → (w : WoundSoFar) (ps : List Part) → partsFit c ps ≡ true → ((r : ℕ) → r < c .relays → OneSort w r ps) → partsFine c w ps ≡ true
+sort-fine : (c : Counts) → c .relays ≤ 32 → (w : WoundSoFar) (ps : List Part) → partsFit c ps ≡ true
+    → ((r : ℕ) → r < c .relays → OneSort w r ps) → partsFine c w ps ≡ true
 unfolding partsFine partsFit complete windingsOf
-sort-fine c few w [] fit sorts = below-every (wound w) (c .relays) (λ r below. sums-end (member (w .regular) r) (member (w .drawing) r) (member (w .dropping) r) (sorts r below))
+sort-fine c few w [] fit sorts =
+    below-every (wound w) (c .relays) (λ r below. sums-end (member (w .regular) r) (member (w .drawing) r)
+    (member (w .dropping) r) (sorts r below))
 sort-fine c few w (p ∷ ps) fit sorts =
     let both = both-true (partFits c p) (partsFit c ps) fit in
     let named = part-named c p (both .0) in
     let free = sorted-free c w ps (p .a) (p .b) (p .kind) named sorts in
     true-both (splits-part c w p (both .0) free)
-    (sort-fine c few (gained w (p .kind)) ps (both .1) (λ r below. sort-after w r p ps (gain c few w r (p .kind) named free) (sorts r below)))
+    (sort-fine c few (gained w (p .kind)) ps (both .1)
+    (λ r below. sort-after w r p ps (gain c few w r (p .kind) named free) (sorts r below)))
 
 -- ---- the rule book's sentence
 
@@ -222,9 +278,12 @@ fine-fit c w (p ∷ ps) fine =
 pub fine-wound : (c : Counts) (ps : List Part) → c .relays ≤ 32 → partsFine c noneWound ps ≡ true → Wound (c .relays) ps
 fine-wound c ps few fine r below =
     sums-same (none-sum r (windingsOf 4 r ps)) (none-sum r (windingsOf 5 r ps)) (none-sum r (windingsOf 6 r ps))
-    (fine-sort c few r below noneWound ps (record { drawing = rw (member-none r) (omega arith); dropping = rw (member-none r) (omega arith) }) fine)
+    (fine-sort c few r below noneWound ps
+    (record { drawing = rw (member-none r) (omega arith); dropping = rw (member-none r) (omega arith) }) fine)
 
-pub wound-fine : (c : Counts) (ps : List Part) → c .relays ≤ 32 → Wound (c .relays) ps → partsFit c ps ≡ true → partsFine c noneWound ps ≡ true
+pub wound-fine : (c : Counts) (ps : List Part) → c .relays ≤ 32 → Wound (c .relays) ps → partsFit c ps ≡ true
+    → partsFine c noneWound ps ≡ true
 wound-fine c ps few wound fit =
     sort-fine c few noneWound ps fit
-    (λ r below. sums-same (sym (none-sum r (windingsOf 4 r ps))) (sym (none-sum r (windingsOf 5 r ps))) (sym (none-sum r (windingsOf 6 r ps))) (wound r below))
+    (λ r below. sums-same (sym (none-sum r (windingsOf 4 r ps))) (sym (none-sum r (windingsOf 5 r ps)))
+    (sym (none-sum r (windingsOf 6 r ps))) (wound r below))

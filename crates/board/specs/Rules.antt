@@ -1,4 +1,5 @@
--- The rules behind refusals 3 to 9, one test each, and all of them together on a board. The reader of board files goes by the same tests, each where its field comes.
+-- The rules behind refusals 3 to 9, one test each, and all of them together on a board. The reader of board files goes
+-- by the same tests, each where its field comes.
 --     countsFine c        3: T is 2 to 64, R 0 to 32, B 0 to 32 and C 0 to 256
 --     terminalFine c x    5: terminal x is below T
 --     endsFine a b        6: the two ends differ

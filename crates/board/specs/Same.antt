@@ -1,4 +1,5 @@
--- When two boards are the same. Rule book: "Boards are compared by their counts and first C parts, each part by its kind and the fields the table gives it."
+-- When two boards are the same. Rule book: "Boards are compared by their counts and first C parts, each part by its
+-- kind and the fields the table gives it."
 --     sameCounts, sameKind, samePart, sameParts     the comparisons, field by field
 --     sameBoard x y     boards x and y are the same
 use mathlib.Core.Bool.{Bool, true, false, _&&_}
@@ -12,7 +13,9 @@ use Rattle.board.specs.declared.Board.{Board}
 use Rattle.board.specs.Parts.{partsOf}
 
 unfoldable pub sameCounts : Counts → Counts → Bool
-sameCounts c d = eqb (c .terminals) (d .terminals) && eqb (c .relays) (d .relays) && eqb (c .buttons) (d .buttons) && eqb (c .parts) (d .parts)
+sameCounts c d =
+    eqb (c .terminals) (d .terminals) && eqb (c .relays) (d .relays) && eqb (c .buttons) (d .buttons)
+    && eqb (c .parts) (d .parts)
 
 unfoldable pub sameKind : Kind → Kind → Bool
 sameKind k l = eqb (kindNumber k) (kindNumber l) && eqb (nameOf k) (nameOf l)

@@ -1,4 +1,5 @@
--- Laws of `countsAt`: each way out of reading T, R, B and C as an outcome of the definition, and what counts that were read are.
+-- Laws of `countsAt`: each way out of reading T, R, B and C as an outcome of the definition, and what counts that were
+-- read are.
 use Prim.Native.Nat.{ℕ, _≤_}
 use mathlib.Core.Path.{_≡_, ap, _∙_}
 use mathlib.Core.Bool.{true}
@@ -19,12 +20,15 @@ use Rattle.number.proofs.OutcomeLaws.{given-injective, handed}
 use Rattle.board_reader.proofs.FieldLaws.{wanted-found, range-bounds}
 
 -- a refused count as the answer on all four
-pub no-counts-told : (a : CountsRead) (x : Number) (r : Refusal) → toldReadAnswer (a .answer) ≡ placeOf (toldNumber x) → x ≡ Refused r → toldCountsRead a ≡ refused (r .number) (r .place)
+pub no-counts-told : (a : CountsRead) (x : Number) (r : Refusal) → toldReadAnswer (a .answer) ≡ placeOf
+    (toldNumber x) → x ≡ Refused r → toldCountsRead a ≡ refused (r .number) (r .place)
 no-counts-told a x r h e = ap (foundAt (a .counts)) (h ∙ ap (λ (y : Number). placeOf (toldNumber y)) e)
 
 -- a count that was found is at most its limit
-pub count-most : (low high : ℕ) (s : List ℕ) (at v next : ℕ) → wanted (inRange low high) outOfRange s at ≡ found v next → v ≤ high
-count-most low high s at v next h = range-bounds low high v (wanted-found (inRange low high) outOfRange s at v next h .0) .1
+pub count-most : (low high : ℕ) (s : List ℕ) (at v next : ℕ) → wanted (inRange low high) outOfRange s at ≡ found v
+    next → v ≤ high
+count-most low high s at v next h =
+    range-bounds low high v (wanted-found (inRange low high) outOfRange s at v next h .0) .1
 
 abbrev countAt : ℕ → ℕ → List ℕ → ℕ → Outcome (Found ℕ)
 countAt low high = wanted (inRange low high) outOfRange
@@ -49,7 +53,8 @@ module _ (s : List ℕ) (k p : ℕ) where
         unfolding countsAt
         parts-refused c = rw (terminals, relays, buttons, c)
 
-pub counts-read : (s : List ℕ) (t rt r rb b rc c next : ℕ) → countAt 2 64 s 0 ≡ found t rt → countAt 0 32 s rt ≡ found r rb → countAt 0 32 s rb ≡ found b rc → countAt 0 256 s rc ≡ found c next
+pub counts-read : (s : List ℕ) (t rt r rb b rc c next : ℕ) → countAt 2 64 s 0 ≡ found t rt
+    → countAt 0 32 s rt ≡ found r rb → countAt 0 32 s rb ≡ found b rc → countAt 0 256 s rc ≡ found c next
     → found (record { terminals = t; relays = r; buttons = b; parts = c }) next ≡ countsAt s
 unfolding countsAt
 counts-read s t rt r rb b rc c next terminals relays buttons parts = rw (terminals, relays, buttons, parts)

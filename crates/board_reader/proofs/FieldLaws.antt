@@ -1,4 +1,5 @@
--- Laws of `wanted`, a number with its range: how each way out of reading one number of the file is an outcome of the definition.
+-- Laws of `wanted`, a number with its range: how each way out of reading one number of the file is an outcome of the
+-- definition.
 use Prim.Native.Nat.{ℕ, _<_, _≤_}
 use mathlib.Core.Path.{_≡_, sym, ap, _∙_}
 use mathlib.Core.Bool.{Bool, true, false}
@@ -31,21 +32,30 @@ module _ (ok : ℕ → Bool) (n : ℕ) (s : List ℕ) (at : ℕ) where
   wanted-passes v next h fine = rw (h, fine)
 
 -- what a number's answer says of the outcome that it tells
-pub told-found : (o : Outcome (Found ℕ)) (x : Number) (v next : ℕ) → x ≡ Read v next → toldNumber x ≡ o → o ≡ found v next
+pub told-found : (o : Outcome (Found ℕ)) (x : Number) (v next : ℕ) → x ≡ Read v next → toldNumber x ≡ o
+    → o ≡ found v next
 told-found o x v next e h = sym h ∙ ap toldNumber e
 
-pub told-refused : (o : Outcome (Found ℕ)) (x : Number) (r : Refusal) → x ≡ Refused r → toldNumber x ≡ o → o ≡ refused (r .number) (r .place)
+pub told-refused : (o : Outcome (Found ℕ)) (x : Number) (r : Refusal) → x ≡ Refused r → toldNumber x ≡ o
+    → o ≡ refused (r .number) (r .place)
 told-refused o x r e h = sym h ∙ ap toldNumber e
 
-pub number-refused : (ok : ℕ → Bool) (n : ℕ) (s : List ℕ) (at : ℕ) (x : Number) (r : Refusal) → x ≡ Refused r → toldNumber x ≡ numberAt s at → toldNumber x ≡ wanted ok n s at
-number-refused ok n s at x r e h = ap toldNumber e ∙ sym (wanted-refused ok n s at (r .number) (r .place) (told-refused (numberAt s at) x r e h))
+pub number-refused : (ok : ℕ → Bool) (n : ℕ) (s : List ℕ) (at : ℕ) (x : Number) (r : Refusal) → x ≡ Refused r
+    → toldNumber x ≡ numberAt s at → toldNumber x ≡ wanted ok n s at
+number-refused ok n s at x r e h =
+    ap toldNumber e ∙ sym (wanted-refused ok n s at (r .number) (r .place) (told-refused (numberAt s at) x r e h))
 
 -- a number that was found passed its test
-pub wanted-found : (ok : ℕ → Bool) (n : ℕ) (s : List ℕ) (at v next : ℕ) → wanted ok n s at ≡ found v next → (ok v ≡ true) × (numberAt s at ≡ found v next)
+pub wanted-found : (ok : ℕ → Bool) (n : ℕ) (s : List ℕ) (at v next : ℕ) → wanted ok n s at ≡ found v next
+    → (ok v ≡ true) × (numberAt s at ≡ found v next)
 unfolding wanted
 wanted-found ok n s at v next h =
-    let number = handed (numberAt s at) (λ f. unless (ok (f .value)) n at >> given f) (record { value = v; next = next }) h in
-    let fine = passed (ok (number .value .value)) n at (given (number .value)) (record { value = v; next = next }) (number .then) in
+    let number =
+    handed (numberAt s at) (λ f. unless (ok (f .value)) n at >> given f) (record { value = v; next = next }) h
+    in
+    let fine =
+    passed (ok (number .value .value)) n at (given (number .value)) (record { value = v; next = next })
+    (number .then) in
     let same : number .value ≡ record { value = v; next = next } = given-injective _ _ (fine .1) in
     (ap (λ (f : Found ℕ). ok (f .value)) (sym same) ∙ fine .0, number .first ∙ fine .1)
 
@@ -69,7 +79,8 @@ module _ (low high v : ℕ) where
       (leb-true low v (both .0), leb-true v high (both .1))
 
 -- a limit that is the same is the same test
-pub wanted-below : (n : ℕ) (s : List ℕ) (at l m : ℕ) → l ≡ m → wanted (λ v. ltb v l) n s at ≡ wanted (λ v. ltb v m) n s at
+pub wanted-below : (n : ℕ) (s : List ℕ) (at l m : ℕ) → l ≡ m → wanted (λ v. ltb v l) n s at ≡ wanted (λ v. ltb v m)
+    n s at
 wanted-below n s at l m e = ap (λ (k : ℕ). wanted (λ v. ltb v k) n s at) e
 
 module _ (c : Counts) (k : ℕ) (s : List ℕ) (at : ℕ) where

@@ -26,10 +26,12 @@ use Rattle.number.proofs.NumberLaws.{found-value}
 use Rattle.board_reader.proofs.FieldLaws.{wanted-found}
 
 -- a refused part as the answer of its field or its rule
-pub no-part-told : (a : PartRead) (b : ReadAnswer) (k p : ℕ) → a .answer ≡ b → toldReadAnswer b ≡ refused k p → toldPartRead a ≡ refused k p
+pub no-part-told : (a : PartRead) (b : ReadAnswer) (k p : ℕ) → a .answer ≡ b → toldReadAnswer b ≡ refused k p
+    → toldPartRead a ≡ refused k p
 no-part-told a b k p e h = ap (foundAt (a .part)) (ap toldReadAnswer e ∙ h)
 
-pub place-refused : (b : ReadAnswer) (x : Number) (r : Refusal) → toldReadAnswer b ≡ placeOf (toldNumber x) → x ≡ Refused r → toldReadAnswer b ≡ refused (r .number) (r .place)
+pub place-refused : (b : ReadAnswer) (x : Number) (r : Refusal) → toldReadAnswer b ≡ placeOf (toldNumber x)
+    → x ≡ Refused r → toldReadAnswer b ≡ refused (r .number) (r .place)
 place-refused b x r h e = h ∙ ap (λ (y : Number). placeOf (toldNumber y)) e
 
 module _ (c : Counts) (w : WoundSoFar) (s : List ℕ) (at k p : ℕ) where
@@ -37,13 +39,15 @@ module _ (c : Counts) (w : WoundSoFar) (s : List ℕ) (at k p : ℕ) where
   unfolding partAt
   kind-refused h = rw h
 
-module _ (c : Counts) (w : WoundSoFar) (s : List ℕ) (at kind ka : ℕ) (kinds : wanted (inRange 0 6) noSuchKind s at ≡ found kind ka) where
+module _ (c : Counts) (w : WoundSoFar) (s : List ℕ) (at kind ka : ℕ)
+    (kinds : wanted (inRange 0 6) noSuchKind s at ≡ found kind ka) where
   pub a-refused : (k p : ℕ) → wanted (terminalFine c) noSuchTerminal s ka ≡ refused k p → refused k p ≡ partAt c w s at
   unfolding partAt
   a-refused k p h = rw (kinds, h)
 
   module _ (a ab : ℕ) (as-a : wanted (terminalFine c) noSuchTerminal s ka ≡ found a ab) where
-    pub b-refused : (k p : ℕ) → wanted (terminalFine c) noSuchTerminal s ab ≡ refused k p → refused k p ≡ partAt c w s at
+    pub b-refused : (k p : ℕ) → wanted (terminalFine c) noSuchTerminal s ab ≡ refused k p
+        → refused k p ≡ partAt c w s at
     unfolding partAt
     b-refused k p h = rw (kinds, as-a, h)
 
@@ -62,16 +66,20 @@ module _ (c : Counts) (w : WoundSoFar) (s : List ℕ) (at kind ka : ℕ) (kinds 
           unfolding partAt
           winding-refused h = rw (kinds, as-a, as-b, ne-eqb a b apart, names, h)
 
-          pub part-found : windingFree w (kindOf kind name) ≡ true → found (record { a = a; b = b; kind = kindOf kind name }) next ≡ partAt c w s at
+          pub part-found : windingFree w (kindOf kind name) ≡ true
+              → found (record { a = a; b = b; kind = kindOf kind name }) next ≡ partAt c w s at
           unfolding partAt
           part-found h = rw (kinds, as-a, as-b, ne-eqb a b apart, names, h)
 
 -- a terminal that was found is below T
-pub terminal-below : (c : Counts) (s : List ℕ) (at v next : ℕ) → wanted (terminalFine c) noSuchTerminal s at ≡ found v next → v < c .terminals
-terminal-below c s at v next h = ltb-true v (c .terminals) (wanted-found (terminalFine c) noSuchTerminal s at v next h .0)
+pub terminal-below : (c : Counts) (s : List ℕ) (at v next : ℕ) → wanted (terminalFine c) noSuchTerminal s at ≡ found
+    v next → v < c .terminals
+terminal-below c s at v next h =
+    ltb-true v (c .terminals) (wanted-found (terminalFine c) noSuchTerminal s at v next h .0)
 
 -- a name that was found is below whatever R and B are at most
-pub name-below : (c : Counts) (k : ℕ) (s : List ℕ) (at v next m : ℕ) → nameAt c k s at ≡ found v next → c .relays ≤ m → c .buttons ≤ m → 0 < m → v < m
+pub name-below : (c : Counts) (k : ℕ) (s : List ℕ) (at v next m : ℕ) → nameAt c k s at ≡ found v next
+    → c .relays ≤ m → c .buttons ≤ m → 0 < m → v < m
 unfolding nameAt
 name-below c k s at v next m h relays buttons some = go (eqb k 0) h
   where
@@ -81,7 +89,12 @@ name-below c k s at v next m h relays buttons some = go (eqb k 0) h
 
     go : (t : Bool) → cond t (found 0 at) (wanted (λ n. ltb n (limitOf c k)) noSuchName s at) ≡ found v next → v < m
     go true e = omega (arith, found-value 0 v at next e)
-    go false e = omega (arith, ltb-true v (limitOf c k) (wanted-found (λ n. ltb n (limitOf c k)) noSuchName s at v next e .0), limit (eqb k 3))
+    go false e =
+        omega (
+          arith,
+          ltb-true v (limitOf c k) (wanted-found (λ n. ltb n (limitOf c k)) noSuchName s at v next e .0),
+          limit (eqb k 3),
+        )
 
 -- the kind as it was made
 pub part-as : (p q : Part) (next : ℕ) → p .a ≡ q .a → p .b ≡ q .b → p .kind ≡ q .kind → found p next ≡ found q next

@@ -1,4 +1,5 @@
--- Laws of `partsAt`: reading parts one after the other. The loop of `read_parts` is a walk; each step of it, and each way out, is a law here.
+-- Laws of `partsAt`: reading parts one after the other. The loop of `read_parts` is a walk; each step of it, and each
+-- way out, is a law here.
 use Prim.Native.Nat.{ℕ, suc, _+_, _-_, _<_, _≤_}
 use native.Mathlib.Omega.{arith}
 use mathlib.Core.Path.{_≡_, refl, sym, ap, _∙_}
@@ -31,12 +32,14 @@ after-none : (o : Outcome (Found (List Part))) → o ≡ after [] o
 after-none (given f) = refl
 after-none (refused k p) = refl
 
-after-more : (ps : List Part) (p : Part) (o : Outcome (Found (List Part))) → after ps (o >>= λ f. found (p ∷ f .value) (f .next)) ≡ after (ps ++ (p ∷ [])) o
+after-more : (ps : List Part) (p : Part) (o : Outcome (Found (List Part)))
+    → after ps (o >>= λ f. found (p ∷ f .value) (f .next)) ≡ after (ps ++ (p ∷ [])) o
 after-more ps p (given f) = ap (λ (l : List Part). found l (f .next)) (sym (append-assoc ps (p ∷ []) (f .value)))
 after-more ps p (refused k q) = refl
 
 module _ (c : Counts) (n : ℕ) (w : WoundSoFar) (s : List ℕ) (at : ℕ) where
-  parts-next : (p : Part) (next : ℕ) → partAt c w s at ≡ found p next → partsAt c (suc n) w s at ≡ (partsAt c n (gained w (p .kind)) s next >>= λ f. found (p ∷ f .value) (f .next))
+  parts-next : (p : Part) (next : ℕ) → partAt c w s at ≡ found p next
+      → partsAt c (suc n) w s at ≡ (partsAt c n (gained w (p .kind)) s next >>= λ f. found (p ∷ f .value) (f .next))
   unfolding partsAt
   parts-next p next h = rw h
 
@@ -60,7 +63,8 @@ pub record Walk (c : Counts) (s : List ℕ) (start : ℕ) (parts : List Part) (w
   pub array : parts ≡ padded so-far
   pub rest : partsAt c (c .parts) noneWound s start ≡ after so-far (partsAt c (c .parts - i) w s at)
 
-pub walk-start : (c : Counts) (s : List ℕ) (start : ℕ) (p : Part) (w : WoundSoFar) → p ≡ blank → w ≡ noneWound → Walk c s start (replicate 256 p) w start 0
+pub walk-start : (c : Counts) (s : List ℕ) (start : ℕ) (p : Part) (w : WoundSoFar) → p ≡ blank → w ≡ noneWound
+    → Walk c s start (replicate 256 p) w start 0
 unfolding padded
 walk-start c s start p w filler none =
     let whole : c .parts - 0 ≡ c .parts = omega arith in
@@ -71,8 +75,10 @@ walk-start c s start p w filler none =
       rest = rw (whole, none) (after-none (partsAt c (c .parts) noneWound s start));
     }
 
-module _ (c : Counts) (s : List ℕ) (start : ℕ) (parts : List Part) (w : WoundSoFar) (at i : ℕ) (walk : Walk c s start parts w at i) where
-  pub walk-on : (p : Part) (next : ℕ) (w′ : WoundSoFar) → i < c .parts → c .parts ≤ 256 → partAt c w s at ≡ found p next → w′ ≡ gained w (p .kind) → Walk c s start (set parts i p) w′ next (i + 1)
+module _ (c : Counts) (s : List ℕ) (start : ℕ) (parts : List Part) (w : WoundSoFar) (at i : ℕ)
+    (walk : Walk c s start parts w at i) where
+  pub walk-on : (p : Part) (next : ℕ) (w′ : WoundSoFar) → i < c .parts → c .parts ≤ 256
+      → partAt c w s at ≡ found p next → w′ ≡ gained w (p .kind) → Walk c s start (set parts i p) w′ next (i + 1)
   walk-on p next w′ below most here more =
       let ps = walk .so-far in
       let one : c .parts - i ≡ suc (c .parts - (i + 1)) = omega arith in
@@ -80,7 +86,9 @@ module _ (c : Counts) (s : List ℕ) (start : ℕ) (parts : List Part) (w : Woun
       record {
         so-far = ps ++ (p ∷ []);
         counted = omega (arith, length-append ps (p ∷ []));
-        array = ap (λ (l : List Part). set l i p) (walk .array) ∙ ap (λ (n : ℕ). set (padded ps) n p) (sym long) ∙ padded-set ps p (omega arith);
+        array =
+            ap (λ (l : List Part). set l i p) (walk .array) ∙ ap (λ (n : ℕ). set (padded ps) n p) (sym long)
+            ∙ padded-set ps p (omega arith);
         rest = walk .rest
             ∙ ap (λ (n : ℕ). after ps (partsAt c n w s at)) one
             ∙ ap (after ps) (parts-next c (c .parts - (i + 1)) w s at p next here)
@@ -88,17 +96,22 @@ module _ (c : Counts) (s : List ℕ) (start : ℕ) (parts : List Part) (w : Woun
             ∙ ap (λ (v : WoundSoFar). after (ps ++ (p ∷ [])) (partsAt c (c .parts - (i + 1)) v s next)) (sym more);
       }
 
-  pub walk-refused : (k p : ℕ) → i < c .parts → partAt c w s at ≡ refused k p → partsAt c (c .parts) noneWound s start ≡ refused k p
+  pub walk-refused : (k p : ℕ) → i < c .parts → partAt c w s at ≡ refused k p
+      → partsAt c (c .parts) noneWound s start ≡ refused k p
   walk-refused k p below here =
       let one : c .parts - i ≡ suc (c .parts - (i + 1)) = omega arith in
-      walk .rest ∙ ap (λ (n : ℕ). after (walk .so-far) (partsAt c n w s at)) one ∙ ap (after (walk .so-far)) (parts-stop c (c .parts - (i + 1)) w s at k p here)
+      walk .rest ∙ ap (λ (n : ℕ). after (walk .so-far) (partsAt c n w s at)) one
+      ∙ ap (after (walk .so-far)) (parts-stop c (c .parts - (i + 1)) w s at k p here)
 
-  pub walk-lacking : c .parts ≤ i → complete (c .relays) w ≡ false → partsAt c (c .parts) noneWound s start ≡ refused windingLacking at
+  pub walk-lacking : c .parts ≤ i → complete (c .relays) w ≡ false
+      → partsAt c (c .parts) noneWound s start ≡ refused windingLacking at
   walk-lacking past off =
       let none : c .parts - i ≡ 0 = omega arith in
-      walk .rest ∙ ap (λ (n : ℕ). after (walk .so-far) (partsAt c n w s at)) none ∙ ap (after (walk .so-far)) (parts-lacking c w s at off)
+      walk .rest ∙ ap (λ (n : ℕ). after (walk .so-far) (partsAt c n w s at)) none
+      ∙ ap (after (walk .so-far)) (parts-lacking c w s at off)
 
-  pub walk-end : c .parts ≤ i → complete (c .relays) w ≡ true → partsAt c (c .parts) noneWound s start ≡ found (walk .so-far) at
+  pub walk-end : c .parts ≤ i → complete (c .relays) w ≡ true → partsAt c (c .parts) noneWound s start ≡ found
+      (walk .so-far) at
   walk-end past fine =
       let none : c .parts - i ≡ 0 = omega arith in
       walk .rest
@@ -107,14 +120,17 @@ module _ (c : Counts) (s : List ℕ) (start : ℕ) (parts : List Part) (w : Woun
       ∙ ap (λ (l : List Part). found l at) (append-nil (walk .so-far))
 
 -- what a part's answer says of the outcome that it tells
-pub part-stopped : (o : Outcome (Found Part)) (a : PartRead) (r : Refusal) → a .answer ≡ Refused r → toldPartRead a ≡ o → o ≡ refused (r .number) (r .place)
+pub part-stopped : (o : Outcome (Found Part)) (a : PartRead) (r : Refusal) → a .answer ≡ Refused r
+    → toldPartRead a ≡ o → o ≡ refused (r .number) (r .place)
 part-stopped o a r e h = sym h ∙ ap (λ (b : ReadAnswer). foundAt (a .part) (toldReadAnswer b)) e
 
-pub part-went : (o : Outcome (Found Part)) (a : PartRead) (next : ℕ) → a .answer ≡ Read next → toldPartRead a ≡ o → o ≡ found (a .part) next
+pub part-went : (o : Outcome (Found Part)) (a : PartRead) (next : ℕ) → a .answer ≡ Read next → toldPartRead a ≡ o
+    → o ≡ found (a .part) next
 part-went o a next e h = sym h ∙ ap (λ (b : ReadAnswer). foundAt (a .part) (toldReadAnswer b)) e
 
 -- a refused read: the empty board with the refusal
-pub answer-refused : (r : BoardRead) (a : ReadAnswer) (k p : ℕ) → r .board ≡ emptyBoard → r .answer ≡ a → toldReadAnswer a ≡ refused k p → toldBoardRead r ≡ answered (refused k p)
+pub answer-refused : (r : BoardRead) (a : ReadAnswer) (k p : ℕ) → r .board ≡ emptyBoard → r .answer ≡ a
+    → toldReadAnswer a ≡ refused k p → toldBoardRead r ≡ answered (refused k p)
 unfolding answered
 answer-refused r a k p board answer told = λ i. (board i, (ap toldReadAnswer answer ∙ told) i)
 
@@ -124,6 +140,7 @@ module _ (c : Counts) (o : Outcome (Found (List Part))) where
   unfolding boardFrom
   board-refused k p h = rw h
 
-  pub board-found : (ps : List Part) (parts : List Part) (next : ℕ) → parts ≡ padded ps → o ≡ found ps next → _≡_ {A = Board × Outcome ℕ} (record { counts = c; parts = parts }, given next) (answered (boardFrom c o))
+  pub board-found : (ps : List Part) (parts : List Part) (next : ℕ) → parts ≡ padded ps → o ≡ found ps next
+      → _≡_ {A = Board × Outcome ℕ} (record { counts = c; parts = parts }, given next) (answered (boardFrom c o))
   unfolding boardFrom answered
   board-found ps parts next array h = rw h (λ i. (record { counts = c; parts = array i }, given next))

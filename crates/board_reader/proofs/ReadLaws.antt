@@ -19,10 +19,12 @@ use Rattle.board_reader.specs.declared.counts.CountsRead.{CountsRead}
 use Rattle.number.proofs.OutcomeLaws.{refused-never}
 
 -- what the answer on the counts says of the outcome that it tells
-pub counts-stopped : (o : Outcome (Found Counts)) (a : CountsRead) (r : Refusal) → a .answer ≡ Refused r → toldCountsRead a ≡ o → o ≡ refused (r .number) (r .place)
+pub counts-stopped : (o : Outcome (Found Counts)) (a : CountsRead) (r : Refusal) → a .answer ≡ Refused r
+    → toldCountsRead a ≡ o → o ≡ refused (r .number) (r .place)
 counts-stopped o a r e h = sym h ∙ ap (λ (b : ReadAnswer). foundAt (a .counts) (toldReadAnswer b)) e
 
-pub counts-went : (o : Outcome (Found Counts)) (a : CountsRead) (next : ℕ) → a .answer ≡ Read next → toldCountsRead a ≡ o → o ≡ found (a .counts) next
+pub counts-went : (o : Outcome (Found Counts)) (a : CountsRead) (next : ℕ) → a .answer ≡ Read next
+    → toldCountsRead a ≡ o → o ≡ found (a .counts) next
 counts-went o a next e h = sym h ∙ ap (λ (b : ReadAnswer). foundAt (a .counts) (toldReadAnswer b)) e
 
 module _ (s : List ℕ) where
@@ -40,7 +42,8 @@ module _ (s : List ℕ) where
       let stopped : refused k p ≡ boardAt s = rw h in
       ap answered stopped ∙ reading-board short
 
-  pub reading-went : (c : Counts) (at : ℕ) → length s ≤ 65536 → countsAt s ≡ found c at → answered (boardFrom c (partsAt c (c .parts) noneWound s at)) ≡ reading s
+  pub reading-went : (c : Counts) (at : ℕ) → length s ≤ 65536 → countsAt s ≡ found c at
+      → answered (boardFrom c (partsAt c (c .parts) noneWound s at)) ≡ reading s
   unfolding boardAt
   reading-went c at short h =
       let went : boardFrom c (partsAt c (c .parts) noneWound s at) ≡ boardAt s = rw h in

@@ -1,4 +1,6 @@
--- Reading a board. Rule book: "Order: 10 first; then left to right, each number's form (1, 2) before its meaning, and for a part 4, 5, 5, 6, 7, 8 as its fields come; then 9." Each line of a `do` block leaves with its refusal if it has one.
+-- Reading a board. Rule book: "Order: 10 first; then left to right, each number's form (1, 2) before its meaning, and
+-- for a part 4, 5, 5, 6, 7, 8 as its fields come; then 9." Each line of a `do` block leaves with its refusal if it has
+-- one.
 --     wanted ok n s at      the number at a place, which must pass the test ok, else n at that place
 --     countsAt s            T, R, B and C at the start of the input
 --     nameAt c k s at       the relay or button of a part of kind number k; a wire has none
@@ -14,7 +16,8 @@ use mathlib.Core.List.{List, [], _∷_}
 use lib.Dec.{ltb, leb, eqb}
 use lib.ListN.{length}
 use Rattle.number.specs.Outcomes.{Outcome, given, refused, Found, found, _>>=_, _>>_, unless}
-use Rattle.number.specs.Refusals.{outOfRange, noSuchKind, noSuchTerminal, endsEqual, noSuchName, windingTaken, windingLacking, inputTooLong}
+use Rattle.number.specs.Refusals.{outOfRange, noSuchKind, noSuchTerminal, endsEqual, noSuchName, windingTaken}
+use Rattle.number.specs.Refusals.{windingLacking, inputTooLong}
 use Rattle.number.specs.Numbers.{numberAt}
 use Rattle.windings.specs.declared.WoundSoFar.{WoundSoFar}
 use Rattle.kinds.specs.Kinds.{kindOf, lastKind}
@@ -23,7 +26,8 @@ use Rattle.board.specs.declared.Part.{Part}
 use Rattle.board.specs.declared.Counts.{Counts}
 use Rattle.board.specs.declared.Board.{Board}
 use Rattle.board.specs.Parts.{padded, emptyBoard, mostParts}
-use Rattle.board.specs.Rules.{leastTerminals, mostTerminals, mostRelays, mostButtons, inRange, terminalFine, endsFine, limitOf}
+use Rattle.board.specs.Rules.{leastTerminals, mostTerminals, mostRelays, mostButtons, inRange, terminalFine, endsFine}
+use Rattle.board.specs.Rules.{limitOf}
 use Rattle.board_reader.specs.declared.BoardRead.{BoardRead}
 use Rattle.board_reader.specs.declared.ReadAnswer.{ReadAnswer}
 use Rattle.board_reader.specs.declared.ReadAnswer.the-variants.{Read, Refused}

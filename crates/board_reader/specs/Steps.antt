@@ -1,4 +1,5 @@
--- What the reader's inner functions answer: a thing beside an answer that says where it ends or why it is refused, told as an outcome.
+-- What the reader's inner functions answer: a thing beside an answer that says where it ends or why it is refused, told
+-- as an outcome.
 --     foundAt a o      the thing a, which ends where o says; a refusal leaves a aside
 --     placeOf o        where a thing that was read ends
 use Prim.Native.Nat.{ℕ}

@@ -1,4 +1,5 @@
--- Laws of a board's file for those who write one and read it back: how long it is, that it is made of bytes, and what a write answers.
+-- Laws of a board's file for those who write one and read it back: how long it is, that it is made of bytes, and what a
+-- write answers.
 use mathlib.Core.Path.{_≡_, refl, sym, ap, ap₂, _∙_}
 use mathlib.Core.Bool.{Bool, true, false, cond, _||_}
 use mathlib.Core.List.{List, [], _∷_, _++_}
@@ -35,7 +36,8 @@ use Rattle.board_writer.specs.File.{nameBytes, partBytes, partsBytes, co
 use Rattle.board_writer.specs.Writing.{writing, toldWritten, bytesWritten}
 use Rattle.board_writer.proofs.LengthLaws.{counts-bytes-sum, part-bytes-sum}
 use Rattle.board_writer.proofs.PieceLaws.{numbersBytes}
-use Rattle.board_writer.proofs.WriteLaws.{counts-numbers, part-numbers, namesOf, board-bytes-sum, writing-broken, writing-short, writing-with-room}
+use Rattle.board_writer.proofs.WriteLaws.{counts-numbers, part-numbers, namesOf, board-bytes-sum, writing-broken}
+use Rattle.board_writer.proofs.WriteLaws.{writing-short, writing-with-room}
 
 -- ---- how long a file is
 
@@ -45,7 +47,16 @@ one-byte v small = ap length (number-bytes-one v small)
 
 counts-bytes-few : (c : Counts) → InRange c → length (countsBytes c) ≤ 5
 counts-bytes-few c fit =
-    omega (arith, counts-bytes-sum c, one-byte (c .terminals) (omega (arith, fit)), one-byte (c .relays) (omega (arith, fit)), one-byte (c .buttons) (omega (arith, fit)), number-bytes-length-two (c .parts) (omega (arith, fit)))
+    omega (
+      arith,
+      counts-bytes-sum c,
+      one-byte (c .terminals) (omega (arith, fit)),
+      one-byte (c .relays)
+          (omega (arith, fit)),
+      one-byte (c .buttons) (omega (arith, fit)),
+      number-bytes-length-two (c .parts)
+          (omega (arith, fit)),
+    )
 
 limit-most : (c : Counts) (k : ℕ) → InRange c → limitOf c k ≤ 32
 limit-most c k fit = either (eqb k 3) (fit .most-buttons) (fit .most-relays)
@@ -56,13 +67,16 @@ limit-most c k fit = either (eqb k 3) (fit .most-buttons) (fit .most-relays)
 
 name-bytes-few : (c : Counts) (k : Kind) → InRange c → nameFine c k ≡ true → length (nameBytes k) ≤ 1
 unfolding nameFine nameBytes
-name-bytes-few c k fit fine = few (eqb (kindNumber k) 0) (nameOf k) (limitOf c (kindNumber k)) (limit-most c (kindNumber k) fit) fine
+name-bytes-few c k fit fine =
+    few (eqb (kindNumber k) 0) (nameOf k) (limitOf c (kindNumber k)) (limit-most c (kindNumber k) fit) fine
   where
-    few : (wire : Bool) (name limit : ℕ) → limit ≤ 32 → (wire || ltb name limit) ≡ true → length (cond wire [] (numberBytes name)) ≤ 1
+    few : (wire : Bool) (name limit : ℕ) → limit ≤ 32 → (wire || ltb name limit) ≡ true
+        → length (cond wire [] (numberBytes name)) ≤ 1
     few true name limit most fine = omega arith
     few false name limit most fine = omega (arith, one-byte name (omega (arith, ltb-true name limit fine)))
 
-part-fields : (c : Counts) (p : Part) → partFits c p ≡ true → (p .a < c .terminals) × (p .b < c .terminals) × (nameFine c (p .kind) ≡ true)
+part-fields : (c : Counts) (p : Part) → partFits c p ≡ true → (p .a < c .terminals) × (p .b < c .terminals)
+    × (nameFine c (p .kind) ≡ true)
 unfolding partFits
 part-fields c p fine =
     let names = both-true _ _ fine in
@@ -83,12 +97,19 @@ part-bytes-few c p fit fine =
       name-bytes-few c (p .kind) fit (fields .2),
     )
 
-parts-bytes-few : (c : Counts) (ps : List Part) → InRange c → partsFit c ps ≡ true → length (partsBytes ps) ≤ 4 * length ps
+parts-bytes-few : (c : Counts) (ps : List Part) → InRange c → partsFit c ps ≡ true
+    → length (partsBytes ps) ≤ 4 * length ps
 unfolding partsFit partsBytes
 parts-bytes-few c [] fit fine = omega arith
 parts-bytes-few c (p ∷ ps) fit fine =
     let both = both-true (partFits c p) (partsFit c ps) fine in
-    omega (arith, length-append (partBytes p) (partsBytes ps), part-bytes-few c p fit (both .0), parts-bytes-few c ps fit (both .1))
+    omega (
+      arith,
+      length-append (partBytes p) (partsBytes ps),
+      part-bytes-few c p fit (both .0),
+      parts-bytes-few c
+          ps fit (both .1),
+    )
 
 pub board-file-bound : (b : Board) → boardFine b ≡ true → length (boardBytes b) ≤ longestFile
 unfolding boardFine
@@ -116,22 +137,31 @@ bytes-none i = omega arith
 numbers-are-bytes : (vs : List ℕ) → Bytes (numbersBytes vs)
 unfolding numbersBytes
 numbers-are-bytes [] = bytes-none
-numbers-are-bytes (v ∷ vs) = bytes-append (numberBytes v) (numbersBytes vs) (number-bytes-are-bytes v) (numbers-are-bytes vs)
+numbers-are-bytes (v ∷ vs) =
+    bytes-append (numberBytes v) (numbersBytes vs) (number-bytes-are-bytes v) (numbers-are-bytes vs)
 
 parts-bytes-are-bytes : (ps : List Part) → Bytes (partsBytes ps)
 unfolding partsBytes
 parts-bytes-are-bytes [] = bytes-none
-parts-bytes-are-bytes (p ∷ ps) = bytes-append (partBytes p) (partsBytes ps) (rw (part-numbers p) (numbers-are-bytes (kindNumber (p .kind) ∷ p .a ∷ p .b ∷ namesOf (p .kind)))) (parts-bytes-are-bytes ps)
+parts-bytes-are-bytes (p ∷ ps) =
+    bytes-append (partBytes p) (partsBytes ps)
+    (rw (part-numbers p) (numbers-are-bytes (kindNumber (p .kind) ∷ p .a ∷ p .b ∷ namesOf (p .kind))))
+    (parts-bytes-are-bytes ps)
 
 pub file-bytes-are-bytes : (b : Board) → Bytes (boardBytes b)
 unfolding boardBytes
-file-bytes-are-bytes b = bytes-append (countsBytes (b .counts)) (partsBytes (partsOf b)) (rw (counts-numbers (b .counts)) (numbers-are-bytes (b .counts .terminals ∷ b .counts .relays ∷ b .counts .buttons ∷ b .counts .parts ∷ []))) (parts-bytes-are-bytes (partsOf b))
+file-bytes-are-bytes b =
+    bytes-append (countsBytes (b .counts)) (partsBytes (partsOf b))
+    (rw (counts-numbers (b .counts))
+    (numbers-are-bytes (b .counts .terminals ∷ b .counts .relays ∷ b .counts .buttons ∷ b .counts .parts ∷ [])))
+    (parts-bytes-are-bytes (partsOf b))
 
 -- ---- what a write answers
 
 -- a buffer of LONGEST_FILE bytes is never refused
 pub write-fits : (b : Board) (out : List ℕ) → boardFine b ≡ true → longestFile ≤ length out
-    → _≡_ {A = Outcome ℕ × List ℕ} (writing b out) (given (length (boardBytes b)), boardBytes b ++ drop (length (boardBytes b)) out)
+    → _≡_ {A = Outcome ℕ × List ℕ} (writing b out)
+    (given (length (boardBytes b)), boardBytes b ++ drop (length (boardBytes b)) out)
 write-fits b out fine room = writing-with-room b out fine (omega (arith, board-file-bound b fine))
 
 abbrev Answered : Type 0
@@ -169,16 +199,20 @@ module _ (b : Board) (out : List ℕ) {A : Type 0} where
       by-test (boardFine b)
       (λ fine. by-test (leb (length (boardBytes b)) (length out))
       (λ fits. whole fine (leb-true (length (boardBytes b)) (length out) fits))
-      (λ off. short (writing-short b out fine refl refl (omega (arith, board-bytes-sum b, leb-false (length (boardBytes b)) (length out) off)) refl)))
+      (λ off. short
+      (writing-short b out fine refl refl
+      (omega (arith, board-bytes-sum b, leb-false (length (boardBytes b)) (length out) off)) refl)))
       (λ off. broken (writing-broken b out off refl))
 
 -- a refused write leaves the buffer as it was, and its place is 0
-pub writing-refused : (b : Board) (out : List ℕ) (n p : ℕ) (out′ : List ℕ) → _≡_ {A = Outcome ℕ × List ℕ} (writing b out) (refused n p, out′) → (out′ ≡ out) × (p ≡ 0)
+pub writing-refused : (b : Board) (out : List ℕ) (n p : ℕ) (out′ : List ℕ)
+    → _≡_ {A = Outcome ℕ × List ℕ} (writing b out) (refused n p, out′) → (out′ ≡ out) × (p ≡ 0)
 writing-refused b out n p out′ is =
     by-end b out
     (λ broken. refused-alike brokenBoard n p out out′ (broken ∙ is))
     (λ short. refused-alike bufferTooShort n p out out′ (short ∙ is))
-    (λ fine room. absurd (given-never-refused (length (boardBytes b)) n p (boardBytes b ++ drop (length (boardBytes b)) out) out′ (sym (writing-with-room b out fine room) ∙ is)))
+    (λ fine room. absurd (given-never-refused (length (boardBytes b)) n p
+    (boardBytes b ++ drop (length (boardBytes b)) out) out′ (sym (writing-with-room b out fine room) ∙ is)))
 
 -- what is known of a write that gave the count n
 pub record WasWritten (b : Board) (out : List ℕ) (n : ℕ) (out′ : List ℕ) : Type 0 where
@@ -187,14 +221,18 @@ pub record WasWritten (b : Board) (out : List ℕ) (n : ℕ) (out′ : List ℕ)
   pub room : n ≤ length out
   pub begins : out′ ≡ boardBytes b ++ drop n out
 
-pub writing-given : (b : Board) (out : List ℕ) (n : ℕ) (out′ : List ℕ) → _≡_ {A = Outcome ℕ × List ℕ} (writing b out) (given n, out′) → WasWritten b out n out′
+pub writing-given : (b : Board) (out : List ℕ) (n : ℕ) (out′ : List ℕ)
+    → _≡_ {A = Outcome ℕ × List ℕ} (writing b out) (given n, out′) → WasWritten b out n out′
 writing-given b out n out′ is =
     by-end b out
     (λ broken. absurd (given-never-refused n brokenBoard 0 out′ out (sym (broken ∙ is))))
     (λ short. absurd (given-never-refused n bufferTooShort 0 out′ out (sym (short ∙ is))))
-    (λ fine room. written fine room (given-alike (length (boardBytes b)) n (boardBytes b ++ drop (length (boardBytes b)) out) out′ (sym (writing-with-room b out fine room) ∙ is)))
+    (λ fine room. written fine room
+    (given-alike (length (boardBytes b)) n (boardBytes b ++ drop (length (boardBytes b)) out) out′
+    (sym (writing-with-room b out fine room) ∙ is)))
   where
-    written : boardFine b ≡ true → length (boardBytes b) ≤ length out → (n ≡ length (boardBytes b)) × (out′ ≡ boardBytes b ++ drop (length (boardBytes b)) out) → WasWritten b out n out′
+    written : boardFine b ≡ true → length (boardBytes b) ≤ length out → (n ≡ length (boardBytes b))
+        × (out′ ≡ boardBytes b ++ drop (length (boardBytes b)) out) → WasWritten b out n out′
     written fine room same = record {
       fine = fine;
       count = same .0;
@@ -205,7 +243,8 @@ writing-given b out n out′ is =
 -- ---- an answer is known by what it tells
 
 -- whatever `write` answers, the bytes that it says were written begin the buffer, and the rest stays
-pub write-bytes : (b : Board) (out out′ : List ℕ) (w : Written) → _≡_ {A = Outcome ℕ × List ℕ} (toldWritten w, out′) (writing b out) → out′ ≡ take (bytesWritten w) (boardBytes b) ++ drop (bytesWritten w) out
+pub write-bytes : (b : Board) (out out′ : List ℕ) (w : Written) → _≡_ {A = Outcome ℕ × List ℕ} (toldWritten w, out′)
+    (writing b out) → out′ ≡ take (bytesWritten w) (boardBytes b) ++ drop (bytesWritten w) out
 write-bytes b out out′ (Count n) wrote =
     let was = writing-given b out n out′ (sym wrote) in
     was .begins ∙ ap (λ (l : List ℕ). l ++ drop n out) (sym (take-all n (boardBytes b) (omega (arith, was .count))))

@@ -16,7 +16,8 @@ pub record ToCome (before : List ℕ) (start : ℕ) (all out : List ℕ) (at : �
   pub end : at + length rest ≡ start + length all
   pub becomes : sets out at rest ≡ sets before start all
 
-pub to-come-all : {before all : List ℕ} {start : ℕ} → start + length all ≤ length before → ToCome before start all before start all
+pub to-come-all : {before all : List ℕ} {start : ℕ} → start + length all ≤ length before
+    → ToCome before start all before start all
 to-come-all fits = record { room = fits; end = refl; becomes = refl }
 
 module _ {before all out : List ℕ} {start at : ℕ} where
@@ -29,7 +30,8 @@ module _ {before all out : List ℕ} {start at : ℕ} where
   to-come-room xs ys t = omega (arith, t .room, length-append xs ys)
 
   -- once the next piece is written the others are to come
-  pub to-come-next : (xs ys : List ℕ) {out′ : List ℕ} {at′ : ℕ} → ToCome before start all out at (xs ++ ys) → at′ ≡ at + length xs → out′ ≡ sets out at xs → ToCome before start all out′ at′ ys
+  pub to-come-next : (xs ys : List ℕ) {out′ : List ℕ} {at′ : ℕ} → ToCome before start all out at (xs ++ ys)
+      → at′ ≡ at + length xs → out′ ≡ sets out at xs → ToCome before start all out′ at′ ys
   to-come-next xs ys {out′} {at′} t a w =
       let long : length out′ ≡ length out = ap length w ∙ length-sets out at xs in
       record {
@@ -51,24 +53,34 @@ numbersBytes (v ∷ vs) = numberBytes v ++ numbersBytes vs
 pub record NumbersToCome (before : List ℕ) (start : ℕ) (all out : List ℕ) (at : ℕ) (vs : List ℕ) : Type 0 where
   pub bytes : ToCome before start all out at (numbersBytes vs)
 
-pub numbers-all : {before all : List ℕ} {start : ℕ} (vs : List ℕ) → all ≡ numbersBytes vs → start + length all ≤ length before → NumbersToCome before start all before start vs
-numbers-all {before} {all} {start} vs is fits = record { bytes = subst (λ (l : List ℕ). ToCome before start all before start l) is (to-come-all fits) }
+pub numbers-all : {before all : List ℕ} {start : ℕ} (vs : List ℕ) → all ≡ numbersBytes vs
+    → start + length all ≤ length before → NumbersToCome before start all before start vs
+numbers-all {before} {all} {start} vs is fits =
+    record { bytes = subst (λ (l : List ℕ). ToCome before start all before start l) is (to-come-all fits) }
 
-module _ {before all out : List ℕ} {start at v w : ℕ} {vs : List ℕ} (is : w ≡ v) (t : NumbersToCome before start all out at (v ∷ vs)) where
+module _ {before all out : List ℕ} {start at v w : ℕ} {vs : List ℕ} (is : w ≡ v)
+    (t : NumbersToCome before start all out at (v ∷ vs)) where
   -- the next number, of which w is a copy, has room
   pub number-room : w ≤ largest → (w ≤ largest) × (at + length (numberBytes w) ≤ length out)
   unfolding numbersBytes
   number-room small = (small, rw is (to-come-room (numberBytes v) (numbersBytes vs) (t .bytes)))
 
   -- once it is put the others are to come
-  pub number-put : {out′ : List ℕ} {at′ : ℕ} → (at′ ≡ at + length (numberBytes w)) × (out′ ≡ sets out at (numberBytes w)) → NumbersToCome before start all out′ at′ vs
+  pub number-put : {out′ : List ℕ} {at′ : ℕ} → (at′ ≡ at + length (numberBytes w))
+      × (out′ ≡ sets out at (numberBytes w)) → NumbersToCome before start all out′ at′ vs
   unfolding numbersBytes
-  number-put put = record { bytes = to-come-next (numberBytes v) (numbersBytes vs) (t .bytes) (rw is at (put .0)) (rw is at (put .1)) }
+  number-put put =
+      record {
+        bytes = to-come-next (numberBytes v) (numbersBytes vs) (t .bytes) (rw is at (put .0))
+            (rw is at (put .1));
+      }
 
 -- no number is to come: all is written
-pub numbers-done : {before all out : List ℕ} {start at : ℕ} → NumbersToCome before start all out at [] → (at ≡ start + length all) × (out ≡ sets before start all)
+pub numbers-done : {before all out : List ℕ} {start at : ℕ} → NumbersToCome before start all out at []
+    → (at ≡ start + length all) × (out ≡ sets before start all)
 unfolding numbersBytes
 numbers-done t = to-come-none (t .bytes)
 
-pub numbers-done-first : {before all out : List ℕ} {at : ℕ} → NumbersToCome before 0 all out at [] → (at ≡ length all) × (out ≡ sets before 0 all)
+pub numbers-done-first : {before all out : List ℕ} {at : ℕ} → NumbersToCome before 0 all out at []
+    → (at ≡ length all) × (out ≡ sets before 0 all)
 numbers-done-first t = rw zero-add at (numbers-done t)

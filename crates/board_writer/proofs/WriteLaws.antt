@@ -29,24 +29,32 @@ use Rattle.board.proofs.RuleLaws.{InRange, counts-in-range}
 use Rattle.board_writer.specs.File.{nameBytes, partBytes, partsBytes, countsBytes, boardBytes}
 use Rattle.board_writer.specs.Writing.{writing}
 use Rattle.board_writer.proofs.LengthLaws.{parts-from, parts-past}
-use Rattle.board_writer.proofs.PieceLaws.{ToCome, to-come-room, to-come-next, to-come-none, NumbersToCome, numbersBytes, numbers-all}
+use Rattle.board_writer.proofs.PieceLaws.{ToCome, to-come-room, to-come-next, to-come-none, NumbersToCome}
+use Rattle.board_writer.proofs.PieceLaws.{numbersBytes, numbers-all}
 
 -- ---- a number that has room: `write_number` writes it, and does not refuse it
 
-module _ (v : ℕ) (out : List ℕ) (at : ℕ) {out′ : List ℕ} (x : NumberWritten) (small : v ≤ largest) (room : at + length (numberBytes v) ≤ length out) (wrote : _≡_ {A = Outcome ℕ × List ℕ} (toldNumberWritten x, out′) (numberWriting v out at)) where
-  told : _≡_ {A = Outcome ℕ × List ℕ} (toldNumberWritten x, out′) (given (at + length (numberBytes v)), sets out at (numberBytes v))
+module _ (v : ℕ) (out : List ℕ) (at : ℕ) {out′ : List ℕ} (x : NumberWritten) (small : v ≤ largest)
+    (room : at + length (numberBytes v) ≤ length out)
+    (wrote : _≡_ {A = Outcome ℕ × List ℕ} (toldNumberWritten x, out′) (numberWriting v out at)) where
+  told : _≡_ {A = Outcome ℕ × List ℕ} (toldNumberWritten x, out′)
+      (given (at + length (numberBytes v)), sets out at (numberBytes v))
   told = wrote ∙ number-written v out at small room
 
-  pub put-next : {next : ℕ} → x ≡ Next next → (next ≡ at + length (numberBytes v)) × (out′ ≡ sets out at (numberBytes v))
+  pub put-next : {next : ℕ} → x ≡ Next next → (next ≡ at + length (numberBytes v))
+      × (out′ ≡ sets out at (numberBytes v))
   put-next {next} is =
-      let answer : toldNumberWritten x ≡ given (at + length (numberBytes v)) = ap (λ (p : Outcome ℕ × List ℕ). p .0) told in
+      let answer : toldNumberWritten x ≡ given (at + length (numberBytes v)) =
+      ap (λ (p : Outcome ℕ × List ℕ). p .0) told in
       let same : given next ≡ given (at + length (numberBytes v)) = ap toldNumberWritten (sym is) ∙ answer in
       (cc, ap (λ (p : Outcome ℕ × List ℕ). p .1) told)
 
   pub put-never-refused : {r : Refusal} → x ≡ Refused r → ⊥
   put-never-refused {r} is =
-      let answer : toldNumberWritten x ≡ given (at + length (numberBytes v)) = ap (λ (p : Outcome ℕ × List ℕ). p .0) told in
-      let same : refused (r .number) (r .place) ≡ given (at + length (numberBytes v)) = ap toldNumberWritten (sym is) ∙ answer in
+      let answer : toldNumberWritten x ≡ given (at + length (numberBytes v)) =
+      ap (λ (p : Outcome ℕ × List ℕ). p .0) told in
+      let same : refused (r .number) (r .place) ≡ given (at + length (numberBytes v)) =
+      ap toldNumberWritten (sym is) ∙ answer in
       let z : _≡_ {A = ℕ} 0 1 = cc in omega arith
 
 -- ---- counts and parts as rows of numbers
@@ -74,31 +82,39 @@ part-numbers p = rw names-bytes
 -- where they have room, all of them are to come
 pub counts-to-come : (c : Counts) (out : List ℕ) → length (countsBytes c) ≤ length out
     → NumbersToCome out 0 (countsBytes c) out 0 (c .terminals ∷ c .relays ∷ c .buttons ∷ c .parts ∷ [])
-counts-to-come c out room = numbers-all (c .terminals ∷ c .relays ∷ c .buttons ∷ c .parts ∷ []) (counts-numbers c) (omega arith)
+counts-to-come c out room =
+    numbers-all (c .terminals ∷ c .relays ∷ c .buttons ∷ c .parts ∷ []) (counts-numbers c) (omega arith)
 
 pub part-to-come : (p : Part) (out : List ℕ) (at : ℕ) → at + length (partBytes p) ≤ length out
     → NumbersToCome out at (partBytes p) out at (kindNumber (p .kind) ∷ p .a ∷ p .b ∷ namesOf (p .kind))
 part-to-come p out at room = numbers-all (kindNumber (p .kind) ∷ p .a ∷ p .b ∷ namesOf (p .kind)) (part-numbers p) room
 
-module _ {before all out : List ℕ} {start at : ℕ} (k : Kind) (t : NumbersToCome before start all out at (namesOf k)) where
-  -- a wire carries no name, and any other kind one
-  pub wire-to-come : kindNumber k ≡ 0 → NumbersToCome before start all out at []
-  unfolding namesOf
-  wire-to-come wire = rw (eq-eqb (kindNumber k) 0 wire) at t
+module _ {before all out : List ℕ} {start at : ℕ} (k : Kind) (t : NumbersToCome before start all out at (namesOf k))
+  where
+    -- a wire carries no name, and any other kind one
+    pub wire-to-come : kindNumber k ≡ 0 → NumbersToCome before start all out at []
+    unfolding namesOf
+    wire-to-come wire = rw (eq-eqb (kindNumber k) 0 wire) at t
 
-  pub name-to-come : (kindNumber k ≡ 0 → ⊥) → NumbersToCome before start all out at (nameOf k ∷ [])
-  unfolding namesOf
-  name-to-come other = rw (ne-eqb (kindNumber k) 0 other) at t
+    pub name-to-come : (kindNumber k ≡ 0 → ⊥) → NumbersToCome before start all out at (nameOf k ∷ [])
+    unfolding namesOf
+    name-to-come other = rw (ne-eqb (kindNumber k) 0 other) at t
 
 -- ---- a walk along the first n parts of l: those from place i on are to come
 
-module _ (l : List Part) (n i : ℕ) {before all out : List ℕ} {start at : ℕ} (long : n ≤ length l) (t : ToCome before start all out at (partsBytes (drop i (take n l)))) where
+module _ (l : List Part) (n i : ℕ) {before all out : List ℕ} {start at : ℕ} (long : n ≤ length l)
+    (t : ToCome before start all out at (partsBytes (drop i (take n l)))) where
   pub part-room : i < n → at + length (partBytes (getD l i blank)) ≤ length out
-  part-room below = to-come-room (partBytes (getD l i blank)) (partsBytes (drop (i + 1) (take n l))) (rw (parts-from l n i long below) at t)
+  part-room below =
+      to-come-room (partBytes (getD l i blank)) (partsBytes (drop (i + 1) (take n l)))
+      (rw (parts-from l n i long below) at t)
 
-  pub part-put : {out′ : List ℕ} {at′ : ℕ} → i < n → (at′ ≡ at + length (partBytes (getD l i blank))) × (out′ ≡ sets out at (partBytes (getD l i blank)))
+  pub part-put : {out′ : List ℕ} {at′ : ℕ} → i < n → (at′ ≡ at + length (partBytes (getD l i blank)))
+      × (out′ ≡ sets out at (partBytes (getD l i blank)))
       → ToCome before start all out′ at′ (partsBytes (drop (i + 1) (take n l)))
-  part-put below put = to-come-next (partBytes (getD l i blank)) (partsBytes (drop (i + 1) (take n l))) (rw (parts-from l n i long below) at t) (put .0) (put .1)
+  part-put below put =
+      to-come-next (partBytes (getD l i blank)) (partsBytes (drop (i + 1) (take n l)))
+      (rw (parts-from l n i long below) at t) (put .0) (put .1)
 
   pub parts-done : n ≤ i → out ≡ sets before start all
   parts-done past = to-come-none (rw (parts-past l n i long past) at t) .1
@@ -109,30 +125,36 @@ pub board-in-range : (b : Board) → boardFine b ≡ true → InRange (b .counts
 unfolding boardFine
 board-in-range b fine = counts-in-range (b .counts) (both-true _ _ fine .0)
 
-pub board-bytes-sum : (b : Board) → length (boardBytes b) ≡ length (countsBytes (b .counts)) + length (partsBytes (partsOf b))
+pub board-bytes-sum : (b : Board) → length (boardBytes b) ≡ length (countsBytes (b .counts)) + length
+    (partsBytes (partsOf b))
 unfolding boardBytes
 board-bytes-sum b = length-append (countsBytes (b .counts)) (partsBytes (partsOf b))
 
 -- the counts at the start and the parts behind them are the file at the start
 board-stored : (b : Board) (out : List ℕ) → length (boardBytes b) ≤ length out
-    → sets (sets out 0 (countsBytes (b .counts))) (length (countsBytes (b .counts))) (partsBytes (partsOf b)) ≡ boardBytes b ++ drop (length (boardBytes b)) out
+    → sets (sets out 0 (countsBytes (b .counts))) (length (countsBytes (b .counts)))
+    (partsBytes (partsOf b)) ≡ boardBytes b ++ drop (length (boardBytes b)) out
 unfolding boardBytes
 board-stored b out room =
     rw zero-add at (sets-append out 0 (countsBytes (b .counts)) (partsBytes (partsOf b)))
     ∙ sets-at-zero out (countsBytes (b .counts) ++ partsBytes (partsOf b)) room
 
 pub writing-with-room : (b : Board) (out : List ℕ) → boardFine b ≡ true → length (boardBytes b) ≤ length out
-    → _≡_ {A = Outcome ℕ × List ℕ} (writing b out) (given (length (boardBytes b)), boardBytes b ++ drop (length (boardBytes b)) out)
+    → _≡_ {A = Outcome ℕ × List ℕ} (writing b out)
+    (given (length (boardBytes b)), boardBytes b ++ drop (length (boardBytes b)) out)
 unfolding writing
 writing-with-room b out fine room = simp (fine, le-leb (length (boardBytes b)) (length out) room)
 
-pub writing-broken : (b : Board) (out : List ℕ) {told : Outcome ℕ} → boardFine b ≡ false → told ≡ refused brokenBoard 0 → _≡_ {A = Outcome ℕ × List ℕ} (told, out) (writing b out)
+pub writing-broken : (b : Board) (out : List ℕ) {told : Outcome ℕ} → boardFine b ≡ false
+    → told ≡ refused brokenBoard 0 → _≡_ {A = Outcome ℕ × List ℕ} (told, out) (writing b out)
 unfolding writing
 writing-broken b out off is = simp (off, is)
 
 -- m and n are the lengths of a fine board's counts and parts
-module _ (b : Board) (out : List ℕ) {m n : ℕ} (fine : boardFine b ≡ true) (counts : m ≡ length (countsBytes (b .counts))) (parts : n ≡ length (partsBytes (partsOf b))) where
-  pub writing-short : {told : Outcome ℕ} → length out < m + n → told ≡ refused bufferTooShort 0 → _≡_ {A = Outcome ℕ × List ℕ} (told, out) (writing b out)
+module _ (b : Board) (out : List ℕ) {m n : ℕ} (fine : boardFine b ≡ true)
+    (counts : m ≡ length (countsBytes (b .counts))) (parts : n ≡ length (partsBytes (partsOf b))) where
+  pub writing-short : {told : Outcome ℕ} → length out < m + n → told ≡ refused bufferTooShort 0
+      → _≡_ {A = Outcome ℕ × List ℕ} (told, out) (writing b out)
   unfolding writing
   writing-short short is =
       let less : length out < length (boardBytes b) = omega (arith, board-bytes-sum b) in
@@ -143,15 +165,23 @@ module _ (b : Board) (out : List ℕ) {m n : ℕ} (fine : boardFine b ≡ true) 
     pub counts-room : (b .counts .parts ≤ 256) × (length (countsBytes (b .counts)) ≤ length out)
     counts-room = (board-in-range b fine .most-parts, omega arith)
 
-    module _ {at : ℕ} {out′ : List ℕ} (put : (at ≡ length (countsBytes (b .counts))) × (out′ ≡ sets out 0 (countsBytes (b .counts)))) where
+    module _ {at : ℕ} {out′ : List ℕ} (put : (at ≡ length (countsBytes (b .counts)))
+        × (out′ ≡ sets out 0 (countsBytes (b .counts)))) where
       pub parts-room : (b .counts .parts ≤ 256) × (at + length (partsBytes (partsOf b)) ≤ length out′)
-      parts-room = (board-in-range b fine .most-parts, omega (arith, ap length (put .1), length-sets out 0 (countsBytes (b .counts))))
+      parts-room = (
+        board-in-range b fine .most-parts,
+        omega
+            (arith, ap length (put .1), length-sets out 0 (countsBytes (b .counts))),
+      )
 
       -- with both written the buffer holds the file
-      pub writing-whole : {out″ : List ℕ} → out″ ≡ sets out′ at (partsBytes (partsOf b)) → _≡_ {A = Outcome ℕ × List ℕ} (given (m + n), out″) (writing b out)
+      pub writing-whole : {out″ : List ℕ} → out″ ≡ sets out′ at (partsBytes (partsOf b))
+          → _≡_ {A = Outcome ℕ × List ℕ} (given (m + n), out″) (writing b out)
       writing-whole {out″} whole =
           let size : length (boardBytes b) ≡ m + n = omega (arith, board-bytes-sum b) in
           let room-all : length (boardBytes b) ≤ length out = omega arith in
           let stored : out″ ≡ boardBytes b ++ drop (length (boardBytes b)) out =
-          whole ∙ ap₂ (λ (o : List ℕ) (i : ℕ). sets o i (partsBytes (partsOf b))) (put .1) (put .0) ∙ board-stored b out room-all in
-          sym (writing-with-room b out fine room-all ∙ ap₂ {C = Outcome ℕ × List ℕ} (λ (k : ℕ) (o : List ℕ). (given k, o)) size (sym stored))
+          whole ∙ ap₂ (λ (o : List ℕ) (i : ℕ). sets o i (partsBytes (partsOf b))) (put .1) (put .0)
+          ∙ board-stored b out room-all in
+          sym (writing-with-room b out fine room-all
+          ∙ ap₂ {C = Outcome ℕ × List ℕ} (λ (k : ℕ) (o : List ℕ). (given k, o)) size (sym stored))

@@ -1,4 +1,5 @@
--- Writing a board. Rule book: "Calls: 15, .., 16, those that apply"; "a refused write 0 bytes written. .. output buffer stay as lent"; "Written bytes begin the buffer; the rest stays."
+-- Writing a board. Rule book: "Calls: 15, .., 16, those that apply"; "a refused write 0 bytes written. .. output buffer
+-- stay as lent"; "Written bytes begin the buffer; the rest stays."
 --     writing b out     what writing answers, the count of bytes or the refusal, and the buffer afterwards
 --     toldWritten       the answer's cases in the rule book's numbers
 --     bytesWritten w    how many bytes an answer says were written: none where it is a refusal

@@ -1,4 +1,5 @@
--- Laws of chains as they are: what joins more keeps every chain, a chain is no longer than its board has terminals, and the shortest chain is plus alone.
+-- Laws of chains as they are: what joins more keeps every chain, a chain is no longer than its board has terminals, and
+-- the shortest chain is plus alone.
 use Prim.Native.Nat.{ℕ, _<_, _≤_}
 use mathlib.Core.Path.{refl}
 use mathlib.Core.List.{List, [], _∷_}
@@ -12,7 +13,9 @@ module _ (J K : ℕ → ℕ → Type 0) (wider : (x y : ℕ) → J x y → K x y
     begins = chain .begins;
     inside = chain .inside;
     once = chain .once;
-    linked = all-map (λ (s : ℕ × ℕ). J (s .0) (s .1)) (λ (s : ℕ × ℕ). K (s .0) (s .1)) (λ s. wider (s .0) (s .1)) (steps c) (chain .linked);
+    linked =
+        all-map (λ (s : ℕ × ℕ). J (s .0) (s .1)) (λ (s : ℕ × ℕ). K (s .0) (s .1)) (λ s. wider (s .0) (s .1))
+        (steps c) (chain .linked);
     stops = chain .stops;
   }
 

@@ -22,7 +22,12 @@ record Longer (p c : List ℕ) : Type 0 where
   onto : Onto p next c
 
 longer-onto : (p : List ℕ) (n : ℕ) (c : List ℕ) → Longer (p ++ (n ∷ [])) c → Onto p n c
-longer-onto p n c h = record { rest = h .next ∷ h .onto .rest; same = h .onto .same ∙ append-assoc p (n ∷ []) (h .next ∷ h .onto .rest) }
+longer-onto p n c h =
+    record {
+      rest = h .next ∷ h .onto .rest;
+      same = h .onto .same
+          ∙ append-assoc p (n ∷ []) (h .next ∷ h .onto .rest);
+    }
 
 longer-before : (p c : List ℕ) → Longer p c → Before p c
 longer-before p c h = rw (h .onto .same) (before-longer p (h .next) (h .onto .rest))
@@ -37,13 +42,17 @@ cond-sorted false k l hk hl = hl
 module _ (p : List ℕ) (go : ℕ → List (List ℕ)) (ok : ℕ → Bool) (goes : (m : ℕ) → All (Onto p m) (go m)) where
   -- what goes on to n comes before all that is made of higher numbers
   tries-later : (k n : ℕ) (c : List ℕ) → Onto p n c → All (Before c) (tries go ok k (suc n))
-  tries-later k n c here = tries-all go ok (Before c) k (suc n) (λ m later upto fits. all-map (Onto p m) (Before c) (λ d there. onto-before p n m c d later here there) (go m) (goes m))
+  tries-later k n c here =
+      tries-all go ok (Before c) k (suc n) (λ m later upto fits. all-map (Onto p m) (Before c)
+      (λ d there. onto-before p n m c d later here there) (go m) (goes m))
 
   tries-sorted : ((m : ℕ) → Sorted (go m)) → (k n : ℕ) → Sorted (tries go ok k n)
   unfolding tries
   tries-sorted sorted zero n = tt
   tries-sorted sorted (suc k) n =
-      let later = all-map (Onto p n) (λ (c : List ℕ). All (Before c) (tries go ok k (suc n))) (tries-later k n) (go n) (goes n) in
+      let later =
+      all-map (Onto p n) (λ (c : List ℕ). All (Before c) (tries go ok k (suc n))) (tries-later k n) (go n)
+      (goes n) in
       in-order-append (cond (ok n) (go n) []) (tries go ok k (suc n))
       (cond-sorted (ok n) (go n) [] (sorted n) tt)
       (tries-sorted sorted k (suc n))
@@ -54,8 +63,13 @@ module _ (j : ℕ → ℕ → Bool) (t : ℕ) where
   abbrev across : ℕ → List ℕ → ℕ → List (List ℕ)
   across f p n = (p ++ (n ∷ [])) ∷ beyond j t f (p ++ (n ∷ [])) n
 
-  across-onto : (f : ℕ) (p : List ℕ) (n : ℕ) → All (Longer (p ++ (n ∷ []))) (beyond j t f (p ++ (n ∷ [])) n) → All (Onto p n) (across f p n)
-  across-onto f p n longer = (record { rest = []; same = refl }, all-map (Longer (p ++ (n ∷ []))) (Onto p n) (longer-onto p n) (beyond j t f (p ++ (n ∷ [])) n) longer)
+  across-onto : (f : ℕ) (p : List ℕ) (n : ℕ) → All (Longer (p ++ (n ∷ []))) (beyond j t f (p ++ (n ∷ [])) n)
+      → All (Onto p n) (across f p n)
+  across-onto f p n longer = (
+    record { rest = []; same = refl },
+    all-map (Longer (p ++ (n ∷ []))) (Onto p n) (longer-onto p n)
+        (beyond j t f (p ++ (n ∷ [])) n) longer,
+  )
 
   beyond-longer : (f : ℕ) (p : List ℕ) (x : ℕ) → All (Longer p) (beyond j t f p x)
   unfolding beyond
@@ -63,7 +77,8 @@ module _ (j : ℕ → ℕ → Bool) (t : ℕ) where
   beyond-longer (suc f) p x =
       cond-all (Longer p) (eqb x minus) [] (tries (across f p) (canFollow j p x) t 0) (λ on. tt) (λ off.
       tries-all (across f p) (canFollow j p x) (Longer p) t 0 (λ n from upto fits.
-      all-map (Onto p n) (Longer p) (λ c h. record { next = n; onto = h }) (across f p n) (across-onto f p n (beyond-longer f (p ++ (n ∷ [])) n))))
+      all-map (Onto p n) (Longer p) (λ c h. record { next = n; onto = h }) (across f p n)
+      (across-onto f p n (beyond-longer f (p ++ (n ∷ [])) n))))
 
   beyond-later : (f : ℕ) (p : List ℕ) (x : ℕ) → All (Before p) (beyond j t f p x)
   beyond-later f p x = all-map (Longer p) (Before p) (longer-before p) (beyond j t f p x) (beyond-longer f p x)

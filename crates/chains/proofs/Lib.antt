@@ -1,4 +1,5 @@
--- Laws of chains, for the crates that follow them; then the theorems that the list of chains holds exactly the chains, in dictionary order.
+-- Laws of chains, for the crates that follow them; then the theorems that the list of chains holds exactly the chains,
+-- in dictionary order.
 pub mod StepLaws
 pub mod ShowsLaws
 pub mod ChainMaps

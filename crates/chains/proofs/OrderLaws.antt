@@ -1,4 +1,5 @@
--- The order of chains is a dictionary order: a list comes before its extensions and the lower number before the higher, and the order is irreflexive, transitive and total. With laws of lists that are in order, for ChainsSorted.
+-- The order of chains is a dictionary order: a list comes before its extensions and the lower number before the higher,
+-- and the order is irreflexive, transitive and total. With laws of lists that are in order, for ChainsSorted.
 use Prim.Native.Nat.{ℕ, zero, suc, _<_, suc-le-suc}
 use native.Mathlib.Omega.{arith}
 use mathlib.Core.Path.{_≡_, refl, sym, ap, _∙_}
@@ -47,7 +48,8 @@ before-total [] (y ∷ d) = inr (inl tt)
 before-total (x ∷ c) [] = inr (inr tt)
 before-total (x ∷ c) (y ∷ d) = by-heads (compared x y) (before-total c d)
   where
-    by-heads : (x ≡ y) ⊎ ((x < y) ⊎ (y < x)) → (c ≡ d) ⊎ (Before c d ⊎ Before d c) → ((x ∷ c) ≡ (y ∷ d)) ⊎ (Before (x ∷ c) (y ∷ d) ⊎ Before (y ∷ d) (x ∷ c))
+    by-heads : (x ≡ y) ⊎ ((x < y) ⊎ (y < x)) → (c ≡ d) ⊎ (Before c d ⊎ Before d c) → ((x ∷ c) ≡ (y ∷ d))
+        ⊎ (Before (x ∷ c) (y ∷ d) ⊎ Before (y ∷ d) (x ∷ c))
     by-heads (inl e) (inl r) = inl (cc)
     by-heads (inl e) (inr (inl h)) = inr (inl (inr (e, h)))
     by-heads (inl e) (inr (inr h)) = inr (inr (inr (sym e, h)))
@@ -55,9 +57,11 @@ before-total (x ∷ c) (y ∷ d) = by-heads (compared x y) (before-total c d)
     by-heads (inr (inr l)) r = inr (inr (inl l))
 
 -- two lists in order, one after the other, are in order if each of the first comes before each of the second
-pub in-order-append : (k l : List (List ℕ)) → Sorted k → Sorted l → All (λ (c : List ℕ). All (Before c) l) k → Sorted (k ++ l)
+pub in-order-append : (k l : List (List ℕ)) → Sorted k → Sorted l → All (λ (c : List ℕ). All (Before c) l) k
+    → Sorted (k ++ l)
 in-order-append [] l hk hl across = hl
-in-order-append (c ∷ k) l hk hl across = (all-append (Before c) k l (hk .0) (across .0), in-order-append k l (hk .1) hl (across .1))
+in-order-append (c ∷ k) l hk hl across =
+    (all-append (Before c) k l (hk .0) (across .0), in-order-append k l (hk .1) hl (across .1))
 
 -- what is in order holds nothing twice
 pub sorted-once : (l : List (List ℕ)) → Sorted l → Once l

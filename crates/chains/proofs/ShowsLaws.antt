@@ -1,4 +1,5 @@
--- Laws of showing a winding: the test `shows` answers exactly what `Shows` says, and the two ends of a winding may be exchanged.
+-- Laws of showing a winding: the test `shows` answers exactly what `Shows` says, and the two ends of a winding may be
+-- exchanged.
 use Prim.Native.Nat.{ℕ}
 use mathlib.Core.Path.{_≡_, refl, sym, ap}
 use mathlib.Core.Logic.{_⊎_, inl, inr, ⊎-map, ⊎-elim}
@@ -18,29 +19,40 @@ same-pair a b x y h =
     cc (eqb-true x a (e .0), eqb-true y b (e .1))
 
 pair-same : (a b x y : ℕ) → _≡_ {A = ℕ × ℕ} (a, b) (x, y) → (eqb x a && eqb y b) ≡ true
-pair-same a b x y e = true-both (eq-eqb x a (ap (λ (s : ℕ × ℕ). s .0) (sym e))) (eq-eqb y b (ap (λ (s : ℕ × ℕ). s .1) (sym e)))
+pair-same a b x y e =
+    true-both (eq-eqb x a (ap (λ (s : ℕ × ℕ). s .0) (sym e))) (eq-eqb y b (ap (λ (s : ℕ × ℕ). s .1) (sym e)))
 
 crosses-either : (a b : ℕ) (s : ℕ × ℕ) → crosses a b (s .0) (s .1) ≡ true → ((a, b) ≡ s) ⊎ ((b, a) ≡ s)
 unfolding crosses
-crosses-either a b s h = ⊎-map (same-pair a b (s .0) (s .1)) (same-pair b a (s .0) (s .1)) (either-true (eqb (s .0) a && eqb (s .1) b) (eqb (s .0) b && eqb (s .1) a) h)
+crosses-either a b s h =
+    ⊎-map (same-pair a b (s .0) (s .1)) (same-pair b a (s .0) (s .1))
+    (either-true (eqb (s .0) a && eqb (s .1) b) (eqb (s .0) b && eqb (s .1) a) h)
 
 either-crosses : (a b : ℕ) (s : ℕ × ℕ) → ((a, b) ≡ s) ⊎ ((b, a) ≡ s) → crosses a b (s .0) (s .1) ≡ true
 unfolding crosses
-either-crosses a b s e = true-either (eqb (s .0) a && eqb (s .1) b) (eqb (s .0) b && eqb (s .1) a) (⊎-map (pair-same a b (s .0) (s .1)) (pair-same b a (s .0) (s .1)) e)
+either-crosses a b s e =
+    true-either (eqb (s .0) a && eqb (s .1) b) (eqb (s .0) b && eqb (s .1) a)
+    (⊎-map (pair-same a b (s .0) (s .1)) (pair-same b a (s .0) (s .1)) e)
 
 some-crosses-member : (a b : ℕ) (l : List (ℕ × ℕ)) → someCrosses a b l ≡ true → ((a, b) ∈ l) ⊎ ((b, a) ∈ l)
 unfolding someCrosses
 some-crosses-member a b [] h = absurd (false≢true h)
-some-crosses-member a b (s ∷ l) h = ⊎-elim (λ e. ⊎-map inl inl (crosses-either a b s e)) (λ m. ⊎-map inr inr (some-crosses-member a b l m)) (either-true (crosses a b (s .0) (s .1)) (someCrosses a b l) h)
+some-crosses-member a b (s ∷ l) h =
+    ⊎-elim (λ e. ⊎-map inl inl (crosses-either a b s e)) (λ m. ⊎-map inr inr (some-crosses-member a b l m))
+    (either-true (crosses a b (s .0) (s .1)) (someCrosses a b l) h)
 
 member-some-crosses : (a b : ℕ) (l : List (ℕ × ℕ)) → ((a, b) ∈ l) ⊎ ((b, a) ∈ l) → someCrosses a b l ≡ true
 unfolding someCrosses
 member-some-crosses a b [] (inl m) = absurd m
 member-some-crosses a b [] (inr m) = absurd m
-member-some-crosses a b (s ∷ l) (inl (inl e)) = true-either (crosses a b (s .0) (s .1)) (someCrosses a b l) (inl (either-crosses a b s (inl e)))
-member-some-crosses a b (s ∷ l) (inl (inr m)) = true-either (crosses a b (s .0) (s .1)) (someCrosses a b l) (inr (member-some-crosses a b l (inl m)))
-member-some-crosses a b (s ∷ l) (inr (inl e)) = true-either (crosses a b (s .0) (s .1)) (someCrosses a b l) (inl (either-crosses a b s (inr e)))
-member-some-crosses a b (s ∷ l) (inr (inr m)) = true-either (crosses a b (s .0) (s .1)) (someCrosses a b l) (inr (member-some-crosses a b l (inr m)))
+member-some-crosses a b (s ∷ l) (inl (inl e)) =
+    true-either (crosses a b (s .0) (s .1)) (someCrosses a b l) (inl (either-crosses a b s (inl e)))
+member-some-crosses a b (s ∷ l) (inl (inr m)) =
+    true-either (crosses a b (s .0) (s .1)) (someCrosses a b l) (inr (member-some-crosses a b l (inl m)))
+member-some-crosses a b (s ∷ l) (inr (inl e)) =
+    true-either (crosses a b (s .0) (s .1)) (someCrosses a b l) (inl (either-crosses a b s (inr e)))
+member-some-crosses a b (s ∷ l) (inr (inr m)) =
+    true-either (crosses a b (s .0) (s .1)) (someCrosses a b l) (inr (member-some-crosses a b l (inr m)))
 
 module _ (a b : ℕ) (c : List ℕ) where
   pub shows-true : shows a b c ≡ true → Shows a b c
@@ -56,7 +68,8 @@ module _ (a b : ℕ) (c : List ℕ) where
 some-crosses-turned : (a b : ℕ) (l : List (ℕ × ℕ)) → someCrosses a b l ≡ someCrosses b a l
 unfolding someCrosses crosses
 some-crosses-turned a b [] = refl
-some-crosses-turned a b (s ∷ l) = cc (or-comm (eqb (s .0) a && eqb (s .1) b) (eqb (s .0) b && eqb (s .1) a), some-crosses-turned a b l)
+some-crosses-turned a b (s ∷ l) =
+    cc (or-comm (eqb (s .0) a && eqb (s .1) b) (eqb (s .0) b && eqb (s .1) a), some-crosses-turned a b l)
 
 pub shows-turned : (a b : ℕ) (c : List ℕ) → shows a b c ≡ shows b a c
 unfolding shows beside

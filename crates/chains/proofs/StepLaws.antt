@@ -1,4 +1,5 @@
--- Laws of a chain's steps, its ending, its members and its sides when one terminal is added at its end: what the walk needs to go on by one.
+-- Laws of a chain's steps, its ending, its members and its sides when one terminal is added at its end: what the walk
+-- needs to go on by one.
 use Prim.Native.Nat.{ℕ}
 use mathlib.Core.Path.{_≡_, refl, sym, ap, _∙_}
 use mathlib.Core.Logic.{inl, inr, ⊎-map}
@@ -19,18 +20,24 @@ pub ending-next : (p : List ℕ) (n : ℕ) → ending (p ++ (n ∷ [])) ≡ n
 ending-next [] n = refl
 ending-next (x ∷ p) n = ending-from-next x p n
 
-pub steps-next : (x : ℕ) (p : List ℕ) (n : ℕ) → steps ((x ∷ p) ++ (n ∷ [])) ≡ steps (x ∷ p) ++ ((ending (x ∷ p), n) ∷ [])
+pub steps-next : (x : ℕ) (p : List ℕ) (n : ℕ) → steps ((x ∷ p) ++ (n ∷ [])) ≡ steps (x ∷ p)
+    ++ ((ending (x ∷ p), n) ∷ [])
 steps-next x [] n = refl
 steps-next x (y ∷ p) n = ap {B = List (ℕ × ℕ)} (λ l. (x, y) ∷ l) (steps-next y p n)
 
-some-crosses-next : (a b : ℕ) (l : List (ℕ × ℕ)) (x y : ℕ) → someCrosses a b (l ++ ((x, y) ∷ [])) ≡ (someCrosses a b l || crosses a b x y)
+some-crosses-next : (a b : ℕ) (l : List (ℕ × ℕ)) (x y : ℕ)
+    → someCrosses a b (l ++ ((x, y) ∷ [])) ≡ (someCrosses a b l || crosses a b x y)
 unfolding someCrosses
 some-crosses-next a b [] x y = or-false (crosses a b x y)
-some-crosses-next a b (s ∷ l) x y = rw (some-crosses-next a b l x y) (sym (or-assoc (crosses a b (s .0) (s .1)) (someCrosses a b l) (crosses a b x y)))
+some-crosses-next a b (s ∷ l) x y =
+    rw (some-crosses-next a b l x y)
+    (sym (or-assoc (crosses a b (s .0) (s .1)) (someCrosses a b l) (crosses a b x y)))
 
-pub beside-next : (a b x : ℕ) (p : List ℕ) (n : ℕ) → beside a b ((x ∷ p) ++ (n ∷ [])) ≡ (beside a b (x ∷ p) || crosses a b (ending (x ∷ p)) n)
+pub beside-next : (a b x : ℕ) (p : List ℕ) (n : ℕ)
+    → beside a b ((x ∷ p) ++ (n ∷ [])) ≡ (beside a b (x ∷ p) || crosses a b (ending (x ∷ p)) n)
 unfolding beside
-beside-next a b x p n = ap (someCrosses a b) (steps-next x p n) ∙ some-crosses-next a b (steps (x ∷ p)) (ending (x ∷ p)) n
+beside-next a b x p n =
+    ap (someCrosses a b) (steps-next x p n) ∙ some-crosses-next a b (steps (x ∷ p)) (ending (x ∷ p)) n
 
 pub isIn-member : (n : ℕ) (p : List ℕ) → isIn n p ≡ true → n ∈ p
 unfolding isIn

@@ -1,4 +1,5 @@
--- The list of all chains, and the test whether a chain shows a winding: what the walk follows. In these, j x y tests whether x and y are joined.
+-- The list of all chains, and the test whether a chain shows a winding: what the walk follows. In these, j x y tests
+-- whether x and y are joined.
 --     Tested j x y         the test says that x and y are joined
 --     isIn n p             n is among the terminals p
 --     canFollow j p x n         a chain p that ends at x can go on to n: n is joined to x and not yet in p
@@ -8,7 +9,9 @@
 --     crosses a b x y      the step from x to y goes from a to b or from b to a
 --     beside a b c         a and b stand side by side in c, in either order
 --     shows a b c          c ends at 1 and has a and b side by side
--- proofs/ChainsCorrect, ChainsComplete and ChainsSorted show that these are exactly the chains of Chains.antt, in dictionary order, each once. Document 000 gives two definitions of its available paths and leaves their equivalence as "should be proved"; ours is proved.
+-- proofs/ChainsCorrect, ChainsComplete and ChainsSorted show that these are exactly the chains of Chains.antt, in
+-- dictionary order, each once. Document 000 gives two definitions of its available paths and leaves their equivalence
+-- as "should be proved"; ours is proved.
 use Prim.Native.Nat.{ℕ, zero, suc, _-_}
 use mathlib.Core.Path.{_≡_}
 use mathlib.Core.Bool.{Bool, true, false, cond, not, _&&_, _||_}
@@ -32,7 +35,9 @@ tries go ok (suc k) n = cond (ok n) (go n) [] ++ tries go ok k (suc n)
 
 unfoldable pub beyond : (ℕ → ℕ → Bool) → ℕ → ℕ → List ℕ → ℕ → List (List ℕ)
 beyond j t zero p x = []
-beyond j t (suc f) p x = cond (eqb x minus) [] (tries (λ (n : ℕ). (p ++ (n ∷ [])) ∷ beyond j t f (p ++ (n ∷ [])) n) (canFollow j p x) t 0)
+beyond j t (suc f) p x =
+    cond (eqb x minus) [] (tries (λ (n : ℕ). (p ++ (n ∷ [])) ∷ beyond j t f (p ++ (n ∷ [])) n) (canFollow j p x) t
+    0)
 
 unfoldable pub chains : (ℕ → ℕ → Bool) → ℕ → List (List ℕ)
 chains j t = (plus ∷ []) ∷ beyond j t (t - 1) (plus ∷ []) plus

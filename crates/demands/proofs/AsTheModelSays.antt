@@ -1,7 +1,8 @@
 -- Demand 2: each field is a theorem of a wing.
 use Rattle.file_means.proofs.RoundTrip.{write-then-read, read-then-write}
 use Rattle.judge_means.proofs.Circuits.{paths-are-chains}
-use Rattle.judge_means.proofs.Exactness.{the-chains, live-exactly, dead-exactly, undecided-exactly, live-shows, dead-counts, undecided-reports, as-published}
+use Rattle.judge_means.proofs.Exactness.{the-chains, live-exactly, dead-exactly, undecided-exactly, live-shows}
+use Rattle.judge_means.proofs.Exactness.{dead-counts, undecided-reports, as-published}
 use Rattle.judge_means.proofs.Eleven.{the-winding}
 use Rattle.moves_means.proofs.SingleMoves.{move-exactly}
 use Rattle.moves_means.proofs.ByChains.{regular-by-chains, steel-by-chains}

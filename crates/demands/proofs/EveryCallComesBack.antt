@@ -22,44 +22,89 @@ use Rattle.session.specs.Carried.{toldSession}
 use Rattle.session.specs.HandingOut.{Handed}
 use Rattle.session.proofs.ToldLaws.{told-session-injective}
 use Rattle.demands.specs.EveryCallComesBack.{against, InOrder, AsLent, EveryCallComesBack}
-use Rattle.demands.proofs.FirstNoLaws.{runnable-first, movable-first, pressable-first, release-first, judgeable-first, writing-first, number-first, number-lent, line-text-first, line-text-lent}
-use Rattle.demands.proofs.RefusedLaws.{left-outcome, left-refused, against-then, nothing-written, verdict-against, verdict-refused, ran-against, ran-refused, handing-against, handing-refused}
+use Rattle.demands.proofs.FirstNoLaws.{runnable-first, movable-first, pressable-first, release-first}
+use Rattle.demands.proofs.FirstNoLaws.{judgeable-first, writing-first, number-first, number-lent}
+use Rattle.demands.proofs.FirstNoLaws.{line-text-first, line-text-lent}
+use Rattle.demands.proofs.RefusedLaws.{left-outcome, left-refused, against-then, nothing-written}
+use Rattle.demands.proofs.RefusedLaws.{verdict-against, verdict-refused, ran-against, ran-refused}
+use Rattle.demands.proofs.RefusedLaws.{handing-against, handing-refused}
 
 in-order : InOrder
 unfolding pushing releasing judging moving running
 in-order = record {
   reads = file-refused;
   eleven = eleven-exactly;
-  writes-number = λ v out out′ at x wrote. ap (λ (y : Outcome ℕ × List ℕ). against (y .0)) wrote ∙ number-first v out at;
-  writes-line = λ l out out′ x wrote. ap (λ (y : Outcome ℕ × List ℕ). against (y .0)) wrote ∙ line-text-first (toldLine l) out;
+  writes-number =
+      λ v out out′ at x wrote. ap (λ (y : Outcome ℕ × List ℕ). against (y .0)) wrote ∙ number-first v out at;
+  writes-line =
+      λ l out out′ x wrote. ap (λ (y : Outcome ℕ × List ℕ). against (y .0)) wrote
+      ∙ line-text-first (toldLine l) out;
   writes = λ b out out′ w wrote. ap (λ (x : Outcome ℕ × List ℕ). against (x .0)) wrote ∙ writing-first b out;
-  pushes = λ b s n x pressed. ap (λ (y : State × Outcome (Unit {0})). y .1) pressed ∙ left-outcome s _ (pressable b s n (isPushed s n)) ∙ pressable-first b s n (isPushed s n);
-  releases = λ b s n x pressed. ap (λ (y : State × Outcome (Unit {0})). y .1) pressed ∙ left-outcome s _ _ ∙ release-first b s n;
-  judges = λ b s r k w v judged. ap (λ (j : Verdict). against (j .finding)) judged ∙ verdict-against b s w (windingFor b s r k) ∙ judgeable-first b s r k;
-  moves = λ b s r w a moved. ap (λ (y : State × Outcome Move). against (y .1)) moved ∙ ap against (left-outcome s (made s r) (movable b s r >> given (stepOf b s r w))) ∙ against-then (movable b s r) (stepOf b s r w) ∙ movable-first b s r;
-  runs = λ b s w log log′ a ran. ap (λ (t : Ran). against (t .word)) ran ∙ ran-against b s w log (runnable b s log) ∙ runnable-first b s log;
-  hands = λ z s out out′ r called. ap (λ (h : Handed). against (h .answer)) called ∙ handing-against (toldSession z) s out;
+  pushes =
+      λ b s n x pressed. ap (λ (y : State × Outcome (Unit {0})). y .1) pressed
+      ∙ left-outcome s _ (pressable b s n (isPushed s n)) ∙ pressable-first b s n (isPushed s n);
+  releases =
+      λ b s n x pressed. ap (λ (y : State × Outcome (Unit {0})). y .1) pressed ∙ left-outcome s _ _
+      ∙ release-first b s n;
+  judges =
+      λ b s r k w v judged. ap (λ (j : Verdict). against (j .finding)) judged
+      ∙ verdict-against b s w (windingFor b s r k) ∙ judgeable-first b s r k;
+  moves =
+      λ b s r w a moved. ap (λ (y : State × Outcome Move). against (y .1)) moved
+      ∙ ap against (left-outcome s (made s r) (movable b s r >> given (stepOf b s r w)))
+      ∙ against-then (movable b s r) (stepOf b s r w) ∙ movable-first b s r;
+  runs =
+      λ b s w log log′ a ran. ap (λ (t : Ran). against (t .word)) ran ∙ ran-against b s w log (runnable b s log)
+      ∙ runnable-first b s log;
+  hands =
+      λ z s out out′ r called. ap (λ (h : Handed). against (h .answer)) called
+      ∙ handing-against (toldSession z) s out;
 }
 
 as-lent : AsLent
 unfolding judging moving running
 as-lent = record {
-  reads = λ s r n p read told. reading-refused s (r .board) n p (sym read ∙ ap {B = Board × Outcome ℕ} (λ o. (r .board, o)) told);
-  writes-number = λ v out out′ at x n p wrote told. ap (λ (y : Outcome ℕ × List ℕ). y .1) wrote ∙ number-lent v out at (sym (ap (λ (y : Outcome ℕ × List ℕ). y .0) wrote) ∙ told);
-  writes-line = λ l out out′ x n p wrote told. ap (λ (y : Outcome ℕ × List ℕ). y .1) wrote ∙ line-text-lent (toldLine l) out (sym (ap (λ (y : Outcome ℕ × List ℕ). y .0) wrote) ∙ told);
-  writes = λ b out out′ w n p wrote told. (writing-refused b out n p out′ (sym wrote ∙ ap {B = Outcome ℕ × List ℕ} (λ o. (o, out′)) told) .0, nothing-written w n p told);
-  pushes = λ b s k x n p pressed told. push-refused b s (x .state) k n p (sym pressed ∙ ap {B = State × Outcome (Unit {0})} (λ o. (x .state, o)) told) .0;
-  releases = λ b s k x n p pressed told. release-refused b s (x .state) k n p (sym pressed ∙ ap {B = State × Outcome (Unit {0})} (λ o. (x .state, o)) told) .0;
+  reads =
+      λ s r n p read told. reading-refused s (r .board) n p
+      (sym read ∙ ap {B = Board × Outcome ℕ} (λ o. (r .board, o)) told);
+  writes-number =
+      λ v out out′ at x n p wrote told. ap (λ (y : Outcome ℕ × List ℕ). y .1) wrote
+      ∙ number-lent v out at (sym (ap (λ (y : Outcome ℕ × List ℕ). y .0) wrote) ∙ told);
+  writes-line =
+      λ l out out′ x n p wrote told. ap (λ (y : Outcome ℕ × List ℕ). y .1) wrote ∙ line-text-lent (toldLine l) out
+      (sym (ap (λ (y : Outcome ℕ × List ℕ). y .0) wrote) ∙ told);
+  writes =
+      λ b out out′ w n p wrote told. (
+        writing-refused b out n p out′ (sym wrote ∙ ap {B = Outcome ℕ × List ℕ} (λ o. (o, out′)) told) .0,
+        nothing-written w n p told,
+      );
+  pushes =
+      λ b s k x n p pressed told. push-refused b s (x .state) k n p
+      (sym pressed ∙ ap {B = State × Outcome (Unit {0})} (λ o. (x .state, o)) told) .0;
+  releases =
+      λ b s k x n p pressed told. release-refused b s (x .state) k n p
+      (sym pressed ∙ ap {B = State × Outcome (Unit {0})} (λ o. (x .state, o)) told) .0;
   judges = λ b s r k w v n p judged told.
-      let none = judged ∙ verdict-refused b s w (windingFor b s r k) n p (sym (ap (λ (j : Verdict). j .finding) judged) ∙ told) in
-      (ap (λ (j : Verdict). j .effort) none, (ap (λ (j : Verdict). j .length) none, ap (λ (j : Verdict). j .places) none));
-  moves = λ b s r w a n p moved told. ap (λ (y : State × Outcome Move). y .0) moved ∙ left-refused s (made s r) _ n p (sym (ap (λ (y : State × Outcome Move). y .1) moved) ∙ told);
+      let none =
+      judged ∙ verdict-refused b s w (windingFor b s r k) n p
+      (sym (ap (λ (j : Verdict). j .finding) judged) ∙ told) in (
+        ap (λ (j : Verdict). j .effort) none,
+        (ap (λ (j : Verdict). j .length) none, ap (λ (j : Verdict). j .places) none),
+      );
+  moves =
+      λ b s r w a n p moved told. ap (λ (y : State × Outcome Move). y .0) moved ∙ left-refused s (made s r) _ n p
+      (sym (ap (λ (y : State × Outcome Move). y .1) moved) ∙ told);
   runs = λ b s w log log′ a n p ran told.
-      let none = ran ∙ ran-refused b s w log (runnable b s log) n p (sym (ap (λ (t : Ran). t .word) ran) ∙ told) in
-      (ap (λ (t : Ran). t .state) none, (ap (λ (t : Ran). t .moves) none, (ap (λ (t : Ran). t .relay) none, ap (λ (t : Ran). t .log) none)));
+      let none = ran ∙ ran-refused b s w log (runnable b s log) n p (sym (ap (λ (t : Ran). t .word) ran) ∙ told) in (
+        ap (λ (t : Ran). t .state) none,
+        (ap (λ (t : Ran). t .moves) none, (ap (λ (t : Ran). t .relay) none, ap (λ (t : Ran). t .log) none)),
+      );
   hands = λ z s out out′ r n p called told.
-      let kept = handing-refused (toldSession z) s out n p (sym (ap (λ (h : Handed). h .answer) called) ∙ told) in
-      (told-session-injective (r .session) z (ap (λ (h : Handed). h .session) called ∙ kept .0), ap (λ (h : Handed). h .out) called ∙ kept .1);
+      let kept = handing-refused (toldSession z) s out n p (sym (ap (λ (h : Handed). h .answer) called) ∙ told) in (
+        told-session-injective (r .session) z (ap (λ (h : Handed). h .session) called ∙ kept .0),
+        ap
+            (λ (h : Handed). h .out) called ∙ kept .1,
+      );
 }
 
 pub every-call-comes-back : EveryCallComesBack

@@ -7,7 +7,8 @@ use lib.Dec.{ltb, leb}
 use lib.ListN.{length, drop}
 use lib.Seq.{sets}
 use Rattle.number.specs.Outcomes.{Outcome, given, refused, _>>_, unless}
-use Rattle.number.specs.Refusals.{badForm, noSuchName, noSuchWinding, alreadySo, logTooLong, brokenBoard, bufferTooShort}
+use Rattle.number.specs.Refusals.{badForm, noSuchName, noSuchWinding, alreadySo, logTooLong, brokenBoard}
+use Rattle.number.specs.Refusals.{bufferTooShort}
 use Rattle.number.specs.Numbers.{largest, numberBytes, numberWriting}
 use Rattle.number.proofs.OutcomeLaws.{refused-never}
 use Rattle.board.specs.declared.Board.{Board}
@@ -25,10 +26,12 @@ use Rattle.judge.proofs.SoughtLaws.{winding-refused}
 use Rattle.moves.specs.Moving.{movable}
 use Rattle.runs.specs.Running.{longestLog, runnable}
 use Rattle.lines.specs.Lines.{Line, lineText, longestLine, lineWriting}
-use Rattle.demands.specs.EveryCallComesBack.{against, firstNo, isGiven, writeLines, usableLines, runLines, judgeLines, moveLines, releaseLines, numberLines, lineLines}
+use Rattle.demands.specs.EveryCallComesBack.{against, firstNo, isGiven, writeLines, usableLines, runLines}
+use Rattle.demands.specs.EveryCallComesBack.{judgeLines, moveLines, releaseLines, numberLines, lineLines}
 
 -- a line, and those after it
-pub line-first : (t : Bool) (n : ℕ) (o : Outcome (Unit {0})) (ls : List (Bool × ℕ)) → o ≡ firstNo ls → (unless t n 0 >> o) ≡ firstNo ((t, n) ∷ ls)
+pub line-first : (t : Bool) (n : ℕ) (o : Outcome (Unit {0})) (ls : List (Bool × ℕ)) → o ≡ firstNo ls
+    → (unless t n 0 >> o) ≡ firstNo ((t, n) ∷ ls)
 unfolding firstNo
 line-first true n o ls rest = rest
 line-first false n o ls rest = refl
@@ -38,14 +41,18 @@ unfolding firstNo
 line-last true n = refl
 line-last false n = refl
 
-both-after : (t u : Bool) (m n : ℕ) (o : Outcome (Unit {0})) → ((unless t m 0 >> unless u n 0) >> o) ≡ (unless t m 0 >> (unless u n 0 >> o))
+both-after : (t u : Bool) (m n : ℕ) (o : Outcome (Unit {0}))
+    → ((unless t m 0 >> unless u n 0) >> o) ≡ (unless t m 0 >> (unless u n 0 >> o))
 both-after true u m n o = refl
 both-after false u m n o = refl
 
 -- 15 and 14, and the lines after them
-pub usable-first : (b : Board) (s : State) (o : Outcome (Unit {0})) (ls : List (Bool × ℕ)) → o ≡ firstNo ls → (usable b s >> o) ≡ firstNo (usableLines b s ls)
+pub usable-first : (b : Board) (s : State) (o : Outcome (Unit {0})) (ls : List (Bool × ℕ)) → o ≡ firstNo ls
+    → (usable b s >> o) ≡ firstNo (usableLines b s ls)
 unfolding usable
-usable-first b s o ls rest = both-after (boardFine b) (stateFine (b .counts) s) _ _ o ∙ line-first (boardFine b) _ _ _ (line-first (stateFine (b .counts) s) _ o ls rest)
+usable-first b s o ls rest =
+    both-after (boardFine b) (stateFine (b .counts) s) _ _ o
+    ∙ line-first (boardFine b) _ _ _ (line-first (stateFine (b .counts) s) _ o ls rest)
 
 module _ (b : Board) (s : State) where
   pub runnable-first : (log : List ℕ) → runnable b s log ≡ firstNo (runLines b s log)
@@ -56,7 +63,8 @@ module _ (b : Board) (s : State) where
   unfolding movable
   movable-first r = usable-first b s _ _ (line-last _ noSuchWinding)
 
-  pub pressable-first : (n : ℕ) (already : Bool) → pressable b s n already ≡ firstNo (usableLines b s ((ltb n (b .counts .buttons), noSuchName) ∷ (not already, alreadySo) ∷ []))
+  pub pressable-first : (n : ℕ) (already : Bool) → pressable b s n already ≡ firstNo
+      (usableLines b s ((ltb n (b .counts .buttons), noSuchName) ∷ (not already, alreadySo) ∷ []))
   unfolding pressable
   pressable-first n already = usable-first b s _ _ (line-first _ noSuchName _ _ (line-last (not already) alreadySo))
 
@@ -65,20 +73,27 @@ module _ (b : Board) (s : State) where
   not-not false = refl
 
   pub release-first : (n : ℕ) → pressable b s n (not (isPushed s n)) ≡ firstNo (releaseLines b s n)
-  release-first n = pressable-first n (not (isPushed s n)) ∙ ap (λ (t : Bool). firstNo (usableLines b s ((ltb n (b .counts .buttons), noSuchName) ∷ (t, alreadySo) ∷ []))) (not-not (isPushed s n))
+  release-first n =
+      pressable-first n (not (isPushed s n))
+      ∙ ap
+      (λ (t : Bool). firstNo (usableLines b s ((ltb n (b .counts .buttons), noSuchName) ∷ (t, alreadySo) ∷ [])))
+      (not-not (isPushed s n))
 
   against-after : (o : Outcome (Unit {0})) (q : Outcome Winding) → against (o >> q) ≡ (o >> against q)
   against-after (given u) q = refl
   against-after (refused n p) q = refl
 
-  winding-by : (k : Which) (r : ℕ) (o : Outcome Winding) → windingOf k r (partsOf b) ≡ o → against o ≡ firstNo ((isGiven o, noSuchWinding) ∷ [])
+  winding-by : (k : Which) (r : ℕ) (o : Outcome Winding) → windingOf k r (partsOf b) ≡ o
+      → against o ≡ firstNo ((isGiven o, noSuchWinding) ∷ [])
   unfolding firstNo
   winding-by k r (given v) e = refl
   winding-by k r (refused n p) e = ap against (sym e ∙ winding-refused k r (partsOf b) n p e)
 
   pub judgeable-first : (r : ℕ) (k : Which) → against (windingFor b s r k) ≡ firstNo (judgeLines b s r k)
   unfolding windingFor
-  judgeable-first r k = against-after (usable b s) (windingOf k r (partsOf b)) ∙ usable-first b s _ _ (winding-by k r (windingOf k r (partsOf b)) refl)
+  judgeable-first r k =
+      against-after (usable b s) (windingOf k r (partsOf b))
+      ∙ usable-first b s _ _ (winding-by k r (windingOf k r (partsOf b)) refl)
 
 -- ---- writing into a buffer: k bytes are written and it becomes l, unless a line stands against it
 module _ (k : ℕ) (l out : List ℕ) where
@@ -102,7 +117,8 @@ module _ (k : ℕ) (l out : List ℕ) where
   one-lent true n e = absurd (refused-never _ _ k (sym e))
   one-lent false n e = refl
 
-  two-lent : (t : Bool) (m : ℕ) (u : Bool) (n : ℕ) {i p : ℕ} → afterTwo t m u n .0 ≡ refused i p → afterTwo t m u n .1 ≡ out
+  two-lent : (t : Bool) (m : ℕ) (u : Bool) (n : ℕ) {i p : ℕ} → afterTwo t m u n .0 ≡ refused i p
+      → afterTwo t m u n .1 ≡ out
   two-lent true m u n e = one-lent u n e
   two-lent false m u n e = refl
 
@@ -110,18 +126,25 @@ pub writing-first : (b : Board) (out : List ℕ) → against (writing b out .0) 
 unfolding writing
 writing-first b out = two-first _ _ out (boardFine b) brokenBoard _ bufferTooShort
 
-pub number-first : (v : ℕ) (out : List ℕ) (at : ℕ) → against (numberWriting v out at .0) ≡ firstNo (numberLines v out at)
+pub number-first : (v : ℕ) (out : List ℕ) (at : ℕ) → against (numberWriting v out at .0) ≡ firstNo
+    (numberLines v out at)
 unfolding numberWriting
 number-first v out at = two-first _ _ out (leb v largest) badForm _ bufferTooShort
 
-pub number-lent : (v : ℕ) (out : List ℕ) (at : ℕ) {i p : ℕ} → numberWriting v out at .0 ≡ refused i p → numberWriting v out at .1 ≡ out
+pub number-lent : (v : ℕ) (out : List ℕ) (at : ℕ) {i p : ℕ} → numberWriting v out at .0 ≡ refused i p
+    → numberWriting v out at .1 ≡ out
 unfolding numberWriting
-number-lent v out at e = two-lent (at + length (numberBytes v)) (sets out at (numberBytes v)) out (leb v largest) badForm (leb (at + length (numberBytes v)) (length out)) bufferTooShort e
+number-lent v out at e =
+    two-lent (at + length (numberBytes v)) (sets out at (numberBytes v)) out (leb v largest) badForm
+    (leb (at + length (numberBytes v)) (length out)) bufferTooShort e
 
 pub line-text-first : (l : Line) (out : List ℕ) → against (lineWriting l out .0) ≡ firstNo (lineLines out)
 unfolding lineWriting
 line-text-first l out = one-first _ _ out (leb longestLine (length out)) bufferTooShort
 
-pub line-text-lent : (l : Line) (out : List ℕ) {i p : ℕ} → lineWriting l out .0 ≡ refused i p → lineWriting l out .1 ≡ out
+pub line-text-lent : (l : Line) (out : List ℕ) {i p : ℕ} → lineWriting l out .0 ≡ refused i p
+    → lineWriting l out .1 ≡ out
 unfolding lineWriting
-line-text-lent l out e = one-lent (length (lineText l)) (lineText l ++ drop (length (lineText l)) out) out (leb longestLine (length out)) bufferTooShort e
+line-text-lent l out e =
+    one-lent (length (lineText l)) (lineText l ++ drop (length (lineText l)) out) out (leb longestLine (length out))
+    bufferTooShort e

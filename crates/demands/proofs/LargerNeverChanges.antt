@@ -4,4 +4,5 @@ use Rattle.runs_means.proofs.LongerRuns.{longer-run}
 use Rattle.demands.specs.LargerNeverChanges.{LargerNeverChanges}
 
 pub larger-never-changes : LargerNeverChanges
-larger-never-changes = record { judges = larger-allowance; turns = turns-at-effort; effort = effort-some-always; runs = longer-run }
+larger-never-changes =
+    record { judges = larger-allowance; turns = turns-at-effort; effort = effort-some-always; runs = longer-run }

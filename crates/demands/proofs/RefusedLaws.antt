@@ -23,7 +23,7 @@ use Rattle.runs.specs.Runs.{noRelay}
 use Rattle.runs.specs.Running.{unrun, ran, ranOn}
 use Rattle.lines.specs.Lines.{longestLine}
 use Rattle.session.specs.Carried.{Session, Coming, line, no-line, nextOf}
-use Rattle.session.specs.HandingOut.{handedBy, handing}
+use Rattle.session.specs.HandingOut.{handedBy, nextLine}
 use Rattle.demands.specs.EveryCallComesBack.{against, firstNo, lineLines}
 
 -- ---- what a call leaves beside what it came to
@@ -55,7 +55,8 @@ weighed-given : (t : List ℕ → Bool) (cs : List (List ℕ)) (w : ℕ) → aga
 unfolding weighed
 weighed-given t cs w = by (leb (effort t cs) w)
   where
-    by : (within : Bool) → against ((cond within (settled (effort t cs) (firstShown t cs)) (unsettled w)) .finding) ≡ given tt
+    by : (within : Bool) → against ((cond within (settled (effort t cs) (firstShown t cs)) (unsettled w)) .finding)
+        ≡ given tt
     by true = settled-given (effort t cs) (firstShown t cs)
     by false = refl
 
@@ -68,7 +69,8 @@ module _ (b : Board) (s : State) (w : ℕ) where
   verdict-against (given v) = judged-given b s w v
   verdict-against (refused n p) = refl
 
-  pub verdict-refused : (o : Outcome Winding) (n p : ℕ) → verdictOn b s o w .finding ≡ refused n p → verdictOn b s o w ≡ unanswered n p
+  pub verdict-refused : (o : Outcome Winding) (n p : ℕ) → verdictOn b s o w .finding ≡ refused n p
+      → verdictOn b s o w ≡ unanswered n p
   verdict-refused (given v) n p e = absurd (refused-never n p tt (sym (ap against e) ∙ judged-given b s w v))
   verdict-refused (refused m q) n p e = λ i. record { finding = e i; effort = 0; length = 0; places = places [] }
 
@@ -80,7 +82,8 @@ module _ (b : Board) (s : State) (w : ℕ) where
     ran-against (given u) = refl
     ran-against (refused n p) = refl
 
-    pub ran-refused : (o : Outcome (Unit {0})) (n p : ℕ) → ranOn b s log o w .word ≡ refused n p → ranOn b s log o w ≡ unrun n p s log
+    pub ran-refused : (o : Outcome (Unit {0})) (n p : ℕ) → ranOn b s log o w .word ≡ refused n p
+        → ranOn b s log o w ≡ unrun n p s log
     unfolding ran
     ran-refused (given u) n p e = absurd (refused-never n p _ (sym e))
     ran-refused (refused m q) n p e = λ i. record { word = e i; moves = 0; state = s; relay = noRelay; log = log }
@@ -92,18 +95,26 @@ module _ (z : Session) (s out : List ℕ) where
   handed-given (y, line l) = refl
   handed-given (y, no-line) = refl
 
-  pub handing-against : against (handing z s out .answer) ≡ firstNo (lineLines out)
-  unfolding handing firstNo
+  pub handing-against : against (nextLine z s out .answer) ≡ firstNo (lineLines out)
+  unfolding nextLine firstNo
   handing-against = by (leb longestLine (length out))
     where
-      by : (t : Bool) → against ((cond t (handedBy (nextOf z s) out) (record { session = z; answer = refused bufferTooShort 0; out = out })) .answer) ≡ firstNo ((t, bufferTooShort) ∷ [])
+      by : (t : Bool)
+          → against
+          ((cond t (handedBy (nextOf z s) out)
+          (record { session = z; answer = refused bufferTooShort 0; out = out })) .answer) ≡ firstNo
+          ((t, bufferTooShort) ∷ [])
       by true = handed-given (nextOf z s)
       by false = refl
 
-  pub handing-refused : (n p : ℕ) → handing z s out .answer ≡ refused n p → (handing z s out .session ≡ z) × (handing z s out .out ≡ out)
-  unfolding handing
+  pub handing-refused : (n p : ℕ) → nextLine z s out .answer ≡ refused n p → (nextLine z s out .session ≡ z)
+      × (nextLine z s out .out ≡ out)
+  unfolding nextLine
   handing-refused n p = by (leb longestLine (length out))
     where
-      by : (t : Bool) → (let x = cond t (handedBy (nextOf z s) out) (record { session = z; answer = refused bufferTooShort 0; out = out }) in x .answer ≡ refused n p → (x .session ≡ z) × (x .out ≡ out))
+      by : (t : Bool)
+          → (let x = cond t (handedBy (nextOf z s) out)
+          (record { session = z; answer = refused bufferTooShort 0; out = out }) in
+          x .answer ≡ refused n p → (x .session ≡ z) × (x .out ≡ out))
       by true e = absurd (refused-never n p tt (sym (ap against e) ∙ handed-given (nextOf z s)))
       by false e = (refl, refl)

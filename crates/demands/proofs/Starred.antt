@@ -22,9 +22,24 @@ use Rattle.runs.specs.Running.{runnable, ran, running}
 use Rattle.lines.specs.Texts.{digitsOf, decimal}
 use Rattle.lines.specs.Lines.{lineText}
 use Rattle.events.specs.Events.{eventAt, pressing, ranLine, pressedLine, eventLine}
-use Rattle.session.specs.Sessions.{withAllowance, headAt, linesFrom, headLines, sessionLines, lineTexts, printed, sessionText}
+use Rattle.session.specs.Sessions.{withAllowance, headAt, linesFrom, headLines, sessionLines, lineTexts, printed}
+use Rattle.session.specs.Sessions.{sessionText}
 use Rattle.demands.specs.Starred.{Starred}
 
+-- one row after the other
+infixr 20 _&_
+_&_ : {A B : Type 0} → A → B → A × B
+a & b = (a, b)
+
 pub starred-boards : Starred
-unfolding kindOf below form placed numberAt member including excluding within every complete padded inRange countsFine nameFine partFits partFine partsFine boardFine stateFine usable left pressable pushing releasing wanted countsAt nameAt partAt partsAt boardFrom boardAt answered reading gathered neighbours isIn canFollow tries beyond chains crosses someCrosses beside shows firstShown effort places weighed verdictBy inSets windingOf windingFor judging regularMove steelMove moveBy findingOn stepBy stepOf movable moving lookFrom runOf runnable ran running digitsOf decimal lineText eventAt pressing ranLine pressedLine eventLine withAllowance headAt linesFrom headLines sessionLines lineTexts printed sessionText
-starred-boards = (refl, (refl, (refl, (refl, (refl, (refl, (refl, (refl, (refl, (refl, (refl, (refl, (refl, (refl, (refl, (refl, (refl, (refl, (refl, (refl, (refl, (refl, (refl, (refl, (refl, (refl, (refl, (refl, (refl, (refl, (refl, (refl, (refl, (refl, tt))))))))))))))))))))))))))))))))))
+unfolding kindOf below form placed numberAt member including excluding within every complete padded inRange
+    countsFine nameFine partFits partFine partsFine boardFine stateFine usable left pressable pushing releasing
+    wanted countsAt nameAt partAt partsAt boardFrom boardAt answered reading gathered neighbours isIn canFollow
+    tries beyond chains crosses someCrosses beside shows firstShown effort places weighed verdictBy inSets windingOf
+    windingFor judging regularMove steelMove moveBy findingOn stepBy stepOf movable moving lookFrom runOf runnable
+    ran running digitsOf decimal lineText eventAt pressing ranLine pressedLine eventLine withAllowance headAt
+    linesFrom headLines sessionLines lineTexts printed sessionText
+starred-boards =
+    refl & refl & refl & refl & refl & refl & refl & refl & refl & refl & refl & refl & refl & refl & refl & refl
+    & refl & refl & refl & refl & refl & refl & refl & refl & refl & refl & refl & refl & refl & refl & refl & refl
+    & refl & refl & tt

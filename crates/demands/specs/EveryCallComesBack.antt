@@ -1,10 +1,19 @@
--- Demand 1: "Every call comes back. Whatever it is given, it answers; what it cannot use it refuses by number, in a stated order, with the state as given and no byte of a lent log or output buffer written."
--- That a call ends, whatever it is given, the prover shows of every function. What it answers is the definition in its promise, for every input. Here is what the calls that refuse have in common; that a number is refused by its form (1, 2) is all that `read_number` refuses, and its definition says when.
+-- Demand 1: "Every call comes back. Whatever it is given, it answers; what it cannot use it refuses by number, in a
+-- stated order, with the state as given and no byte of a lent log or output buffer written."
+-- That a call ends, whatever it is given, the prover shows of every function. What it answers is the definition in its
+-- promise, for every input. Here is what the calls that refuse have in common; that a number is refused by its form (1,
+-- 2) is all that `read_number` refuses, and its definition says when.
 --     against o                 what stands against a call that came to o: its refusal, or nothing
 --     firstNo ls                the first of these lines whose test fails, by its number at place 0, or nothing
---     numberLines .. lineLines  "Calls: 15, 14, 13, 11, 7, 12, 16, those that apply": the lines of each call in that order, each a test that must hold and the number for no
---     InOrder                   what stands against each call is the first of its lines whose test fails; a file is refused exactly by the first line of the table that holds, from left to right; and 11 is its line
---     AsLent                    "A refused read returns number, place and the empty board. A refused call returns the number, place 0 and the state it was given, if it takes one; a refused run also 0 moves and relay 255, a refused judgement no verdict, effort 0 and length 0, a refused write 0 bytes written. Log and output buffer stay as lent."
+--     numberLines .. lineLines  "Calls: 15, 14, 13, 11, 7, 12, 16, those that apply": the lines of each call in that
+--                               order, each a test that must hold and the number for no
+--     InOrder                   what stands against each call is the first of its lines whose test fails; a file is
+--                               refused exactly by the first line of the table that holds, from left to right; and 11
+--                               is its line
+--     AsLent                    "A refused read returns number, place and the empty board. A refused call returns the
+--                               number, place 0 and the state it was given, if it takes one; a refused run also 0 moves
+--                               and relay 255, a refused judgement no verdict, effort 0 and length 0, a refused write 0
+--                               bytes written. Log and output buffer stay as lent."
 --     EveryCallComesBack        the demand
 use Prim.Native.Nat.{ℕ, _+_}
 use mathlib.Core.Path.{_≡_}
@@ -13,10 +22,10 @@ use mathlib.Core.List.{List, [], _∷_}
 use lib.Dec.{ltb, leb}
 use lib.ListN.{length}
 use Rattle.number.specs.Outcomes.{Outcome, given, refused}
-use Rattle.number.specs.Refusals.{badForm, noSuchName, noSuchWinding, alreadySo, logTooLong, stateBeyondBoard, brokenBoard, bufferTooShort}
+use Rattle.number.specs.Refusals.{badForm, noSuchName, noSuchWinding, alreadySo, logTooLong, stateBeyondBoard}
+use Rattle.number.specs.Refusals.{brokenBoard, bufferTooShort}
 use Rattle.number.specs.declared.NumberWritten.{NumberWritten}
-use Rattle.number.specs.Numbers as number
-use Rattle.number.specs.Numbers.{largest, numberBytes}
+use Rattle.number.specs.Numbers.{largest, numberBytes, numberWriting, toldNumberWritten}
 use Rattle.board.specs.declared.Board.{Board}
 use Rattle.board.specs.Parts.{partsOf, emptyBoard}
 use Rattle.board.specs.Rules.{boardFine}
@@ -25,7 +34,7 @@ use Rattle.state.specs.States.{isPushed, stateFine}
 use Rattle.presses.specs.declared.Pressed.{Pressed}
 use Rattle.presses.specs.Presses.{pushing, releasing, toldPress, toldPressed}
 use Rattle.board_reader.specs.declared.BoardRead.{BoardRead}
-use Rattle.board_reader.specs.Reading as read
+use Rattle.board_reader.specs.Reading.{toldReadAnswer}
 use Rattle.board_writer.specs.declared.Written.{Written}
 use Rattle.board_writer.specs.File.{boardBytes}
 use Rattle.board_writer.specs.Writing.{toldWritten, bytesWritten}
@@ -38,7 +47,7 @@ use Rattle.judge.specs.RelayWindings.{windingOf}
 use Rattle.judge_means.specs.Exactness.{Judges}
 use Rattle.judge_means.specs.Eleven.{ElevenExactly}
 use Rattle.moves.specs.declared.Moved.{Moved}
-use Rattle.moves.specs.Moving as move
+use Rattle.moves.specs.Moving.{toldMoveAnswer}
 use Rattle.moves_means.specs.SingleMoves.{Moves}
 use Rattle.runs.specs.declared.Ran.{Ran}
 use Rattle.runs.specs.Runs.{noRelay}
@@ -49,7 +58,7 @@ use Rattle.lines.specs.declared.LineWritten.{LineWritten}
 use Rattle.lines.specs.Lines.{longestLine, lineWriting, toldLine, toldLineWritten}
 use Rattle.session.specs.declared.Session.{Session}
 use Rattle.session.specs.declared.Handed.{Handed}
-use Rattle.session.specs.HandingOut as handing
+use Rattle.session.specs.HandingOut.{toldHandOut}
 use Rattle.session_means.specs.HandedLines.{Called}
 
 abbrev pub against : {A : Type 0} → Outcome A → Outcome (Unit {0})
@@ -95,27 +104,51 @@ lineLines out = (leb longestLine (length out), bufferTooShort) ∷ []
 pub record InOrder : Type 0 where
   pub reads : FileRefused
   pub eleven : ElevenExactly
-  pub writes-number : (v : ℕ) (out out′ : List ℕ) (at : ℕ) (x : NumberWritten) → _≡_ {A = Outcome ℕ × List ℕ} (number.toldNumberWritten x, out′) (number.numberWriting v out at) → against (number.toldNumberWritten x) ≡ firstNo (numberLines v out at)
-  pub writes-line : (l : Line) (out out′ : List ℕ) (x : LineWritten) → _≡_ {A = Outcome ℕ × List ℕ} (toldLineWritten x, out′) (lineWriting (toldLine l) out) → against (toldLineWritten x) ≡ firstNo (lineLines out)
-  pub writes : (b : Board) (out out′ : List ℕ) (w : Written) → Wrote b out w out′ → against (toldWritten w) ≡ firstNo (writeLines b out)
-  pub pushes : (b : Board) (s : State) (n : ℕ) (x : Pressed) → toldPressed x ≡ pushing b s n → toldPress (x .answer) ≡ firstNo (pushLines b s n)
-  pub releases : (b : Board) (s : State) (n : ℕ) (x : Pressed) → toldPressed x ≡ releasing b s n → toldPress (x .answer) ≡ firstNo (releaseLines b s n)
-  pub judges : (b : Board) (s : State) (r : ℕ) (k : Which) (w : ℕ) (v : Verdict) → Judges b s r k w v → against (toldFinding (v .finding)) ≡ firstNo (judgeLines b s r k)
-  pub moves : (b : Board) (s : State) (r w : ℕ) (a : Moved) → Moves b s r w a → against (move.toldMoveAnswer (a .answer)) ≡ firstNo (moveLines b s r)
-  pub runs : (b : Board) (s : State) (w : ℕ) (log log′ : List ℕ) (a : Ran) → Runs b s log w a log′ → against (toldEnding (a .word)) ≡ firstNo (runLines b s log)
-  pub hands : (z : Session) (s out out′ : List ℕ) (r : Handed) → Called z s out r out′ → against (handing.toldHandOut (r .answer)) ≡ firstNo (lineLines out)
+  pub writes-number : (v : ℕ) (out out′ : List ℕ) (at : ℕ) (x : NumberWritten)
+      → _≡_ {A = Outcome ℕ × List ℕ} (toldNumberWritten x, out′) (numberWriting v out at)
+      → against (toldNumberWritten x) ≡ firstNo (numberLines v out at)
+  pub writes-line : (l : Line) (out out′ : List ℕ) (x : LineWritten)
+      → _≡_ {A = Outcome ℕ × List ℕ} (toldLineWritten x, out′) (lineWriting (toldLine l) out)
+      → against (toldLineWritten x) ≡ firstNo (lineLines out)
+  pub writes : (b : Board) (out out′ : List ℕ) (w : Written) → Wrote b out w out′
+      → against (toldWritten w) ≡ firstNo (writeLines b out)
+  pub pushes : (b : Board) (s : State) (n : ℕ) (x : Pressed) → toldPressed x ≡ pushing b s n
+      → toldPress (x .answer) ≡ firstNo (pushLines b s n)
+  pub releases : (b : Board) (s : State) (n : ℕ) (x : Pressed) → toldPressed x ≡ releasing b s n
+      → toldPress (x .answer) ≡ firstNo (releaseLines b s n)
+  pub judges : (b : Board) (s : State) (r : ℕ) (k : Which) (w : ℕ) (v : Verdict) → Judges b s r k w v
+      → against (toldFinding (v .finding)) ≡ firstNo (judgeLines b s r k)
+  pub moves : (b : Board) (s : State) (r w : ℕ) (a : Moved) → Moves b s r w a
+      → against (toldMoveAnswer (a .answer)) ≡ firstNo (moveLines b s r)
+  pub runs : (b : Board) (s : State) (w : ℕ) (log log′ : List ℕ) (a : Ran) → Runs b s log w a log′
+      → against (toldEnding (a .word)) ≡ firstNo (runLines b s log)
+  pub hands : (z : Session) (s out out′ : List ℕ) (r : Handed) → Called z s out r out′
+      → against (toldHandOut (r .answer)) ≡ firstNo (lineLines out)
 
 pub record AsLent : Type 0 where
-  pub reads : (s : List ℕ) (r : BoardRead) (n p : ℕ) → WasRead s r → read.toldReadAnswer (r .answer) ≡ refused n p → r .board ≡ emptyBoard
-  pub writes-number : (v : ℕ) (out out′ : List ℕ) (at : ℕ) (x : NumberWritten) (n p : ℕ) → _≡_ {A = Outcome ℕ × List ℕ} (number.toldNumberWritten x, out′) (number.numberWriting v out at) → number.toldNumberWritten x ≡ refused n p → out′ ≡ out
-  pub writes-line : (l : Line) (out out′ : List ℕ) (x : LineWritten) (n p : ℕ) → _≡_ {A = Outcome ℕ × List ℕ} (toldLineWritten x, out′) (lineWriting (toldLine l) out) → toldLineWritten x ≡ refused n p → out′ ≡ out
-  pub writes : (b : Board) (out out′ : List ℕ) (w : Written) (n p : ℕ) → Wrote b out w out′ → toldWritten w ≡ refused n p → (out′ ≡ out) × (bytesWritten w ≡ 0)
-  pub pushes : (b : Board) (s : State) (k : ℕ) (x : Pressed) (n p : ℕ) → toldPressed x ≡ pushing b s k → toldPress (x .answer) ≡ refused n p → x .state ≡ s
-  pub releases : (b : Board) (s : State) (k : ℕ) (x : Pressed) (n p : ℕ) → toldPressed x ≡ releasing b s k → toldPress (x .answer) ≡ refused n p → x .state ≡ s
-  pub judges : (b : Board) (s : State) (r : ℕ) (k : Which) (w : ℕ) (v : Verdict) (n p : ℕ) → Judges b s r k w v → toldFinding (v .finding) ≡ refused n p → (v .effort ≡ 0) × ((v .length ≡ 0) × (v .terminals ≡ places []))
-  pub moves : (b : Board) (s : State) (r w : ℕ) (a : Moved) (n p : ℕ) → Moves b s r w a → move.toldMoveAnswer (a .answer) ≡ refused n p → a .state ≡ s
-  pub runs : (b : Board) (s : State) (w : ℕ) (log log′ : List ℕ) (a : Ran) (n p : ℕ) → Runs b s log w a log′ → toldEnding (a .word) ≡ refused n p → (a .state ≡ s) × ((a .moves ≡ 0) × ((a .relay ≡ noRelay) × (log′ ≡ log)))
-  pub hands : (z : Session) (s out out′ : List ℕ) (r : Handed) (n p : ℕ) → Called z s out r out′ → handing.toldHandOut (r .answer) ≡ refused n p → (r .session ≡ z) × (out′ ≡ out)
+  pub reads : (s : List ℕ) (r : BoardRead) (n p : ℕ) → WasRead s r → toldReadAnswer (r .answer) ≡ refused n p
+      → r .board ≡ emptyBoard
+  pub writes-number : (v : ℕ) (out out′ : List ℕ) (at : ℕ) (x : NumberWritten) (n p : ℕ)
+      → _≡_ {A = Outcome ℕ × List ℕ} (toldNumberWritten x, out′) (numberWriting v out at)
+      → toldNumberWritten x ≡ refused n p → out′ ≡ out
+  pub writes-line : (l : Line) (out out′ : List ℕ) (x : LineWritten) (n p : ℕ)
+      → _≡_ {A = Outcome ℕ × List ℕ} (toldLineWritten x, out′) (lineWriting (toldLine l) out)
+      → toldLineWritten x ≡ refused n p → out′ ≡ out
+  pub writes : (b : Board) (out out′ : List ℕ) (w : Written) (n p : ℕ) → Wrote b out w out′
+      → toldWritten w ≡ refused n p → (out′ ≡ out) × (bytesWritten w ≡ 0)
+  pub pushes : (b : Board) (s : State) (k : ℕ) (x : Pressed) (n p : ℕ) → toldPressed x ≡ pushing b s k
+      → toldPress (x .answer) ≡ refused n p → x .state ≡ s
+  pub releases : (b : Board) (s : State) (k : ℕ) (x : Pressed) (n p : ℕ) → toldPressed x ≡ releasing b s k
+      → toldPress (x .answer) ≡ refused n p → x .state ≡ s
+  pub judges : (b : Board) (s : State) (r : ℕ) (k : Which) (w : ℕ) (v : Verdict) (n p : ℕ) → Judges b s r k w v
+      → toldFinding (v .finding) ≡ refused n p → (v .effort ≡ 0) × ((v .length ≡ 0) × (v .terminals ≡ places []))
+  pub moves : (b : Board) (s : State) (r w : ℕ) (a : Moved) (n p : ℕ) → Moves b s r w a
+      → toldMoveAnswer (a .answer) ≡ refused n p → a .state ≡ s
+  pub runs : (b : Board) (s : State) (w : ℕ) (log log′ : List ℕ) (a : Ran) (n p : ℕ) → Runs b s log w a log′
+      → toldEnding (a .word) ≡ refused n p → (a .state ≡ s)
+      × ((a .moves ≡ 0) × ((a .relay ≡ noRelay) × (log′ ≡ log)))
+  pub hands : (z : Session) (s out out′ : List ℕ) (r : Handed) (n p : ℕ) → Called z s out r out′
+      → toldHandOut (r .answer) ≡ refused n p → (r .session ≡ z) × (out′ ≡ out)
 
 pub record EveryCallComesBack : Type 0 where
   pub in-order : InOrder

@@ -1,7 +1,10 @@
--- Rule book, how tight the promises are: "Any pair of answers allowed by a promise is shown to be one answer". A line for each function that another crate can call: its promise, and that it allows one answer only. `docs/PROMISES.md` has the promises in words.
+-- Rule book, how tight the promises are: "Any pair of answers allowed by a promise is shown to be one answer". A line
+-- for each function that another crate can call: its promise, and that it allows one answer only. `docs/PROMISES.md`
+-- has the promises in words.
 --     itself               an answer that is told as it is
 --     One told a           two answers that are told as a are one answer
---     OneLent told a       two answers, with what they leave in a lent log or buffer, that are told as a are one answer, and leave the same
+--     OneLent told a       two answers, with what they leave in a lent log or buffer, that are told as a are one
+--                          answer, and leave the same
 --     OneAnswer            the list
 use Prim.Native.Nat.{ℕ, _<_}
 use mathlib.Core.Path.{_≡_}
@@ -65,7 +68,8 @@ pub record OneAnswer : Type 0 where
   pub bits-wide : (x p q : ℕ) → (p ≡ x) × (p < 256) → (q ≡ x) × (q < 256) → p ≡ q
   pub number-read-number : (s : List ℕ) (at : ℕ) → One number.toldNumber (number.numberAt s at)
   pub number-number-length : (v : ℕ) → One itself (length (number.numberBytes v))
-  pub number-write-number : (v : ℕ) (out : List ℕ) (at : ℕ) → OneLent (withBuffer number.toldNumberWritten) (number.numberWriting v out at)
+  pub number-write-number : (v : ℕ) (out : List ℕ) (at : ℕ) → OneLent (withBuffer number.toldNumberWritten)
+      (number.numberWriting v out at)
   pub kinds-of : (k n : ℕ) → One itself (kinds.kindOf k n)
   pub kinds-number : (k : Kind) → One itself (kinds.kindNumber k)
   pub kinds-name : (k : Kind) → One itself (kinds.nameOf k)
@@ -90,15 +94,21 @@ pub record OneAnswer : Type 0 where
   pub board-writer-write : (b : Board) (out : List ℕ) → OneLent (withBuffer writer.toldWritten) (writer.writing b out)
   pub neighbours-conducts : (k : Kind) (s : State) → One itself (conduction.conducts s k)
   pub neighbours-neighbours : (b : Board) (s : State) → One itself (neighbours.neighbours b s)
-  pub search-search : (near : List ℕ) (t : ℕ) (v : Winding) (w : ℕ) → One search.toldVerdict (search.verdictBy near (search.inSets t) v w)
-  pub judge-winding : (b : Board) (r : ℕ) (k : Which) → One windings-of.toldSought (windings-of.windingOf k r (parts.partsOf b))
-  pub judge-judge : (b : Board) (s : State) (r : ℕ) (k : Which) (w : ℕ) → One search.toldVerdict (judge.judging b s r k w)
-  pub moves-step : (near : List ℕ) (b : Board) (s : State) (r w : ℕ) → One steps.toldMove (steps.stepBy near b (state.isDrawn s r) r w)
+  pub search-search : (near : List ℕ) (t : ℕ) (v : Winding) (w : ℕ)
+      → One search.toldVerdict (search.verdictBy near (search.inSets t) v w)
+  pub judge-winding : (b : Board) (r : ℕ) (k : Which)
+      → One windings-of.toldSought (windings-of.windingOf k r (parts.partsOf b))
+  pub judge-judge : (b : Board) (s : State) (r : ℕ) (k : Which) (w : ℕ)
+      → One search.toldVerdict (judge.judging b s r k w)
+  pub moves-step : (near : List ℕ) (b : Board) (s : State) (r w : ℕ)
+      → One steps.toldMove (steps.stepBy near b (state.isDrawn s r) r w)
   pub moves-after : (s : State) (r : ℕ) (m : Move) → One itself (steps.made s r (steps.toldMove m))
   pub moves-move-relay : (b : Board) (s : State) (r w : ℕ) → One moves.toldMoved (moves.moving b s r w)
   pub runs-run : (b : Board) (s : State) (log : List ℕ) (w : ℕ) → OneLent runs.toldRan (runs.running b s log w)
-  pub lines-write-line : (l : Line) (out : List ℕ) → OneLent (withBuffer lines.toldLineWritten) (lines.lineWriting (lines.toldLine l) out)
+  pub lines-write-line : (l : Line) (out : List ℕ) → OneLent (withBuffer lines.toldLineWritten)
+      (lines.lineWriting (lines.toldLine l) out)
   pub events-run-line : (b : Board) (e : ℕ) (s : State) (w : ℕ) → One events.toldShown (events.ranLine b e s w)
   pub events-event-line : (b : Board) (e : ℕ) (s : State) (v w : ℕ) → One events.toldShown (events.eventLine b e s v w)
   pub session-begin : (s : List ℕ) → One session.toldSession (session.beginning s)
-  pub session-next-line : (z : Session) (s out : List ℕ) → OneLent handing.toldHanded (handing.nextLine (session.toldSession z) s out)
+  pub session-next-line : (z : Session) (s out : List ℕ)
+      → OneLent handing.toldHanded (handing.nextLine (session.toldSession z) s out)

@@ -1,4 +1,5 @@
--- The rule book's "Boards to try" as one table: the starred ones, and the others that compute quickly. The rest are run and compared.
+-- The rule book's "Boards to try" as one table: the starred ones, and the others that compute quickly. The rest are run
+-- and compared.
 --     h0 .. h6, pair            the boards; `pair` is one of ours, on which two relays can move at once
 --     h0File, h2Session         H0 as a file, H2 as a session, byte by byte as the rule book prints them
 --     h2Lines, h0Line           what H2 and H0 print, character by character
@@ -6,7 +7,8 @@
 --       reads s b o               `read` of the bytes s: the board, and the place just after it or the refusal
 --       judges b s k w j          `judge` of winding k of relay 0 of board b in state s within the allowance w
 --       moves b s w t m           `move_relay` of relay 0: the word m, and the state t
---       runs b s w log e m t r l  `run` over the lent log: the word e, m moves, the state t, the relay r, and the log l afterwards
+--       runs b s w log e m t r l  `run` over the lent log: the word e, m moves, the state t, the relay r, and the log l
+--                                 afterwards
 --       prints s x                a session and all that it prints
 --     RowHolds x                   the row's call comes to its answer
 --     starred, Starred          the table; every row of it holds
@@ -41,7 +43,8 @@ abbrev pub part : Kind → ℕ → ℕ → Part
 part k x y = record { a = x; b = y; kind = k }
 
 abbrev pub board : ℕ → ℕ → ℕ → List Part → Board
-board t r b ps = record { counts = record { terminals = t; relays = r; buttons = b; parts = length ps }; parts = padded ps }
+board t r b ps =
+    record { counts = record { terminals = t; relays = r; buttons = b; parts = length ps }; parts = padded ps }
 
 -- `02 00 00 00`
 abbrev pub h0File : List ℕ
@@ -123,7 +126,8 @@ abbrev pub RowHolds : Row → Type 0
 RowHolds (reads s b o) = reading s ≡ (b, o)
 RowHolds (judges b s k w j) = judging b s 0 k w ≡ j
 RowHolds (moves b s w t m) = moving b s 0 w ≡ (t, given m)
-RowHolds (runs b s w log e m t r l) = running b s log w ≡ record { word = given e; moves = m; state = t; relay = r; log = l }
+RowHolds (runs b s w log e m t r l) =
+    running b s log w ≡ record { word = given e; moves = m; state = t; relay = r; log = l }
 RowHolds (prints s x) = sessionText s ≡ x
 
 abbrev pub starred : List Row

@@ -1,4 +1,5 @@
--- The last number of an event's line is the rule book's sum: the relays below k give the k low bits of the word of drawn relays, and a state that fits a board has no other bits.
+-- The last number of an event's line is the rule book's sum: the relays below k give the k low bits of the word of
+-- drawn relays, and a state that fits a board has no other bits.
 -- Assumes nothing.
 use Prim.Native.Nat.{ℕ, zero, suc, _+_, _*_, _/_, _%_, _^_, _<_}
 use mathlib.Core.Path.{_≡_, sym, ap, ap₂, _∙_}

@@ -26,12 +26,15 @@ module _ (b : Board) (t : State) (v : ℕ) where
 
 module _ (b : Board) (w e : ℕ) where
   -- a run is told by its word, its moves and its drawn relays, whatever its log holds
-  pub ran-told : (t : State) (r : Ran) (log : List ℕ) → toldRan r log ≡ running b t sessionLog w → tells e (toldRan r log) ≡ ranLine b e t w
+  pub ran-told : (t : State) (r : Ran) (log : List ℕ) → toldRan r log ≡ running b t sessionLog w
+      → tells e (toldRan r log) ≡ ranLine b e t w
   unfolding ranLine
   ran-told t r log ran = ap (tells e) ran
 
   module _ (x : Pressed) where
-    pub pressed-refused : (q : Refusal) → x .answer ≡ Refused q → _≡_ {A = Shown} (event e (refused (q .number) (q .place)) 0 (x .state .drawn), x .state) (pressedLine b e (toldPressed x) w)
+    pub pressed-refused : (q : Refusal) → x .answer ≡ Refused q
+        → _≡_ {A = Shown} (event e (refused (q .number) (q .place)) 0 (x .state .drawn), x .state)
+        (pressedLine b e (toldPressed x) w)
     unfolding pressedLine
     pressed-refused q is = rw is
 
@@ -39,6 +42,7 @@ module _ (b : Board) (w e : ℕ) where
     unfolding pressedLine
     pressed-done done = rw done
 
-  pub event-told : (t : State) (v : ℕ) (x : Pressed) → toldPressed x ≡ pressing b t v → pressedLine b e (toldPressed x) w ≡ eventLine b e t v w
+  pub event-told : (t : State) (v : ℕ) (x : Pressed) → toldPressed x ≡ pressing b t v
+      → pressedLine b e (toldPressed x) w ≡ eventLine b e t v w
   unfolding eventLine
   event-told t v x pressed = ap (λ (y : State × Outcome (Unit {0})). pressedLine b e y w) pressed

@@ -1,4 +1,5 @@
--- The round trip of counts, of parts one after the other, and of a whole board, on the definitions: bytes that stand at a place read back, and what was read breaks no rule and stands there by its bytes.
+-- The round trip of counts, of parts one after the other, and of a whole board, on the definitions: bytes that stand at
+-- a place read back, and what was read breaks no rule and stands there by its bytes.
 use Prim.Native.Nat.{ℕ, zero, suc, _+_, _≤_}
 use native.Mathlib.Omega.{arith}
 use mathlib.Core.Path.{_≡_, refl, sym, ap, _∙_}
@@ -23,15 +24,19 @@ use Rattle.board_reader.specs.Reading.{wanted, countsAt, partAt, partsAt, board
 use Rattle.board_reader.proofs.FieldLaws.{range-within}
 use Rattle.board_reader.proofs.CountsLaws.{CountsFound, counts-found, counts-found-fine, counts-read}
 use Rattle.board_writer.specs.File.{countsBytes, partBytes, partsBytes, boardBytes}
-use Rattle.file_means.proofs.StandLaws.{StandsTo, stands-none, stands-append, stands-first, stands-second, wanted-reads, wanted-stands}
+use Rattle.file_means.proofs.StandLaws.{StandsTo, stands-none, stands-append, stands-first, stands-second}
+use Rattle.file_means.proofs.StandLaws.{wanted-reads, wanted-stands}
 use Rattle.file_means.proofs.PartTrip.{part-reads, PartIsFine, part-read}
 use Rattle.file_means.proofs.GivesLaws.{Gives, gives-then, gives-after, gives-unless}
 
 -- counts
-count-reads : (low high : ℕ) (s : List ℕ) (at next v : ℕ) → high ≤ 256 → low ≤ v → v ≤ high → StandsTo s at next (numberBytes v) → wanted (inRange low high) outOfRange s at ≡ found v next
-count-reads low high s at next v few least most here = wanted-reads (inRange low high) outOfRange s at next v (omega arith) (range-within low high v least most) here
+count-reads : (low high : ℕ) (s : List ℕ) (at next v : ℕ) → high ≤ 256 → low ≤ v → v ≤ high
+    → StandsTo s at next (numberBytes v) → wanted (inRange low high) outOfRange s at ≡ found v next
+count-reads low high s at next v few least most here =
+    wanted-reads (inRange low high) outOfRange s at next v (omega arith) (range-within low high v least most) here
 
-counts-reads : (c : Counts) (s : List ℕ) (next : ℕ) → InRange c → StandsTo s 0 next (countsBytes c) → countsAt s ≡ found c next
+counts-reads : (c : Counts) (s : List ℕ) (next : ℕ) → InRange c → StandsTo s 0 next (countsBytes c)
+    → countsAt s ≡ found c next
 unfolding countsBytes
 counts-reads c s next range here =
     let t = numberBytes (c .terminals) in
@@ -40,22 +45,33 @@ counts-reads c s next range here =
     let p = numberBytes (c .parts) in
     let after-t = stands-second s 0 next t (r ++ (b ++ p)) here in
     let after-r = stands-second s (0 + length t) next r (b ++ p) after-t in
-    sym (counts-read s (c .terminals) (0 + length t) (c .relays) (0 + length t + length r) (c .buttons) (0 + length t + length r + length b) (c .parts) next
-    (count-reads 2 64 s 0 (0 + length t) (c .terminals) (omega arith) (range .least-terminals) (range .most-terminals) (stands-first s 0 next t (r ++ (b ++ p)) here))
-    (count-reads 0 32 s (0 + length t) (0 + length t + length r) (c .relays) (omega arith) (omega arith) (range .most-relays) (stands-first s (0 + length t) next r (b ++ p) after-t))
-    (count-reads 0 32 s (0 + length t + length r) (0 + length t + length r + length b) (c .buttons) (omega arith) (omega arith) (range .most-buttons) (stands-first s (0 + length t + length r) next b p after-r))
-    (count-reads 0 256 s (0 + length t + length r + length b) next (c .parts) (omega arith) (omega arith) (range .most-parts) (stands-second s (0 + length t + length r) next b p after-r)))
+    sym (counts-read s (c .terminals) (0 + length t) (c .relays) (0 + length t + length r) (c .buttons)
+    (0 + length t + length r + length b) (c .parts) next
+    (count-reads 2 64 s 0 (0 + length t) (c .terminals) (omega arith) (range .least-terminals)
+    (range .most-terminals) (stands-first s 0 next t (r ++ (b ++ p)) here))
+    (count-reads 0 32 s (0 + length t) (0 + length t + length r) (c .relays) (omega arith) (omega arith)
+    (range .most-relays) (stands-first s (0 + length t) next r (b ++ p) after-t))
+    (count-reads 0 32 s (0 + length t + length r) (0 + length t + length r + length b) (c .buttons) (omega arith)
+    (omega arith) (range .most-buttons) (stands-first s (0 + length t + length r) next b p after-r))
+    (count-reads 0 256 s (0 + length t + length r + length b) next (c .parts) (omega arith) (omega arith)
+    (range .most-parts) (stands-second s (0 + length t + length r) next b p after-r)))
 
 counts-stand : (c : Counts) (s : List ℕ) (next : ℕ) → Bytes s → CountsFound s c next → StandsTo s 0 next (countsBytes c)
 unfolding countsBytes
 counts-stand c s next bytes read =
-    stands-append s 0 (read .relays-at) next _ _ (wanted-stands (inRange 2 64) outOfRange s 0 (read .relays-at) (c .terminals) bytes (read .terminals))
-    (stands-append s (read .relays-at) (read .buttons-at) next _ _ (wanted-stands (inRange 0 32) outOfRange s (read .relays-at) (read .buttons-at) (c .relays) bytes (read .relays))
-    (stands-append s (read .buttons-at) (read .parts-at) next _ _ (wanted-stands (inRange 0 32) outOfRange s (read .buttons-at) (read .parts-at) (c .buttons) bytes (read .buttons))
+    stands-append s 0 (read .relays-at) next _ _
+    (wanted-stands (inRange 2 64) outOfRange s 0 (read .relays-at) (c .terminals) bytes (read .terminals))
+    (stands-append s (read .relays-at) (read .buttons-at) next _ _
+    (wanted-stands (inRange 0 32) outOfRange s (read .relays-at) (read .buttons-at) (c .relays) bytes
+    (read .relays))
+    (stands-append s (read .buttons-at) (read .parts-at) next _ _
+    (wanted-stands (inRange 0 32) outOfRange s (read .buttons-at) (read .parts-at) (c .buttons) bytes
+    (read .buttons))
     (wanted-stands (inRange 0 256) outOfRange s (read .parts-at) next (c .parts) bytes (read .parts))))
 
 -- parts one after the other
-parts-reads : (c : Counts) (ps : List Part) (w : WoundSoFar) (s : List ℕ) (at next : ℕ) → InRange c → partsFine c w ps ≡ true → StandsTo s at next (partsBytes ps) → partsAt c (length ps) w s at ≡ found ps next
+parts-reads : (c : Counts) (ps : List Part) (w : WoundSoFar) (s : List ℕ) (at next : ℕ) → InRange c
+    → partsFine c w ps ≡ true → StandsTo s at next (partsBytes ps) → partsAt c (length ps) w s at ≡ found ps next
 unfolding partsFine partsBytes partsAt
 parts-reads c [] w s at next range fine here =
     let same : at ≡ next = omega (arith, here .ends) in
@@ -64,7 +80,9 @@ parts-reads c (p ∷ ps) w s at next range fine here =
     let both = both-true (partFine c w p) (partsFine c (gained w (p .kind)) ps) fine in
     let mid = at + length (partBytes p) in
     let first = part-reads c w p s at mid range (both .0) (stands-first s at next (partBytes p) (partsBytes ps) here) in
-    let rest = parts-reads c ps (gained w (p .kind)) s mid next range (both .1) (stands-second s at next (partBytes p) (partsBytes ps) here) in
+    let rest =
+    parts-reads c ps (gained w (p .kind)) s mid next range (both .1)
+    (stands-second s at next (partBytes p) (partsBytes ps) here) in
     rw (first, rest)
 
 record PartsRead (c : Counts) (n : ℕ) (w : WoundSoFar) (s : List ℕ) (at : ℕ) (ps : Found (List Part)) : Type 0 where
@@ -72,13 +90,17 @@ record PartsRead (c : Counts) (n : ℕ) (w : WoundSoFar) (s : List ℕ) (at : �
   fine : partsFine c w (ps .value) ≡ true
   stands : Bytes s → StandsTo s at (ps .next) (partsBytes (ps .value))
 
-parts-read : (c : Counts) (n : ℕ) (w : WoundSoFar) (s : List ℕ) (at : ℕ) → Gives (PartsRead c n w s at) (partsAt c n w s at)
+parts-read : (c : Counts) (n : ℕ) (w : WoundSoFar) (s : List ℕ) (at : ℕ)
+    → Gives (PartsRead c n w s at) (partsAt c n w s at)
 unfolding partsAt partsFine partsBytes
-parts-read c zero w s at = gives-unless _ (complete (c .relays) w) windingLacking at _ (λ full. record { counted = refl; fine = full; stands = λ bytes. stands-none s at })
+parts-read c zero w s at =
+    gives-unless _ (complete (c .relays) w) windingLacking at _
+    (λ full. record { counted = refl; fine = full; stands = λ bytes. stands-none s at })
 parts-read c (suc n) w s at =
     gives-then (PartIsFine c w s at) _ (partAt c w s at) _ (part-read c w s at) (λ p first.
     let w′ = gained w (p .value .kind) in
-    gives-then (PartsRead c n w′ s (p .next)) _ (partsAt c n w′ s (p .next)) _ (parts-read c n w′ s (p .next)) (λ ps rest.
+    gives-then (PartsRead c n w′ s (p .next)) _ (partsAt c n w′ s (p .next)) _ (parts-read c n w′ s (p .next))
+    (λ ps rest.
     record {
       counted = ap suc (rest .counted);
       fine = true-both (first .fine) (rest .fine);
@@ -86,29 +108,39 @@ parts-read c (suc n) w s at =
     }))
 
 -- a board. An array of parts has 256 places, which a list does not say by itself
-pub board-reads : (b : Board) (s : List ℕ) (next : ℕ) → length (b .parts) ≡ 256 → boardFine b ≡ true → StandsTo s 0 next (boardBytes b) → boardAt s ≡ found (boardOf (b .counts) (partsOf b)) next
+pub board-reads : (b : Board) (s : List ℕ) (next : ℕ) → length (b .parts) ≡ 256 → boardFine b ≡ true
+    → StandsTo s 0 next (boardBytes b) → boardAt s ≡ found (boardOf (b .counts) (partsOf b)) next
 unfolding boardFine boardBytes boardAt boardFrom
 board-reads b s next places fine here =
     let both = both-true (countsFine (b .counts)) (partsFine (b .counts) noneWound (partsOf b)) fine in
     let range = counts-in-range (b .counts) (both .0) in
     let mid = 0 + length (countsBytes (b .counts)) in
-    let counts = counts-reads (b .counts) s mid range (stands-first s 0 next (countsBytes (b .counts)) (partsBytes (partsOf b)) here) in
-    let counted : length (partsOf b) ≡ b .counts .parts = length-take-le (b .counts .parts) (b .parts) (omega (arith, range .most-parts)) in
-    let parts = parts-reads (b .counts) (partsOf b) noneWound s mid next range (both .1) (stands-second s 0 next (countsBytes (b .counts)) (partsBytes (partsOf b)) here) in
-    let all : partsAt (b .counts) (b .counts .parts) noneWound s mid ≡ found (partsOf b) next = ap (λ (n : ℕ). partsAt (b .counts) n noneWound s mid) (sym counted) ∙ parts in
+    let counts =
+    counts-reads (b .counts) s mid range (stands-first s 0 next (countsBytes (b .counts))
+    (partsBytes (partsOf b)) here) in
+    let counted : length (partsOf b) ≡ b .counts .parts =
+    length-take-le (b .counts .parts) (b .parts) (omega (arith, range .most-parts)) in
+    let parts =
+    parts-reads (b .counts) (partsOf b) noneWound s mid next range (both .1)
+    (stands-second s 0 next (countsBytes (b .counts)) (partsBytes (partsOf b)) here) in
+    let all : partsAt (b .counts) (b .counts .parts) noneWound s mid ≡ found (partsOf b) next =
+    ap (λ (n : ℕ). partsAt (b .counts) n noneWound s mid) (sym counted) ∙ parts in
     rw (counts, all)
 
 pub record BoardRead (s : List ℕ) (b : Board) (next : ℕ) : Type 0 where
   pub fine : boardFine b ≡ true
   pub stands : Bytes s → StandsTo s 0 next (boardBytes b)
 
-board-made : (c : Counts) (s : List ℕ) (mid : ℕ) (ps : Found (List Part)) → CountsFound s c mid → PartsRead c (c .parts) noneWound s mid ps → BoardRead s (boardOf c (ps .value)) (ps .next)
+board-made : (c : Counts) (s : List ℕ) (mid : ℕ) (ps : Found (List Part)) → CountsFound s c mid
+    → PartsRead c (c .parts) noneWound s mid ps → BoardRead s (boardOf c (ps .value)) (ps .next)
 unfolding boardFine boardBytes
 board-made c s mid ps first rest =
     let same = padded-parts c (ps .value) (sym (rest .counted)) in
     record {
       fine = true-both (counts-found-fine s c mid first) (rw same (rest .fine));
-      stands = λ bytes. rw same (stands-append s 0 mid (ps .next) _ _ (counts-stand c s mid bytes first) (rest .stands bytes));
+      stands =
+          λ bytes. rw same (stands-append s 0 mid (ps .next) _ _ (counts-stand c s mid bytes first)
+          (rest .stands bytes));
     }
 
 pub board-read : (s : List ℕ) → Gives (λ (b : Found Board). BoardRead s (b .value) (b .next)) (boardAt s)
@@ -116,5 +148,6 @@ unfolding boardAt boardFrom
 board-read s =
     gives-after _ (countsAt s) _ (λ c counts.
     let parts = parts-read (c .value) (c .value .parts) noneWound s (c .next) in
-    gives-then (PartsRead (c .value) (c .value .parts) noneWound s (c .next)) _ (partsAt (c .value) (c .value .parts) noneWound s (c .next)) _ parts (λ ps rest.
+    gives-then (PartsRead (c .value) (c .value .parts) noneWound s (c .next)) _
+    (partsAt (c .value) (c .value .parts) noneWound s (c .next)) _ parts (λ ps rest.
     board-made (c .value) s (c .next) ps (counts-found s (c .value) (c .next) counts) rest))

@@ -1,4 +1,5 @@
--- The theorem over the call: a board file is refused by n at p exactly if line n of the table holds there and none before it.
+-- The theorem over the call: a board file is refused by n at p exactly if line n of the table holds there and none
+-- before it.
 use Prim.Native.Nat.{ℕ, _<_, _≤_}
 use mathlib.Core.Path.{_≡_, refl, sym, ap, _∙_}
 use mathlib.Core.Logic.{_⊎_, inl, inr}
@@ -33,7 +34,8 @@ module _ (s : List ℕ) where
   read-holds n p =
       refuses-by Line read n p (refuses-unless Line (leb (length s) longestInput) inputTooLong 0 (boardAt s)
       (λ long. inl (leb-false _ _ long, refl, refl))
-      (λ short. refuses-each Line (boardAt s) (λ n p e. inr (leb-true _ _ short, refuses-by (LineHolds s) (boardAt s) n p (board-holds s) e))))
+      (λ short. refuses-each Line (boardAt s)
+      (λ n p e. inr (leb-true _ _ short, refuses-by (LineHolds s) (boardAt s) n p (board-holds s) e))))
 
   holds-read : (n p : ℕ) → Line n p → read ≡ refused n p
   holds-read n p (inl (long, ten, place)) = rw (lt-leb (length s) longestInput long, ten, place)
@@ -42,5 +44,8 @@ module _ (s : List ℕ) where
 pub file-refused : FileRefused
 unfolding reading answered
 file-refused s r n p was =
-    let answer = ap (λ (x : Board × Outcome ℕ). x .1) was in
-    (λ no. read-holds s n p (answered-refused (read s) n p (sym answer ∙ no)), λ line. answer ∙ ap (λ (o : Outcome (Found Board)). answered o .1) (holds-read s n p line))
+    let answer = ap (λ (x : Board × Outcome ℕ). x .1) was in (
+      λ no. read-holds s n p (answered-refused (read s) n p (sym answer ∙ no)),
+      λ line. answer
+          ∙ ap (λ (o : Outcome (Found Board)). answered o .1) (holds-read s n p line),
+    )

@@ -1,4 +1,5 @@
--- What holds of whatever an outcome gives: it is handed on through a row of outcomes, and a test that lets the row go on holds from there. So a `do` block of the definitions is followed line by line.
+-- What holds of whatever an outcome gives: it is handed on through a row of outcomes, and a test that lets the row go
+-- on holds from there. So a `do` block of the definitions is followed line by line.
 --     Gives P o       where o gives a, P holds of a
 use Prim.Native.Nat.{ℕ}
 use mathlib.Core.Path.{_≡_, refl}
@@ -12,25 +13,33 @@ abbrev pub Gives : {A : Type 0} → (A → Type 0) → Outcome A → Type 0
 Gives P (given a) = P a
 Gives P (refused n p) = Unit {0}
 
-pub gives-then : {A B : Type 0} (P : A → Type 0) (Q : B → Type 0) (o : Outcome A) (f : A → Outcome B) → Gives P o → ((a : A) → P a → Gives Q (f a)) → Gives Q (o >>= f)
+pub gives-then : {A B : Type 0} (P : A → Type 0) (Q : B → Type 0) (o : Outcome A) (f : A → Outcome B) → Gives P o
+    → ((a : A) → P a → Gives Q (f a)) → Gives Q (o >>= f)
 gives-then P Q (given a) f here later = later a here
 gives-then P Q (refused n p) f here later = tt
 
 -- of what is handed on, that it was given
-pub gives-after : {A B : Type 0} (Q : B → Type 0) (o : Outcome A) (f : A → Outcome B) → ((a : A) → o ≡ given a → Gives Q (f a)) → Gives Q (o >>= f)
+pub gives-after : {A B : Type 0} (Q : B → Type 0) (o : Outcome A) (f : A → Outcome B)
+    → ((a : A) → o ≡ given a → Gives Q (f a)) → Gives Q (o >>= f)
 gives-after Q (given a) f later = later a refl
 gives-after Q (refused n p) f later = tt
 
-pub gives-unless : {B : Type 0} (Q : B → Type 0) (t : Bool) (n p : ℕ) (o : Outcome B) → (t ≡ true → Gives Q o) → Gives Q (unless t n p >> o)
+pub gives-unless : {B : Type 0} (Q : B → Type 0) (t : Bool) (n p : ℕ) (o : Outcome B) → (t ≡ true → Gives Q o)
+    → Gives Q (unless t n p >> o)
 gives-unless Q true n p o later = later refl
 gives-unless Q false n p o later = tt
 
 -- a number that was wanted was read and passed its test
-pub wanted-gives : (Q : Found ℕ → Type 0) (ok : ℕ → Bool) (n : ℕ) (s : List ℕ) (at : ℕ) → ((v : Found ℕ) → numberAt s at ≡ given v → ok (v .value) ≡ true → Q v) → Gives Q (wanted ok n s at)
+pub wanted-gives : (Q : Found ℕ → Type 0) (ok : ℕ → Bool) (n : ℕ) (s : List ℕ) (at : ℕ)
+    → ((v : Found ℕ) → numberAt s at ≡ given v → ok (v .value) ≡ true → Q v) → Gives Q (wanted ok n s at)
 unfolding wanted
-wanted-gives Q ok n s at so = gives-after Q (numberAt s at) _ (λ v read. gives-unless Q (ok (v .value)) n at (given v) (so v read))
+wanted-gives Q ok n s at so =
+    gives-after Q (numberAt s at) _ (λ v read. gives-unless Q (ok (v .value)) n at (given v) (so v read))
 
-pub wanted-then : {B : Type 0} (Q : B → Type 0) (ok : ℕ → Bool) (n : ℕ) (s : List ℕ) (at : ℕ) (f : Found ℕ → Outcome B) → ((v : Found ℕ) → numberAt s at ≡ given v → ok (v .value) ≡ true → Gives Q (f v)) → Gives Q (wanted ok n s at >>= f)
+pub wanted-then : {B : Type 0} (Q : B → Type 0) (ok : ℕ → Bool) (n : ℕ) (s : List ℕ) (at : ℕ)
+    (f : Found ℕ → Outcome B) → ((v : Found ℕ) → numberAt s at ≡ given v → ok (v .value) ≡ true → Gives Q (f v))
+    → Gives Q (wanted ok n s at >>= f)
 wanted-then Q ok n s at f later =
     let passes : Found ℕ → Type 0 = λ v. (numberAt s at ≡ given v) × (ok (v .value) ≡ true) in
-    gives-then passes Q (wanted ok n s at) f (wanted-gives passes ok n s at (λ v read passed. (read, passed))) (λ v so. later v (so .0) (so .1))
+    gives-then passes Q (wanted ok n s at) f (wanted-gives passes ok n s at (λ v read passed. (read, passed)))
+    (λ v so. later v (so .0) (so .1))

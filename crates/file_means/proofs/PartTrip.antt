@@ -1,4 +1,5 @@
--- The round trip of one part: its bytes read back to it, and a part that was read breaks no rule of 5 to 8 and stands there by its bytes.
+-- The round trip of one part: its bytes read back to it, and a part that was read breaks no rule of 5 to 8 and stands
+-- there by its bytes.
 use Prim.Native.Nat.{ℕ, _+_, _≤_}
 use native.Mathlib.Omega.{arith}
 use mathlib.Core.Path.{_≡_, refl, sym, ap, _∙_}
@@ -24,7 +25,8 @@ use Rattle.board_reader.specs.Reading.{wanted, nameAt, partAt}
 use Rattle.board_reader.proofs.FieldLaws.{range-within, range-bounds}
 use Rattle.board_reader.proofs.PartLaws.{part-as, part-found}
 use Rattle.board_writer.specs.File.{nameBytes, partBytes}
-use Rattle.file_means.proofs.StandLaws.{StandsTo, stands-none, stands-append, stands-first, stands-second, number-stands, wanted-reads}
+use Rattle.file_means.proofs.StandLaws.{StandsTo, stands-none, stands-append, stands-first, stands-second}
+use Rattle.file_means.proofs.StandLaws.{number-stands, wanted-reads}
 use Rattle.file_means.proofs.GivesLaws.{Gives, gives-then, gives-unless, wanted-gives, wanted-then}
 
 -- the rules of 5 to 8 that a fine part keeps, one by one
@@ -54,43 +56,63 @@ limit-most c k range = go (eqb k 3)
 
 -- a wire carries no name, which is told as 0
 wire-name : (k : Kind) → kindNumber k ≡ 0 → 0 ≡ nameOf k
-wire-name k wire = ap nameOf (sym (kind-of-wire (nameOf k)) ∙ ap (λ (n : ℕ). kindOf n (nameOf k)) (sym wire) ∙ kind-of-parts k)
+wire-name k wire =
+    ap nameOf (sym (kind-of-wire (nameOf k)) ∙ ap (λ (n : ℕ). kindOf n (nameOf k)) (sym wire) ∙ kind-of-parts k)
 
 -- a name's bytes read back
-name-reads : (c : Counts) (k : Kind) (s : List ℕ) (at next : ℕ) → InRange c → nameFine c k ≡ true → StandsTo s at next (nameBytes k) → nameAt c (kindNumber k) s at ≡ found (nameOf k) next
+name-reads : (c : Counts) (k : Kind) (s : List ℕ) (at next : ℕ) → InRange c → nameFine c k ≡ true
+    → StandsTo s at next (nameBytes k) → nameAt c (kindNumber k) s at ≡ found (nameOf k) next
 unfolding nameAt nameFine nameBytes
 name-reads c k s at next range = by (eqb (kindNumber k) 0) refl
   where
     limit : ℕ
     limit = limitOf c (kindNumber k)
 
-    by : (t : Bool) → eqb (kindNumber k) 0 ≡ t → (t || ltb (nameOf k) limit) ≡ true → StandsTo s at next (cond t [] (numberBytes (nameOf k))) → cond t (found 0 at) (wanted (λ v. ltb v limit) noSuchName s at) ≡ found (nameOf k) next
+    by : (t : Bool) → eqb (kindNumber k) 0 ≡ t → (t || ltb (nameOf k) limit) ≡ true
+        → StandsTo s at next (cond t [] (numberBytes (nameOf k)))
+        → cond t (found 0 at) (wanted (λ v. ltb v limit) noSuchName s at) ≡ found (nameOf k) next
     by true wire fine here =
         let same : at ≡ next = omega (arith, here .ends) in
         λ i. found (wire-name k (eqb-true (kindNumber k) 0 wire) i) (same i)
-    by false some below here = wanted-reads (λ v. ltb v limit) noSuchName s at next (nameOf k) (omega (arith, ltb-true (nameOf k) limit below, limit-most c (kindNumber k) range)) below here
+    by false some below here =
+        wanted-reads (λ v. ltb v limit) noSuchName s at next (nameOf k)
+        (omega (arith, ltb-true (nameOf k) limit below, limit-most c (kindNumber k) range)) below here
 
-pub part-reads : (c : Counts) (w : WoundSoFar) (p : Part) (s : List ℕ) (at next : ℕ) → InRange c → partFine c w p ≡ true → StandsTo s at next (partBytes p) → partAt c w s at ≡ found p next
+pub part-reads : (c : Counts) (w : WoundSoFar) (p : Part) (s : List ℕ) (at next : ℕ) → InRange c
+    → partFine c w p ≡ true → StandsTo s at next (partBytes p) → partAt c w s at ≡ found p next
 unfolding partBytes
 part-reads c w p s at next range fine here =
     let rules = part-rules c w p fine in
     let k = kindNumber (p .kind) in
     let ka = at + length (numberBytes k) in
     let most : k ≤ 6 = kind-number-most (p .kind) in
-    let first = stands-first s at next (numberBytes k) (numberBytes (p .a) ++ (numberBytes (p .b) ++ nameBytes (p .kind))) here in
-    let after-kind = stands-second s at next (numberBytes k) (numberBytes (p .a) ++ (numberBytes (p .b) ++ nameBytes (p .kind))) here in
+    let first =
+    stands-first s at next (numberBytes k) (numberBytes (p .a) ++ (numberBytes (p .b) ++ nameBytes (p .kind)))
+    here in
+    let after-kind =
+    stands-second s at next (numberBytes k) (numberBytes (p .a) ++ (numberBytes (p .b) ++ nameBytes (p .kind)))
+    here in
     let ab = ka + length (numberBytes (p .a)) in
     let second = stands-first s ka next (numberBytes (p .a)) (numberBytes (p .b) ++ nameBytes (p .kind)) after-kind in
     let after-a = stands-second s ka next (numberBytes (p .a)) (numberBytes (p .b) ++ nameBytes (p .kind)) after-kind in
     let bn = ab + length (numberBytes (p .b)) in
     let third = stands-first s ab next (numberBytes (p .b)) (nameBytes (p .kind)) after-a in
     let fourth = stands-second s ab next (numberBytes (p .b)) (nameBytes (p .kind)) after-a in
-    let kinds = wanted-reads (inRange 0 6) noSuchKind s at ka k (omega arith) (range-within 0 6 k (omega arith) most) first in
-    let as-a = wanted-reads (terminalFine c) noSuchTerminal s ka ab (p .a) (omega (arith, ltb-true (p .a) (c .terminals) (rules .a-below), range .most-terminals)) (rules .a-below) second in
-    let as-b = wanted-reads (terminalFine c) noSuchTerminal s ab bn (p .b) (omega (arith, ltb-true (p .b) (c .terminals) (rules .b-below), range .most-terminals)) (rules .b-below) third in
+    let kinds =
+    wanted-reads (inRange 0 6) noSuchKind s at ka k (omega arith) (range-within 0 6 k (omega arith) most) first
+    in
+    let as-a =
+    wanted-reads (terminalFine c) noSuchTerminal s ka ab (p .a)
+    (omega (arith, ltb-true (p .a) (c .terminals) (rules .a-below), range .most-terminals)) (rules .a-below)
+    second in
+    let as-b =
+    wanted-reads (terminalFine c) noSuchTerminal s ab bn (p .b)
+    (omega (arith, ltb-true (p .b) (c .terminals) (rules .b-below), range .most-terminals)) (rules .b-below)
+    third in
     let names = name-reads c (p .kind) s bn next range (rules .named) fourth in
     let same = kind-of-parts (p .kind) in
-    sym (part-found c w s at k ka kinds (p .a) ab as-a (p .b) bn as-b (eqb-false _ _ (not-true _ (rules .apart))) (nameOf (p .kind)) next names (ap (windingFree w) same ∙ rules .free))
+    sym (part-found c w s at k ka kinds (p .a) ab as-a (p .b) bn as-b (eqb-false _ _ (not-true _ (rules .apart)))
+    (nameOf (p .kind)) next names (ap (windingFree w) same ∙ rules .free))
     ∙ part-as _ _ next refl refl same
 
 -- a name that was read is below its limit and stands there by its bytes; a wire carries none
@@ -102,13 +124,23 @@ name-read : (c : Counts) (k : ℕ) (s : List ℕ) (at : ℕ) → k ≤ 6 → Giv
 unfolding nameAt nameFine nameBytes
 name-read c k s at most = by (eqb k 0) refl
   where
-    by : (t : Bool) → eqb k 0 ≡ t → Gives (NameRead c k s at) (cond t (found 0 at) (wanted (λ n. ltb n (limitOf c k)) noSuchName s at))
-    by true wire = record { fine = rw (kind-number-of k 0 most, wire) refl; stands = λ bytes. rw (kind-number-of k 0 most, wire) (stands-none s at) }
+    by : (t : Bool) → eqb k 0 ≡ t → Gives (NameRead c k s at)
+        (cond t (found 0 at) (wanted (λ n. ltb n (limitOf c k)) noSuchName s at))
+    by true wire =
+        record {
+          fine = rw (kind-number-of k 0 most, wire) refl;
+          stands =
+              λ bytes. rw (kind-number-of k 0 most, wire) (stands-none s at);
+        }
     by false some =
         wanted-gives (NameRead c k s at) (λ n. ltb n (limitOf c k)) noSuchName s at (λ n read below.
         let number = kind-number-of k (n .value) most in
         let name = kind-name-of k (n .value) (let carried = eqb-false k 0 some in omega (arith, carried)) most in
-        record { fine = rw (number, some, name) below; stands = λ bytes. rw (number, some, name) (number-stands s at n read bytes) })
+        record {
+          fine = rw (number, some, name) below;
+          stands = λ bytes. rw (number, some, name)
+              (number-stands s at n read bytes);
+        })
 
 -- a part that was read breaks no rule of 5 to 8 and stands there by its bytes
 pub record PartIsFine (c : Counts) (w : WoundSoFar) (s : List ℕ) (at : ℕ) (p : Found Part) : Type 0 where
@@ -123,7 +155,8 @@ part-read c w s at =
     wanted-then _ (terminalFine c) noSuchTerminal s (a .next) _ (λ b b-read b-below.
     gives-unless _ (endsFine (a .value) (b .value)) endsEqual (a .next) _ (λ apart.
     let most = range-bounds 0 6 (k .value) kind .1 in
-    gives-then (NameRead c (k .value) s (b .next)) _ (nameAt c (k .value) s (b .next)) _ (name-read c (k .value) s (b .next) most) (λ n name.
+    gives-then (NameRead c (k .value) s (b .next)) _ (nameAt c (k .value) s (b .next)) _
+    (name-read c (k .value) s (b .next) most) (λ n name.
     gives-unless _ (windingFree w (kindOf (k .value) (n .value))) windingTaken (b .next) _ (λ free.
     record {
       fine = true-both (true-both (true-both (true-both a-below b-below) apart) (name .fine)) free;
@@ -131,5 +164,6 @@ part-read c w s at =
           rw (kind-number-of (k .value) (n .value) most)
           (stands-append s at (k .next) (n .next) _ _ (number-stands s at k k-read bytes)
           (stands-append s (k .next) (a .next) (n .next) _ _ (number-stands s (k .next) a a-read bytes)
-          (stands-append s (a .next) (b .next) (n .next) _ _ (number-stands s (a .next) b b-read bytes) (name .stands bytes))));
+          (stands-append s (a .next) (b .next) (n .next) _ _ (number-stands s (a .next) b b-read bytes)
+          (name .stands bytes))));
     }))))))

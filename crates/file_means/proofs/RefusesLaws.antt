@@ -1,4 +1,5 @@
--- What holds of whatever an outcome is refused by: it is handed on through a row of outcomes, of which a later one is come to only where those before it gave. So a `do` block of the definitions is followed line by line.
+-- What holds of whatever an outcome is refused by: it is handed on through a row of outcomes, of which a later one is
+-- come to only where those before it gave. So a `do` block of the definitions is followed line by line.
 --     Refuses P o       where o is refused by n at p, P holds of n and p
 use Prim.Native.Nat.{ℕ}
 use mathlib.Core.Path.{_≡_, refl}
@@ -17,10 +18,12 @@ module _ (P : ℕ → ℕ → Type 0) where
   refuses-each (given a) so = tt
   refuses-each (refused n p) so = so n p refl
 
-  pub refuses-then : {A B : Type 0} (o : Outcome A) (f : A → Outcome B) → Refuses P o → ((a : A) → o ≡ given a → Refuses P (f a)) → Refuses P (o >>= f)
+  pub refuses-then : {A B : Type 0} (o : Outcome A) (f : A → Outcome B) → Refuses P o
+      → ((a : A) → o ≡ given a → Refuses P (f a)) → Refuses P (o >>= f)
   refuses-then (given a) f here later = later a refl
   refuses-then (refused n p) f here later = here
 
-  pub refuses-unless : {B : Type 0} (t : Bool) (n p : ℕ) (o : Outcome B) → (t ≡ false → P n p) → (t ≡ true → Refuses P o) → Refuses P (unless t n p >> o)
+  pub refuses-unless : {B : Type 0} (t : Bool) (n p : ℕ) (o : Outcome B) → (t ≡ false → P n p)
+      → (t ≡ true → Refuses P o) → Refuses P (unless t n p >> o)
   refuses-unless true n p o here later = later refl
   refuses-unless false n p o here later = here refl

@@ -29,39 +29,58 @@ use Rattle.file_means.proofs.ReadFine.{read-fine}
 
 -- bytes stand at the start of an input that begins with them
 begins : (bytes rest : List ℕ) (n : ℕ) → n ≡ length bytes → StandsTo (bytes ++ rest) 0 n bytes
-begins bytes rest n long = record { there = ap (λ (l : List ℕ). bytes ++ l) (sym (drop-at bytes rest n (sym long))); ends = omega arith }
+begins bytes rest n long =
+    record { there = ap (λ (l : List ℕ). bytes ++ l) (sym (drop-at bytes rest n (sym long))); ends = omega arith }
 
 -- a board's bytes, whatever stands after them, are read as that board
-module _ (b : Board) (rest : List ℕ) (n : ℕ) (places : length (b .parts) ≡ 256) (fine : boardFine b ≡ true) (long : n ≡ length (boardBytes b)) (short : length (boardBytes b ++ rest) ≤ 65536) where
+module _ (b : Board) (rest : List ℕ) (n : ℕ) (places : length (b .parts) ≡ 256) (fine : boardFine b ≡ true)
+    (long : n ≡ length (boardBytes b)) (short : length (boardBytes b ++ rest) ≤ 65536) where
   reads-back : reading (boardBytes b ++ rest) ≡ (boardOf (b .counts) (partsOf b), given n)
   unfolding reading answered
-  reads-back = rw (le-leb (length (boardBytes b ++ rest)) 65536 short, board-reads b (boardBytes b ++ rest) n places fine (begins (boardBytes b) rest n long))
+  reads-back =
+      rw (
+        le-leb (length (boardBytes b ++ rest)) 65536 short,
+        board-reads b (boardBytes b ++ rest) n places fine
+            (begins (boardBytes b) rest n long),
+      )
 
 -- the board that is read has the parts that were written
-same-again : (b : Board) → length (b .parts) ≡ 256 → boardFine b ≡ true → sameBoard b (boardOf (b .counts) (partsOf b)) ≡ true
+same-again : (b : Board) → length (b .parts) ≡ 256 → boardFine b ≡ true
+    → sameBoard b (boardOf (b .counts) (partsOf b)) ≡ true
 unfolding boardFine
 same-again b places fine =
     let range = counts-in-range (b .counts) (both-true (countsFine (b .counts)) _ fine .0) in
-    let counted : length (partsOf b) ≡ b .counts .parts = length-take-le (b .counts .parts) (b .parts) (omega (arith, range .most-parts)) in
+    let counted : length (partsOf b) ≡ b .counts .parts =
+    length-take-le (b .counts .parts) (b .parts) (omega (arith, range .most-parts)) in
     equal-same-board b (boardOf (b .counts) (partsOf b)) refl (sym (padded-parts (b .counts) (partsOf b) (sym counted)))
 
 pub write-then-read : WriteThenRead
 write-then-read b out out′ n w r places wrote told read =
-    let written : WasWritten b out n out′ = writing-given b out n out′ (sym wrote ∙ ap (λ (o : Outcome ℕ). (o, out′)) told) in
-    let bytes : take n out′ ≡ boardBytes b ++ [] = ap (take n) (written .begins) ∙ take-at (boardBytes b) (drop n out) n (sym (written .count)) ∙ sym (append-nil (boardBytes b)) in
-    let few : length (boardBytes b ++ []) ≤ 65536 = rw (append-nil (boardBytes b)) (omega (arith, board-file-bound b (written .fine))) in
-    let back = read ∙ ap reading bytes ∙ reads-back b [] n places (written .fine) (written .count) few in
-    (ap (λ (a : Board × Outcome ℕ). a .1) back, ap (λ (a : Board × Outcome ℕ). sameBoard b (a .0)) back ∙ same-again b places (written .fine))
+    let written : WasWritten b out n out′ =
+    writing-given b out n out′ (sym wrote ∙ ap (λ (o : Outcome ℕ). (o, out′)) told) in
+    let bytes : take n out′ ≡ boardBytes b ++ [] =
+    ap (take n) (written .begins) ∙ take-at (boardBytes b) (drop n out) n (sym (written .count))
+    ∙ sym (append-nil (boardBytes b)) in
+    let few : length (boardBytes b ++ []) ≤ 65536 =
+    rw (append-nil (boardBytes b)) (omega (arith, board-file-bound b (written .fine))) in
+    let back = read ∙ ap reading bytes ∙ reads-back b [] n places (written .fine) (written .count) few in (
+      ap (λ (a : Board × Outcome ℕ). a .1) back,
+      ap (λ (a : Board × Outcome ℕ). sameBoard b (a .0)) back
+          ∙ same-again b places (written .fine),
+    )
 
 -- a fine board is written where it has room
-writes : (b : Board) (out : List ℕ) (n : ℕ) → boardFine b ≡ true → n ≡ length (boardBytes b) → n ≤ length out → writing b out ≡ (given n, boardBytes b ++ drop n out)
+writes : (b : Board) (out : List ℕ) (n : ℕ) → boardFine b ≡ true → n ≡ length (boardBytes b) → n ≤ length out
+    → writing b out ≡ (given n, boardBytes b ++ drop n out)
 writes b out n fine long room =
     writing-with-room b out fine (omega arith) ∙ ap (λ (m : ℕ). (given m, boardBytes b ++ drop m out)) (sym long)
 
 pub read-then-write : ReadThenWrite
 read-then-write s out out′ n r w bytes read told wrote =
     let b = r .board in
-    let was : BoardRead s b n = subst (λ (a : Board × Outcome ℕ). Gives (BoardRead s (a .0)) (a .1)) (sym read ∙ ap (λ (o : Outcome ℕ). (b, o)) told) (read-fine s) in
+    let was : BoardRead s b n =
+    subst (λ (a : Board × Outcome ℕ). Gives (BoardRead s (a .0)) (a .1))
+    (sym read ∙ ap (λ (o : Outcome ℕ). (b, o)) told) (read-fine s) in
     let long : n ≡ length (boardBytes b) = omega (arith, was .stands bytes .ends) in (
       was .fine,
       λ room.

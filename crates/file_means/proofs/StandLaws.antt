@@ -1,4 +1,6 @@
--- Bytes that stand at a place of an input, up to another place, and numbers read there. One after the other: if xs stand up to a place and ys from there on, xs ++ ys stand, and the other way round. Both directions of the round trip go by these.
+-- Bytes that stand at a place of an input, up to another place, and numbers read there. One after the other: if xs
+-- stand up to a place and ys from there on, xs ++ ys stand, and the other way round. Both directions of the round trip
+-- go by these.
 use Prim.Native.Nat.{ℕ, _+_, _≤_}
 use native.Mathlib.Omega.{arith}
 use mathlib.Core.Path.{_≡_, refl, sym, ap, _∙_}
@@ -19,7 +21,8 @@ pub record StandsTo (s : List ℕ) (at next : ℕ) (bytes : List ℕ) : Type 0 w
 pub stands-none : (s : List ℕ) (at : ℕ) → StandsTo s at at []
 stands-none s at = record { there = refl; ends = omega arith }
 
-pub stands-append : (s : List ℕ) (at mid next : ℕ) (xs ys : List ℕ) → StandsTo s at mid xs → StandsTo s mid next ys → StandsTo s at next (xs ++ ys)
+pub stands-append : (s : List ℕ) (at mid next : ℕ) (xs ys : List ℕ) → StandsTo s at mid xs → StandsTo s mid next ys
+    → StandsTo s at next (xs ++ ys)
 stands-append s at mid next xs ys first second =
     record {
       there = first .there ∙ ap (λ (l : List ℕ). xs ++ l) (second .there) ∙ sym (append-assoc xs ys (drop next s));
@@ -31,22 +34,33 @@ module _ (s : List ℕ) (at next : ℕ) (xs ys : List ℕ) (both : StandsTo s at
   past = drop-past s at xs (ys ++ drop next s) (both .there ∙ append-assoc xs ys (drop next s))
 
   pub stands-first : StandsTo s at (at + length xs) xs
-  stands-first = record { there = both .there ∙ append-assoc xs ys (drop next s) ∙ ap (λ (l : List ℕ). xs ++ l) (sym past); ends = refl }
+  stands-first =
+      record {
+        there = both .there ∙ append-assoc xs ys (drop next s) ∙ ap (λ (l : List ℕ). xs ++ l) (sym past);
+        ends = refl;
+      }
 
   pub stands-second : StandsTo s (at + length xs) next ys
   stands-second = record { there = past; ends = omega (arith, both .ends, length-append xs ys) }
 
 -- a number's bytes read back to the number, and a number that was read stands there by its bytes
-pub number-reads : (s : List ℕ) (at next v : ℕ) → v ≤ largest → StandsTo s at next (numberBytes v) → numberAt s at ≡ found v next
-number-reads s at next v small here = read-written s at v (drop next s) small (here .there) ∙ ap (found v) (sym (here .ends))
+pub number-reads : (s : List ℕ) (at next v : ℕ) → v ≤ largest → StandsTo s at next (numberBytes v)
+    → numberAt s at ≡ found v next
+number-reads s at next v small here =
+    read-written s at v (drop next s) small (here .there) ∙ ap (found v) (sym (here .ends))
 
-pub number-stands : (s : List ℕ) (at : ℕ) (v : Found ℕ) → numberAt s at ≡ given v → Bytes s → StandsTo s at (v .next) (numberBytes (v .value))
+pub number-stands : (s : List ℕ) (at : ℕ) (v : Found ℕ) → numberAt s at ≡ given v → Bytes s
+    → StandsTo s at (v .next) (numberBytes (v .value))
 number-stands s at v h bytes =
     let read = written-read s at (v .value) (v .next) bytes h in
     record { there = read .bytes; ends = read .next }
 
-pub wanted-reads : (ok : ℕ → Bool) (n : ℕ) (s : List ℕ) (at next v : ℕ) → v ≤ largest → ok v ≡ true → StandsTo s at next (numberBytes v) → wanted ok n s at ≡ found v next
-wanted-reads ok n s at next v small fine here = wanted-passes ok n s at v next (number-reads s at next v small here) fine
+pub wanted-reads : (ok : ℕ → Bool) (n : ℕ) (s : List ℕ) (at next v : ℕ) → v ≤ largest → ok v ≡ true
+    → StandsTo s at next (numberBytes v) → wanted ok n s at ≡ found v next
+wanted-reads ok n s at next v small fine here =
+    wanted-passes ok n s at v next (number-reads s at next v small here) fine
 
-pub wanted-stands : (ok : ℕ → Bool) (n : ℕ) (s : List ℕ) (at next v : ℕ) → Bytes s → wanted ok n s at ≡ found v next → StandsTo s at next (numberBytes v)
-wanted-stands ok n s at next v bytes h = number-stands s at (record { value = v; next = next }) (wanted-found ok n s at v next h .1) bytes
+pub wanted-stands : (ok : ℕ → Bool) (n : ℕ) (s : List ℕ) (at next v : ℕ) → Bytes s → wanted ok n s at ≡ found v next
+    → StandsTo s at next (numberBytes v)
+wanted-stands ok n s at next v bytes h =
+    number-stands s at (record { value = v; next = next }) (wanted-found ok n s at v next h .1) bytes

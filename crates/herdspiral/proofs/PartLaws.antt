@@ -12,7 +12,8 @@ use Rattle.session.specs.HandingOut.{nextLine, toldHanded}
 use Rattle.session.proofs.CallLaws.{came, came-less}
 use Rattle.herdspiral.specs.Progress.{Advances}
 
-pub part-advances : (z : Session) (s lines out′ : List ℕ) (at : ℕ) (r : Handed) → at ≤ length lines → toldHanded r out′ ≡ nextLine (toldSession z) s (midOf at (length lines - at) lines) → Advances z s lines at r
+pub part-advances : (z : Session) (s lines out′ : List ℕ) (at : ℕ) (r : Handed) → at ≤ length lines
+    → toldHanded r out′ ≡ nextLine (toldSession z) s (midOf at (length lines - at) lines) → Advances z s lines at r
 part-advances z s lines out′ at r within called n line =
     let part = midOf at (length lines - at) lines in (
       omega (arith, came z s part out′ r called n line .fits, mid-len at (length lines) lines (omega arith), within),

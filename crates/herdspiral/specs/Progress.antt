@@ -1,5 +1,6 @@
 -- Why the program's loop ends. Only for its own functions: no contract can say what a program reads and writes.
---     Advances z s lines at r      where r hands out a line into `lines` from a place on, the line fits, and less is to come after it
+--     Advances z s lines at r      where r hands out a line into `lines` from a place on, the line fits, and less is to
+--                                  come after it
 use Prim.Native.Nat.{ℕ, _+_, _<_, _≤_}
 use mathlib.Core.Path.{_≡_}
 use mathlib.Core.List.{List}
@@ -11,4 +12,6 @@ use Rattle.session.specs.Carried.{toldSession}
 use Rattle.session.specs.ToCome.{toCome}
 
 abbrev pub Advances : Session → List ℕ → List ℕ → ℕ → Handed → Type 0
-Advances z s lines at r = (n : ℕ) → r .answer ≡ Line n → (at + n ≤ length lines) × (toCome (toldSession (r .session)) s < toCome (toldSession z) s)
+Advances z s lines at r =
+    (n : ℕ) → r .answer ≡ Line n → (at + n ≤ length lines)
+    × (toCome (toldSession (r .session)) s < toCome (toldSession z) s)

@@ -25,12 +25,14 @@ module _ (b : Board) (s : State) (r : ℕ) (n : Which) where
   unfolding windingFor
   judgeable-unusable k p unusable = rw unusable refl
 
-  pub judgeable-sought : boardFine b ≡ true → stateFine (b .counts) s ≡ true → windingFor b s r n ≡ windingOf n r (partsOf b)
+  pub judgeable-sought : boardFine b ≡ true → stateFine (b .counts) s ≡ true → windingFor b s r n ≡ windingOf n r
+      (partsOf b)
   unfolding windingFor
   judgeable-sought fine fits = rw (usable-fine b s fine fits) refl
 
   -- where a winding is judged, the board breaks no rule and the winding is the relay's
-  pub judgeable-given : (e : Winding) → windingFor b s r n ≡ given e → (boardFine b ≡ true) × (windingOf n r (partsOf b) ≡ given e)
+  pub judgeable-given : (e : Winding) → windingFor b s r n ≡ given e → (boardFine b ≡ true)
+      × (windingOf n r (partsOf b) ≡ given e)
   unfolding windingFor
   judgeable-given e taken =
       let both = both-given (usable b s) (windingOf n r (partsOf b)) e taken in
@@ -41,7 +43,8 @@ module _ (b : Board) (s : State) (r : ℕ) (n : Which) where
   unfolding judging
   judging-by w o e = ap (λ (q : Outcome Winding). verdictOn b s q w) (sym e)
 
-  pub judging-judged : (w : ℕ) (v : Winding) (near : List ℕ) → boardFine b ≡ true → stateFine (b .counts) s ≡ true → windingOf n r (partsOf b) ≡ given v → near ≡ neighbours b s
+  pub judging-judged : (w : ℕ) (v : Winding) (near : List ℕ) → boardFine b ≡ true → stateFine (b .counts) s ≡ true
+      → windingOf n r (partsOf b) ≡ given v → near ≡ neighbours b s
       → verdictBy near (inSets (b .counts .terminals)) v w ≡ judging b s r n w
   judging-judged w v near fine fits found same =
       ap (λ (k : List ℕ). verdictBy k (inSets (b .counts .terminals)) v w) same

@@ -1,4 +1,5 @@
--- Laws of a relay's winding among the parts: what the walk along a board's first C parts needs, one law for each way out of `winding`.
+-- Laws of a relay's winding among the parts: what the walk along a board's first C parts needs, one law for each way
+-- out of `winding`.
 use Prim.Native.Nat.{ℕ, _+_, _<_, _≤_}
 use mathlib.Core.Path.{_≡_, refl, sym, ap, _∙_}
 use mathlib.Core.Bool.{true, false}
@@ -20,11 +21,13 @@ use Rattle.judge.specs.RelayWindings.{isWinding, windingOf, toldSought}
 abbrev pub ends : Part → Winding
 ends p = record { a = p .a; b = p .b }
 
-pub winding-here : (w : Which) (r : ℕ) (p : Part) (ps : List Part) → isWinding w r (p .kind) ≡ true → windingOf w r (p ∷ ps) ≡ given (ends p)
+pub winding-here : (w : Which) (r : ℕ) (p : Part) (ps : List Part) → isWinding w r (p .kind) ≡ true
+    → windingOf w r (p ∷ ps) ≡ given (ends p)
 unfolding windingOf
 winding-here w r p ps e = rw e refl
 
-pub winding-past : (w : Which) (r : ℕ) (p : Part) (ps : List Part) → isWinding w r (p .kind) ≡ false → windingOf w r (p ∷ ps) ≡ windingOf w r ps
+pub winding-past : (w : Which) (r : ℕ) (p : Part) (ps : List Part) → isWinding w r (p .kind) ≡ false
+    → windingOf w r (p ∷ ps) ≡ windingOf w r ps
 unfolding windingOf
 winding-past w r p ps e = rw e refl
 
@@ -33,7 +36,8 @@ unfolding windingOf
 winding-none w r = refl
 
 -- a winding that is not found is refused by 11
-pub winding-refused : (w : Which) (r : ℕ) (ps : List Part) (k q : ℕ) → windingOf w r ps ≡ refused k q → windingOf w r ps ≡ refused noSuchWinding 0
+pub winding-refused : (w : Which) (r : ℕ) (ps : List Part) (k q : ℕ) → windingOf w r ps ≡ refused k q
+    → windingOf w r ps ≡ refused noSuchWinding 0
 winding-refused w r [] k q e = winding-none w r
 winding-refused w r (p ∷ ps) k q e =
     by-test (isWinding w r (p .kind))
@@ -41,12 +45,19 @@ winding-refused w r (p ∷ ps) k q e =
     (λ off. winding-past w r p ps off ∙ winding-refused w r ps k q (sym (winding-past w r p ps off) ∙ e))
 
 -- at place i of the first n parts of l, `all` is the winding among the parts from there on
-module _ (w : Which) (r : ℕ) (l : List Part) (n i : ℕ) (all : Outcome Winding) (here : all ≡ windingOf w r (drop i (take n l))) where
-  pub sought-here : i < n → i < length l → isWinding w r (getD l i blank .kind) ≡ true → given (ends (getD l i blank)) ≡ all
-  sought-here below there e = sym (here ∙ ap (windingOf w r) (taken-from blank l n i below there) ∙ winding-here w r (getD l i blank) (drop (i + 1) (take n l)) e)
+module _ (w : Which) (r : ℕ) (l : List Part) (n i : ℕ) (all : Outcome Winding)
+    (here : all ≡ windingOf w r (drop i (take n l))) where
+  pub sought-here : i < n → i < length l → isWinding w r (getD l i blank .kind) ≡ true
+      → given (ends (getD l i blank)) ≡ all
+  sought-here below there e =
+      sym (here ∙ ap (windingOf w r) (taken-from blank l n i below there) ∙ winding-here w r (getD l i blank)
+      (drop (i + 1) (take n l)) e)
 
-  pub sought-on : i < n → i < length l → isWinding w r (getD l i blank .kind) ≡ false → all ≡ windingOf w r (drop (i + 1) (take n l))
-  sought-on below there e = here ∙ ap (windingOf w r) (taken-from blank l n i below there) ∙ winding-past w r (getD l i blank) (drop (i + 1) (take n l)) e
+  pub sought-on : i < n → i < length l → isWinding w r (getD l i blank .kind) ≡ false
+      → all ≡ windingOf w r (drop (i + 1) (take n l))
+  sought-on below there e =
+      here ∙ ap (windingOf w r) (taken-from blank l n i below there) ∙ winding-past w r (getD l i blank)
+      (drop (i + 1) (take n l)) e
 
   pub sought-end : n ≤ i → refused noSuchWinding 0 ≡ all
   sought-end past = sym (here ∙ ap (windingOf w r) (taken-past blank l n i past) ∙ winding-none w r)

@@ -1,9 +1,11 @@
--- A relay's windings. Rule book: "Judging names a relay and either its first winding (the regular or the drawing one) or its second (the dropping one)"; refusal 11, "no such relay, or a second winding asked of a regular one".
+-- A relay's windings. Rule book: "Judging names a relay and either its first winding (the regular or the drawing one)
+-- or its second (the dropping one)"; refusal 11, "no such relay, or a second winding asked of a regular one".
 --     isFirst r k, isSecond r k    kind k is the first, the second winding of relay r
 --     isWinding n r k              kind k is that winding of relay r
 --     windingOf n r ps             the ends of that winding of relay r among the parts ps; 11 where there is none
 --     toldSought                   the answer's cases in the rule book's numbers
--- `verdicts` shows that on a board that breaks no rule 11 is given exactly if its line holds, and that the winding is the only one.
+-- `verdicts` shows that on a board that breaks no rule 11 is given exactly if its line holds, and that the winding is
+-- the only one.
 use Prim.Native.Nat.{ℕ}
 use mathlib.Core.Bool.{Bool, false, cond}
 use mathlib.Core.List.{List, [], _∷_}

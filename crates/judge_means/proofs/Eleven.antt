@@ -1,4 +1,5 @@
--- Refusal 11 is given exactly if its line holds, and the winding judged is that of the relay and the only one. Both go by how many parts are that winding: 1 or 0.
+-- Refusal 11 is given exactly if its line holds, and the winding judged is that of the relay and the only one. Both go
+-- by how many parts are that winding: 1 or 0.
 use Prim.Native.Nat.{ℕ, _+_, _<_, _≤_}
 use native.Mathlib.Omega.{arith}
 use mathlib.Core.Path.{_≡_, refl, sym, ap, _∙_}
@@ -98,10 +99,12 @@ module _ (c : Counts) (r j : ℕ) (some : eqb j 0 ≡ false) (relay : eqb j 3 �
   unfolding nameFine carries
   carried-below k named on =
       let both = both-true (eqb (kindNumber k) j) (eqb (nameOf k) r) on in
-      ltb-true r (c .relays) (rw (eqb-true (kindNumber k) j (both .0), eqb-true (nameOf k) r (both .1), some, relay) at named)
+      ltb-true r (c .relays) (rw (eqb-true (kindNumber k) j (both .0), eqb-true (nameOf k) r (both .1), some, relay)
+      at named)
 
   past-free : (k : Kind) → nameFine c k ≡ true → c .relays ≤ r → carries j r k ≡ false
-  past-free k named past = by-test (carries j r k) (λ on. absurd (omega (arith, past, carried-below k named on))) (λ off. off)
+  past-free k named past =
+      by-test (carries j r k) (λ on. absurd (omega (arith, past, carried-below k named on))) (λ off. off)
 
   past-none : (ps : List Part) → partsFit c ps ≡ true → c .relays ≤ r → windingsOf j r ps ≡ 0
   unfolding windingsOf partsFit
@@ -110,8 +113,10 @@ module _ (c : Counts) (r j : ℕ) (some : eqb j 0 ≡ false) (relay : eqb j 3 �
       let both = both-true (partFits c p) (partsFit c ps) fit in
       omega (arith, ap worth (past-free (p .kind) (part-named c p (both .0)) past), past-none ps (both .1) past)
 
-beyond-none : (c : Counts) (n : Which) (r : ℕ) (ps : List Part) → partsFit c ps ≡ true → c .relays ≤ r → these n r ps ≡ 0
-beyond-none c First r ps fit past = omega (arith, first-sum r ps, past-none c r 4 refl refl ps fit past, past-none c r 5 refl refl ps fit past)
+beyond-none : (c : Counts) (n : Which) (r : ℕ) (ps : List Part) → partsFit c ps ≡ true → c .relays ≤ r
+    → these n r ps ≡ 0
+beyond-none c First r ps fit past =
+    omega (arith, first-sum r ps, past-none c r 4 refl refl ps fit past, past-none c r 5 refl refl ps fit past)
 beyond-none c Second r ps fit past = second-sum r ps ∙ past-none c r 6 refl refl ps fit past
 
 -- ---- the winding found
@@ -134,17 +139,29 @@ module _ (n : Which) (r : ℕ) where
       by-test (its n r p)
       (λ on. inl (record { part = p; among = inl refl; is-winding = on; found = winding-here n r p ps on }))
       (λ off. ⊎-map
-      (λ (f : Found ps). record { part = f .part; among = inr (f .among); is-winding = f .is-winding; found = winding-past n r p ps off ∙ f .found })
-      (λ (m : Missing ps). record { missing = winding-past n r p ps off ∙ m .missing; none = omega (arith, ap worth off, m .none) })
+      (λ (f : Found ps). record {
+        part = f .part;
+        among = inr (f .among);
+        is-winding = f .is-winding;
+        found =
+            winding-past n r p ps off ∙ f .found;
+      })
+      (λ (m : Missing ps). record {
+        missing = winding-past n r p ps off ∙ m .missing;
+        none =
+            omega (arith, ap worth off, m .none);
+      })
       (sought ps))
 
   refused-none : (ps : List Part) → windingOf n r ps ≡ refused noSuchWinding 0 → these n r ps ≡ 0
   refused-none ps refusal =
-      ⊎-elim (λ f. absurd (refused-never noSuchWinding 0 (ends (f .part)) (sym refusal ∙ f .found))) (λ m. m .none) (sought ps)
+      ⊎-elim (λ f. absurd (refused-never noSuchWinding 0 (ends (f .part)) (sym refusal ∙ f .found))) (λ m. m .none)
+      (sought ps)
 
   none-refused : (ps : List Part) → these n r ps ≡ 0 → windingOf n r ps ≡ refused noSuchWinding 0
   none-refused ps none =
-      ⊎-elim (λ f. absurd (omega (arith, none, member-counted (its n r) ps (f .part) (f .among) (f .is-winding)))) (λ m. m .missing) (sought ps)
+      ⊎-elim (λ f. absurd (omega (arith, none, member-counted (its n r) ps (f .part) (f .among) (f .is-winding))))
+      (λ m. m .missing) (sought ps)
 
   given-found : (ps : List Part) (e : Winding) → windingOf n r ps ≡ given e → Found ps
   given-found ps e answer =
@@ -158,13 +175,18 @@ module _ (b : Board) (r : ℕ) (n : Which) (fine : boardFine b ≡ true) where
   fine-most =
       by-test (ltb r (b .counts .relays))
       (λ below. sorted-most r (partsOf b) n (fine-relays-wound b fine r (ltb-true r (b .counts .relays) below)))
-      (λ past. omega (arith, beyond-none (b .counts) n r (partsOf b) (fine-parts-fit b fine) (ltb-false r (b .counts .relays) past)))
+      (λ past. omega (
+        arith,
+        beyond-none (b .counts) n r (partsOf b) (fine-parts-fit b fine)
+            (ltb-false r (b .counts .relays) past),
+      ))
 
   -- none of the parts is that winding exactly if the line of 11 holds
   none-line : these n r (partsOf b) ≡ 0 → (b .counts .relays ≤ r) ⊎ ((n ≡ Second) × isRegular r (partsOf b))
   none-line none =
       by-test (ltb r (b .counts .relays))
-      (λ below. inr (sorted-none r (partsOf b) n (fine-relays-wound b fine r (ltb-true r (b .counts .relays) below)) none))
+      (λ below. inr (sorted-none r (partsOf b) n (fine-relays-wound b fine r (ltb-true r (b .counts .relays) below))
+      none))
       (λ past. inl (ltb-false r (b .counts .relays) past))
 
   line-none : (b .counts .relays ≤ r) ⊎ ((n ≡ Second) × isRegular r (partsOf b)) → these n r (partsOf b) ≡ 0
@@ -173,8 +195,11 @@ module _ (b : Board) (r : ℕ) (n : Which) (fine : boardFine b ≡ true) where
 
 pub eleven-exactly : ElevenExactly
 eleven-exactly b s r n fine fits =
-    let same = judgeable-sought b s r n fine fits in
-    (λ refusal. none-line b r n fine (refused-none n r (partsOf b) (sym same ∙ refusal)), λ line. same ∙ none-refused n r (partsOf b) (line-none b r n fine line))
+    let same = judgeable-sought b s r n fine fits in (
+      λ refusal. none-line b r n fine (refused-none n r (partsOf b) (sym same ∙ refusal)),
+      λ line. same
+          ∙ none-refused n r (partsOf b) (line-none b r n fine line),
+    )
 
 pub the-winding : TheWinding
 the-winding b s r n e accepted =
@@ -186,5 +211,7 @@ the-winding b s r n e accepted =
       on-board = f .among;
       is-winding = f .is-winding;
       ends = (ap (λ (w : Winding). w .a) same, ap (λ (w : Winding). w .b) same);
-      only = λ p among on. counted-only (its n r) (partsOf b) (fine-most b r n (answer .0)) p (f .part) among (f .among) on (f .is-winding);
+      only =
+          λ p among on. counted-only (its n r) (partsOf b) (fine-most b r n (answer .0)) p (f .part) among
+          (f .among) on (f .is-winding);
     }

@@ -1,4 +1,5 @@
--- Laws that relate the places of a list, which the published model counts, to our words: its steps, its ending, its beginning and that nothing stands twice. For Agreement.
+-- Laws that relate the places of a list, which the published model counts, to our words: its steps, its ending, its
+-- beginning and that nothing stands twice. For Agreement.
 use Prim.Native.Nat.{ℕ, zero, suc, _+_, _-_, _<_, _≤_}
 use native.Mathlib.Numerals.{add-one}
 use native.Mathlib.Omega.{arith}
@@ -31,16 +32,22 @@ place-member (x ∷ p) zero h = inl refl
 place-member (x ∷ p) (suc i) h = inr (place-member p i (omega arith))
 
 -- what stands once stands at one place only
-pub once-places : (p : List ℕ) → Once p → (i j : ℕ) → i < length p → j < length p → ¬ (i ≡ j) → ¬ (place p i ≡ place p j)
+pub once-places : (p : List ℕ) → Once p → (i j : ℕ) → i < length p → j < length p → ¬ (i ≡ j)
+    → ¬ (place p i ≡ place p j)
 once-places [] once i j hi hj apart e = omega arith
 once-places (x ∷ p) once zero zero hi hj apart e = apart refl
-once-places (x ∷ p) once zero (suc j) hi hj apart e = once .0 (subst (λ (z : ℕ). z ∈ p) (sym e) (place-member p j (omega arith)))
-once-places (x ∷ p) once (suc i) zero hi hj apart e = once .0 (subst (λ (z : ℕ). z ∈ p) e (place-member p i (omega arith)))
-once-places (x ∷ p) once (suc i) (suc j) hi hj apart e = once-places p (once .1) i j (omega arith) (omega arith) (λ s. apart (ap suc s)) e
+once-places (x ∷ p) once zero (suc j) hi hj apart e =
+    once .0 (subst (λ (z : ℕ). z ∈ p) (sym e) (place-member p j (omega arith)))
+once-places (x ∷ p) once (suc i) zero hi hj apart e =
+    once .0 (subst (λ (z : ℕ). z ∈ p) e (place-member p i (omega arith)))
+once-places (x ∷ p) once (suc i) (suc j) hi hj apart e =
+    once-places p (once .1) i j (omega arith) (omega arith) (λ s. apart (ap suc s)) e
 
-pub places-once : (p : List ℕ) → ((i j : ℕ) → i < length p → j < length p → ¬ (i ≡ j) → ¬ (place p i ≡ place p j)) → Once p
+pub places-once : (p : List ℕ) → ((i j : ℕ) → i < length p → j < length p → ¬ (i ≡ j) → ¬ (place p i ≡ place p j))
+    → Once p
 places-once [] differ = tt
-places-once (x ∷ p) differ = (new, places-once p (λ i j hi hj apart. differ (suc i) (suc j) (omega arith) (omega arith) (omega arith)))
+places-once (x ∷ p) differ =
+    (new, places-once p (λ i j hi hj apart. differ (suc i) (suc j) (omega arith) (omega arith) (omega arith)))
   where
     new : ¬ (x ∈ p)
     new m =
@@ -65,23 +72,44 @@ contains-step p x y c = subst (λ (s : ℕ × ℕ). s ∈ steps p) (cc (c .first
 pub step-contains : (p : List ℕ) (x y : ℕ) → (x, y) ∈ steps p → PathContainsConnection p x y
 step-contains [] x y m = absurd m
 step-contains (u ∷ []) x y m = absurd m
-step-contains (u ∷ v ∷ p) x y (inl e) = record { at = 0; inside = omega arith; first = ap (λ (s : ℕ × ℕ). s .0) (sym e); second = ap (λ (s : ℕ × ℕ). s .1) (sym e) }
+step-contains (u ∷ v ∷ p) x y (inl e) =
+    record {
+      at = 0;
+      inside = omega arith;
+      first = ap (λ (s : ℕ × ℕ). s .0) (sym e);
+      second =
+          ap (λ (s : ℕ × ℕ). s .1) (sym e);
+    }
 step-contains (u ∷ v ∷ p) x y (inr m) =
     let later = step-contains (v ∷ p) x y m in
-    record { at = suc (later .at); inside = omega (arith, later .inside); first = later .first; second = place-later u (v ∷ p) (later .at) ∙ later .second }
+    record {
+      at = suc (later .at);
+      inside = omega (arith, later .inside);
+      first = later .first;
+      second =
+          place-later u (v ∷ p) (later .at) ∙ later .second;
+    }
 
 -- what holds of the steps, place by place, holds of them all, and back
-pub steps-placed : (J : ℕ → ℕ → Type 0) (p : List ℕ) → All (λ (s : ℕ × ℕ). J (s .0) (s .1)) (steps p) → (i : ℕ) → i < length p - 1 → J (place p i) (place p (i + 1))
-steps-placed J p all i h = all-member (λ (s : ℕ × ℕ). J (s .0) (s .1)) (steps p) (place p i, place p (i + 1)) all (place-step p i h)
+pub steps-placed : (J : ℕ → ℕ → Type 0) (p : List ℕ) → All (λ (s : ℕ × ℕ). J (s .0) (s .1)) (steps p) → (i : ℕ)
+    → i < length p - 1 → J (place p i) (place p (i + 1))
+steps-placed J p all i h =
+    all-member (λ (s : ℕ × ℕ). J (s .0) (s .1)) (steps p) (place p i, place p (i + 1)) all (place-step p i h)
 
-pub placed-steps : (J : ℕ → ℕ → Type 0) (p : List ℕ) → ((i : ℕ) → i < length p - 1 → J (place p i) (place p (i + 1))) → All (λ (s : ℕ × ℕ). J (s .0) (s .1)) (steps p)
-placed-steps J p each = member-all (λ (s : ℕ × ℕ). J (s .0) (s .1)) (steps p) (λ s m. at-place s (step-contains p (s .0) (s .1) m))
+pub placed-steps : (J : ℕ → ℕ → Type 0) (p : List ℕ)
+    → ((i : ℕ) → i < length p - 1 → J (place p i) (place p (i + 1))) → All (λ (s : ℕ × ℕ). J (s .0) (s .1))
+    (steps p)
+placed-steps J p each =
+    member-all (λ (s : ℕ × ℕ). J (s .0) (s .1)) (steps p) (λ s m. at-place s (step-contains p (s .0) (s .1) m))
   where
     at-place : (s : ℕ × ℕ) → PathContainsConnection p (s .0) (s .1) → J (s .0) (s .1)
-    at-place s c = subst (λ (z : ℕ). J z (s .1)) (c .first) (subst (J (place p (c .at))) (c .second) (each (c .at) (c .inside)))
+    at-place s c =
+        subst (λ (z : ℕ). J z (s .1)) (c .first)
+        (subst (J (place p (c .at))) (c .second) (each (c .at) (c .inside)))
 
 -- of a list of two or more, each member has a step
-pub steps-members : (P : ℕ → Type 0) (p : List ℕ) → 2 ≤ length p → All (λ (s : ℕ × ℕ). P (s .0) × P (s .1)) (steps p) → All P p
+pub steps-members : (P : ℕ → Type 0) (p : List ℕ) → 2 ≤ length p → All (λ (s : ℕ × ℕ). P (s .0) × P (s .1))
+    (steps p) → All P p
 steps-members P [] long h = tt
 steps-members P (x ∷ []) long h = absurd (omega arith)
 steps-members P (x ∷ y ∷ []) long h = (h .0 .0, (h .0 .1, tt))

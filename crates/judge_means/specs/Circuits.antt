@@ -1,14 +1,21 @@
--- The words of document 000, over a board in a state: the paper's network is the board in the state, its connectors are the terminals, its components the parts, and its poles pos and neg are terminals 0 and 1. The paper counts places in a path from 1, a list here from 0. Its circuits have no parallel components and obey Danish wiring rules; our boards need not.
---     actualConnections s p            the connections that part p makes in state s: (a, b) and (b, a) if it conducts, else none
+-- The words of document 000, over a board in a state: the paper's network is the board in the state, its connectors are
+-- the terminals, its components the parts, and its poles pos and neg are terminals 0 and 1. The paper counts places in
+-- a path from 1, a list here from 0. Its circuits have no parallel components and obey Danish wiring rules; our boards
+-- need not.
+--     actualConnections s p            the connections that part p makes in state s: (a, b) and (b, a) if it conducts,
+--                                      else none
 --     AreConnected b s x y             "∃ cm : Component • cm ∈ components(n) ∧ (c1, c2) ∈ actualConnections(cm)"
---     Available b s p                  "len p ≥ 2 ∧ (∀ i ∈ {1 .. len p - 1} ⇒ areConnected(p(i), p(i + 1), n)) ∧ (∀ i, j ⊆ {1 .. len p} ⇒ (i ≠ j ⇒ p(i) ≠ p(j)))"
---     AvailablePath b s from to p      p is in "availablePaths(from, to, n)": "available(p, n) ∧ p(1) = from ∧ p(len p) = to"
+--     Available b s p                  "len p ≥ 2 ∧ (∀ i ∈ {1 .. len p - 1} ⇒ areConnected(p(i), p(i + 1), n)) ∧ (∀ i,
+--                                      j ⊆ {1 .. len p} ⇒ (i ≠ j ⇒ p(i) ≠ p(j)))"
+--     AvailablePath b s from to p      p is in "availablePaths(from, to, n)": "available(p, n) ∧ p(1) = from ∧ p(len p)
+--                                      = to"
 --     PathContainsConnection p x y     "∃ i ∈ {1 .. len p - 1} ∧ (p(i), p(i + 1)) = (c1, c2)"
 --     CurrentCarrying b s x y          "∃ p : Path • p ∈ availablePaths(pos, neg, n) ∧ PathContainsConnection(p, con)"
 --     WindingCarries b s x y           one of the connections of a winding between x and y is current carrying
 -- Agreement, of a board that breaks no rule (`proofs/Agreement.antt`):
 --     PathsAreChains                   the available paths from pos to neg are exactly our chains that end at 1
---     LiveIsCarrying                   a winding is live, by our chains, exactly if one of its connections is current carrying
+--     LiveIsCarrying                   a winding is live, by our chains, exactly if one of its connections is current
+--                                      carrying
 use Prim.Native.Nat.{ℕ, _+_, _-_, _<_, _≤_}
 use mathlib.Core.Path.{_≡_}
 use mathlib.Core.Logic.{_⊎_, _↔_}
@@ -68,7 +75,11 @@ abbrev pub WindingCarries : Board → State → ℕ → ℕ → Type 0
 WindingCarries b s x y = CurrentCarrying b s x y ⊎ CurrentCarrying b s y x
 
 abbrev pub PathsAreChains : Type 0
-PathsAreChains = (b : Board) (s : State) (p : List ℕ) → boardFine b ≡ true → AvailablePath b s pos neg p ↔ IsChain (Joined b s) (b .counts .terminals) p × (ending p ≡ minus)
+PathsAreChains =
+    (b : Board) (s : State) (p : List ℕ) → boardFine b ≡ true → AvailablePath b s pos neg p
+    ↔ IsChain (Joined b s) (b .counts .terminals) p × (ending p ≡ minus)
 
 abbrev pub LiveIsCarrying : Type 0
-LiveIsCarrying = (b : Board) (s : State) (x y : ℕ) → boardFine b ≡ true → Live (Joined b s) (b .counts .terminals) x y ↔ WindingCarries b s x y
+LiveIsCarrying =
+    (b : Board) (s : State) (x y : ℕ) → boardFine b ≡ true → Live (Joined b s) (b .counts .terminals) x y
+    ↔ WindingCarries b s x y

@@ -1,4 +1,5 @@
--- Laws of a kind as its number and name: the two determine it, and each kind's number is 0 to 6. What the reader and the writer of board files need of a part's kind.
+-- Laws of a kind as its number and name: the two determine it, and each kind's number is 0 to 6. What the reader and
+-- the writer of board files need of a part's kind.
 use Prim.Native.Nat.{ℕ, zero, suc, _≤_}
 use native.Mathlib.Omega.{arith}
 use mathlib.Core.Path.{_≡_, refl}
@@ -37,7 +38,9 @@ kind-number-of k n = up-to-six (λ (j : ℕ). kindNumber (kindOf j n) ≡ j) ref
 
 pub kind-name-of : (k n : ℕ) → 1 ≤ k → k ≤ 6 → nameOf (kindOf k n) ≡ n
 unfolding kindOf
-kind-name-of k n least most = up-to-six (λ (j : ℕ). 1 ≤ j → nameOf (kindOf j n) ≡ n) (λ none. absurd (omega arith)) (λ _. refl) (λ _. refl) (λ _. refl) (λ _. refl) (λ _. refl) (λ _. refl) k most least
+kind-name-of k n least most =
+    up-to-six (λ (j : ℕ). 1 ≤ j → nameOf (kindOf j n) ≡ n) (λ none. absurd (omega arith)) (λ _. refl) (λ _. refl)
+    (λ _. refl) (λ _. refl) (λ _. refl) (λ _. refl) k most least
 
 pub kind-number-most : (k : Kind) → kindNumber k ≤ 6
 kind-number-most Wire = omega arith

@@ -80,7 +80,8 @@ digits-enough zero n h = rw (digits-one 1 n, digits-one 0 n)
 digits-enough (suc k) n h =
     ⊎-elim
     (λ (l : n < 10). digits-one (suc (suc k)) n l ∙ sym (digits-one (suc k) n l))
-    (λ (m : 10 ≤ n). digits-more (suc (suc k)) n m ∙ ap (λ (s : List ℕ). s ++ (digit (n % 10) ∷ [])) (digits-enough k (n / 10) (rest-small (suc k) n h)) ∙ sym (digits-more (suc k) n m))
+    (λ (m : 10 ≤ n). digits-more (suc (suc k)) n m ∙ ap (λ (s : List ℕ). s ++ (digit (n % 10) ∷ []))
+    (digits-enough k (n / 10) (rest-small (suc k) n h)) ∙ sym (digits-more (suc k) n m))
     (one-or-more n)
 
 pub decimal-one : (n : ℕ) → n < 10 → decimal n ≡ digit n ∷ []
@@ -90,7 +91,8 @@ decimal-one n h = digits-one 19 n h
 pub decimal-more : (n : ℕ) → 10 ≤ n → n < 10 ^ mostDigits → decimal n ≡ decimal (n / 10) ++ (digit (n % 10) ∷ [])
 unfolding decimal
 decimal-more n m h =
-    digits-more 19 n m ∙ ap (λ (s : List ℕ). s ++ (digit (n % 10) ∷ [])) (sym (digits-enough 18 (n / 10) (rest-small 19 n h)))
+    digits-more 19 n m ∙ ap (λ (s : List ℕ). s ++ (digit (n % 10) ∷ []))
+    (sym (digits-enough 18 (n / 10) (rest-small 19 n h)))
 
 -- ---- what the digits stand for
 
@@ -108,7 +110,8 @@ digits-value zero n h = rw digits-one (value-one n)
 digits-value (suc k) n h =
     ⊎-elim
     (λ (l : n < 10). rw digits-one (value-one n))
-    (λ (m : 10 ≤ n). rw (digits-more, value-next) (omega (arith, digits-value k (n / 10) (rest-small (suc k) n h), parts n)))
+    (λ (m : 10 ≤ n). rw (digits-more, value-next)
+    (omega (arith, digits-value k (n / 10) (rest-small (suc k) n h), parts n)))
     (one-or-more n)
 
 pub decimal-value : (n : ℕ) → n < 10 ^ mostDigits → valueOf 0 (decimal n) ≡ n
@@ -122,7 +125,11 @@ digits-front zero n some h = rw digits-one (omega arith)
 digits-front (suc k) n some h =
     ⊎-elim
     (λ (l : n < 10). rw digits-one (omega arith))
-    (λ (m : 10 ≤ n). rw (digits-more, List·getD-append (digitsOf (suc k) (n / 10)) (digit (n % 10) ∷ []) 0 0 (digits-some k (n / 10))) (digits-front k (n / 10) (rest-some n m) (rest-small (suc k) n h)))
+    (λ (m : 10 ≤ n). rw (
+      digits-more,
+      List·getD-append (digitsOf (suc k) (n / 10)) (digit (n % 10) ∷ []) 0 0
+          (digits-some k (n / 10)),
+    ) (digits-front k (n / 10) (rest-some n m) (rest-small (suc k) n h)))
     (one-or-more n)
 
 -- only the number 0 begins with the character of 0

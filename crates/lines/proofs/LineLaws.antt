@@ -1,4 +1,5 @@
--- The laws of lines: how long they are, what writing one answers and leaves, and how `put_event` and `put_closing` put one together.
+-- The laws of lines: how long they are, what writing one answers and leaves, and how `put_event` and `put_closing` put
+-- one together.
 -- Later crates cite those of the first two sections, and nothing of the definitions' text.
 use mathlib.Core.Path.{_≡_, refl, sym, ap₂, _∙_}
 use mathlib.Core.Bool.{Bool, true, false}
@@ -38,7 +39,8 @@ word-few (refused n p) = omega arith
 
 pub line-length-most : (l : Line) → length (lineText l) ≤ longestLine
 unfolding lineText
-line-length-most (event e (given w) m d) = simp length-append (omega (arith, decimal-few e, word-few (given w), decimal-few m, decimal-few d))
+line-length-most (event e (given w) m d) =
+    simp length-append (omega (arith, decimal-few e, word-few (given w), decimal-few m, decimal-few d))
 line-length-most (event e (refused n p) m d) = simp length-append (omega (arith, decimal-few e, decimal-few n))
 line-length-most (closing n p) = simp length-append (omega (arith, decimal-few n, decimal-few p))
 
@@ -51,11 +53,13 @@ line-length-some (closing n p) = simp length-append (omega arith)
 -- ---- writing a line
 
 pub line-written : (l : Line) (out : List ℕ) → longestLine ≤ length out
-    → _≡_ {A = Outcome ℕ × List ℕ} (lineWriting l out) (given (length (lineText l)), lineText l ++ drop (length (lineText l)) out)
+    → _≡_ {A = Outcome ℕ × List ℕ} (lineWriting l out)
+    (given (length (lineText l)), lineText l ++ drop (length (lineText l)) out)
 unfolding lineWriting
 line-written l out room = rw (le-leb longestLine (length out) room)
 
-pub line-refused : (l : Line) (out : List ℕ) → length out < longestLine → _≡_ {A = Outcome ℕ × List ℕ} (lineWriting l out) (refused bufferTooShort 0, out)
+pub line-refused : (l : Line) (out : List ℕ) → length out < longestLine
+    → _≡_ {A = Outcome ℕ × List ℕ} (lineWriting l out) (refused bufferTooShort 0, out)
 unfolding lineWriting
 line-refused l out short = rw (lt-leb longestLine (length out) short)
 
@@ -64,14 +68,18 @@ pub line-keeps-length : (l : Line) (out : List ℕ) → length (lineWriting l ou
 line-keeps-length l out = by-room (leb longestLine (length out)) refl
   where
     by-room : (t : Bool) → leb longestLine (length out) ≡ t → length (lineWriting l out .1) ≡ length out
-    by-room true e = rw (line-written l out (leb-true longestLine (length out) e), length-append, length-drop) (omega (arith, line-length-most l, leb-true longestLine (length out) e))
+    by-room true e =
+        rw (line-written l out (leb-true longestLine (length out) e), length-append, length-drop)
+        (omega (arith, line-length-most l, leb-true longestLine (length out) e))
     by-room false e = rw (line-refused l out (leb-false longestLine (length out) e)) refl
 
 -- a line that was put at the start is a line written
-pub line-put : (l : Line) (out : List ℕ) {r : ℕ} {out′ : List ℕ} → longestLine ≤ length out → Put out 0 (lineText l) r out′
+pub line-put : (l : Line) (out : List ℕ) {r : ℕ} {out′ : List ℕ} → longestLine ≤ length out
+    → Put out 0 (lineText l) r out′
     → _≡_ {A = Outcome ℕ × List ℕ} (given r, out′) (lineWriting l out)
 line-put l out room put =
-    ap₂ {C = Outcome ℕ × List ℕ} (λ (n : ℕ) (o : List ℕ). (given n, o)) (put .0 ∙ zero-add (length (lineText l))) (put .1 ∙ sets-at-zero out (lineText l) (omega (arith, line-length-most l)))
+    ap₂ {C = Outcome ℕ × List ℕ} (λ (n : ℕ) (o : List ℕ). (given n, o)) (put .0 ∙ zero-add (length (lineText l)))
+    (put .1 ∙ sets-at-zero out (lineText l) (omega (arith, line-length-most l)))
     ∙ sym (line-written l out room)
 
 -- ---- an event's line, piece by piece: its number, the word, and the fields behind
@@ -87,7 +95,8 @@ below-four t (inr (inr (inr e))) = omega arith
 
 -- a run that was not refused, by the tag of its word
 event-text : (e m d : ℕ) (w : code-ending.Ending) → OneOf (0 ∷ 1 ∷ 2 ∷ 3 ∷ []) (tagOf the-type w)
-    → spaced (decimal e) ++ spaced (wordText (toldEnding w)) ++ spaced (decimal m) ++ ended (decimal d) ≡ lineText (event e (toldEnding w) m d)
+    → spaced (decimal e) ++ spaced (wordText (toldEnding w)) ++ spaced (decimal m)
+    ++ ended (decimal d) ≡ lineText (event e (toldEnding w) m d)
 unfolding lineText
 event-text e m d Idle ran = refl
 event-text e m d Spent ran = refl
@@ -95,7 +104,8 @@ event-text e m d Undecided ran = refl
 event-text e m d Conflict ran = refl
 event-text e m d (Refused r) ran = absurd (omega (arith, below-four 4 ran))
 
-module _ (e m d : ℕ) (w : code-ending.Ending) (out : List ℕ) (room : longestLine ≤ length out) {at₁ : ℕ} {out₁ : List ℕ} (first : Put out 0 (spaced (decimal e)) at₁ out₁) where
+module _ (e m d : ℕ) (w : code-ending.Ending) (out : List ℕ) (room : longestLine ≤ length out) {at₁ : ℕ}
+    {out₁ : List ℕ} (first : Put out 0 (spaced (decimal e)) at₁ out₁) where
   pub word-room : at₁ + 10 ≤ length out₁
   word-room = put-room out 0 (spaced (decimal e)) first 21 10 (number-few e 32) (omega arith)
 
@@ -104,36 +114,53 @@ module _ (e m d : ℕ) (w : code-ending.Ending) (out : List ℕ) (room : longest
     both = put-next out 0 (spaced (decimal e)) first (spaced (wordText (toldEnding w))) second
 
     both-room : at₂ + 42 ≤ length out₂
-    both-room = put-room out 0 (spaced (decimal e) ++ spaced (wordText (toldEnding w))) both 31 42 (simp length-append (omega (arith, decimal-few e, word-few (toldEnding w)))) (omega arith)
+    both-room =
+        put-room out 0 (spaced (decimal e) ++ spaced (wordText (toldEnding w))) both 31 42
+        (simp length-append (omega (arith, decimal-few e, word-few (toldEnding w)))) (omega arith)
 
     pub field-room : at₂ + mostDigits < length out₂
     field-room = omega (arith, both-room)
 
     -- a refused event has one field more
-    pub event-refused : {r : Refusal} {at₃ : ℕ} {out₃ : List ℕ} → w ≡ Refused r → Put out₂ at₂ (ended (decimal (r .number))) at₃ out₃
+    pub event-refused : {r : Refusal} {at₃ : ℕ} {out₃ : List ℕ} → w ≡ Refused r
+        → Put out₂ at₂ (ended (decimal (r .number))) at₃ out₃
         → Put out 0 (lineText (event e (toldEnding w) m d)) at₃ out₃
     unfolding lineText
-    event-refused {r} is third = rw is (put-next out 0 (spaced (decimal e) ++ spaced refusedText) (rw is at both) (ended (decimal (r .number))) third)
+    event-refused {r} is third =
+        rw is (put-next out 0 (spaced (decimal e) ++ spaced refusedText) (rw is at both)
+        (ended (decimal (r .number))) third)
 
     -- any other has two
     module _ {at₃ : ℕ} {out₃ : List ℕ} (third : Put out₂ at₂ (spaced (decimal m)) at₃ out₃) where
       pub drawn-room : at₃ + mostDigits < length out₃
       drawn-room = omega (arith, put-room out₂ at₂ (spaced (decimal m)) third 21 21 (number-few m 32) both-room)
 
-      pub event-ran : {at₄ : ℕ} {out₄ : List ℕ} → OneOf (0 ∷ 1 ∷ 2 ∷ 3 ∷ []) (tagOf the-type w) → Put out₃ at₃ (ended (decimal d)) at₄ out₄
+      pub event-ran : {at₄ : ℕ} {out₄ : List ℕ} → OneOf (0 ∷ 1 ∷ 2 ∷ 3 ∷ []) (tagOf the-type w)
+          → Put out₃ at₃ (ended (decimal d)) at₄ out₄
           → Put out 0 (lineText (event e (toldEnding w) m d)) at₄ out₄
-      event-ran {at₄} {out₄} ran fourth = rw (← event-text e m d w ran) (put-next out 0 (spaced (decimal e) ++ spaced (wordText (toldEnding w)) ++ spaced (decimal m)) (put-next out 0 (spaced (decimal e) ++ spaced (wordText (toldEnding w))) both (spaced (decimal m)) third) (ended (decimal d)) fourth)
+      event-ran {at₄} {out₄} ran fourth =
+          rw (← event-text e m d w ran)
+          (put-next out 0 (spaced (decimal e) ++ spaced (wordText (toldEnding w)) ++ spaced (decimal m))
+          (put-next out 0 (spaced (decimal e) ++ spaced (wordText (toldEnding w))) both (spaced (decimal m)) third)
+          (ended (decimal d)) fourth)
 
 -- ---- the line that ends a session, piece by piece
 
-module _ (n p : ℕ) (out : List ℕ) (room : longestLine ≤ length out) {at₁ : ℕ} {out₁ : List ℕ} (first : Put out 0 (spaced refusedText) at₁ out₁)
+module _ (n p : ℕ) (out : List ℕ) (room : longestLine ≤ length out) {at₁ : ℕ} {out₁ : List ℕ}
+    (first : Put out 0 (spaced refusedText) at₁ out₁)
     {at₂ : ℕ} {out₂ : List ℕ} (second : Put out₁ at₁ (spaced (decimal n)) at₂ out₂) where
   ended-by : Put out 0 (spaced refusedText ++ spaced (decimal n)) at₂ out₂
   ended-by = put-next out 0 (spaced refusedText) first (spaced (decimal n)) second
 
   pub place-room : at₂ + mostDigits < length out₂
-  place-room = omega (arith, put-room out 0 (spaced refusedText ++ spaced (decimal n)) ended-by 29 21 (simp length-append (omega (arith, decimal-few n))) (omega arith))
+  place-room =
+      omega (
+        arith,
+        put-room out 0 (spaced refusedText ++ spaced (decimal n)) ended-by 29 21
+            (simp length-append (omega (arith, decimal-few n))) (omega arith),
+      )
 
-  pub closing-put : {at₃ : ℕ} {out₃ : List ℕ} → Put out₂ at₂ (ended (decimal p)) at₃ out₃ → Put out 0 (lineText (closing n p)) at₃ out₃
+  pub closing-put : {at₃ : ℕ} {out₃ : List ℕ} → Put out₂ at₂ (ended (decimal p)) at₃ out₃
+      → Put out 0 (lineText (closing n p)) at₃ out₃
   unfolding lineText
   closing-put third = put-next out 0 (spaced refusedText ++ spaced (decimal n)) ended-by (ended (decimal p)) third

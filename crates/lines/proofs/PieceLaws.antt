@@ -22,8 +22,11 @@ module _ (out : List ℕ) (at : ℕ) (x : List ℕ) {r : ℕ} {out′ : List ℕ
 
   -- a piece put where another ended
   pub put-next : (y : List ℕ) {s : ℕ} {out″ : List ℕ} → Put out′ r y s out″ → Put out at (x ++ y) s out″
-  put-next y {s} {out″} next =
-      (omega (arith, first .0, next .0, length-append x y), next .1 ∙ ap₂ (λ (o : List ℕ) (i : ℕ). sets o i y) (first .1) (first .0) ∙ sets-append out at x y)
+  put-next y {s} {out″} next = (
+    omega (arith, first .0, next .0, length-append x y),
+    next .1 ∙ ap₂ (λ (o : List ℕ) (i : ℕ). sets o i y)
+        (first .1) (first .0) ∙ sets-append out at x y,
+  )
 
   -- one byte put there
   pub put-after : (c : ℕ) → Put out at (endedBy x c) (r + 1) (set out′ r c)
@@ -31,7 +34,8 @@ module _ (out : List ℕ) (at : ℕ) (x : List ℕ) {r : ℕ} {out′ : List ℕ
 
 -- ---- some bytes, one by one: the first i of them are put
 
-module _ (out : List ℕ) (at : ℕ) (bytes : List ℕ) (i : ℕ) {out′ : List ℕ} (so-far : out′ ≡ sets out at (take i bytes)) where
+module _ (out : List ℕ) (at : ℕ) (bytes : List ℕ) (i : ℕ) {out′ : List ℕ}
+    (so-far : out′ ≡ sets out at (take i bytes)) where
   pub bytes-next : i < length bytes → set out′ (at + i) (getD bytes i 0) ≡ sets out at (take (i + 1) bytes)
   bytes-next below =
       let first : Put out at (take i bytes) (at + i) out′ = (rw (length-take-le i bytes (omega arith)), so-far) in
@@ -51,11 +55,19 @@ module _ (n : ℕ) (out : List ℕ) (at : ℕ) where
 
   module _ (large : 10 ≤ n) (fits : n < 10 ^ mostDigits) where
     pub tenth-room : at + length (decimal n) ≤ length out → at + length (decimal (n / 10)) ≤ length out
-    tenth-room room = omega (arith, ap length (decimal-more n large fits), length-append (decimal (n / 10)) (digit (n % 10) ∷ []))
+    tenth-room room =
+        omega (arith, ap length (decimal-more n large fits), length-append (decimal (n / 10)) (digit (n % 10) ∷ []))
 
     module _ {r : ℕ} {out′ : List ℕ} (first : Put out at (decimal (n / 10)) r out′) where
       pub last-room : at + length (decimal n) ≤ length out → r < length out′
-      last-room room = omega (arith, first .0, put-length out at (decimal (n / 10)) first, ap length (decimal-more n large fits), length-append (decimal (n / 10)) (digit (n % 10) ∷ []))
+      last-room room =
+          omega (
+            arith,
+            first .0,
+            put-length out at (decimal (n / 10)) first,
+            ap length (decimal-more n large fits),
+            length-append (decimal (n / 10)) (digit (n % 10) ∷ []),
+          )
 
       pub last-put : Put out at (decimal n) (r + 1) (set out′ r (digit (n % 10)))
       last-put = rw decimal-more (put-after out at (decimal (n / 10)) first (digit (n % 10)))
@@ -65,5 +77,7 @@ module _ (n : ℕ) (out : List ℕ) (at : ℕ) where
 pub number-room : (n : ℕ) (out : List ℕ) (at : ℕ) → at + mostDigits < length out → at + length (decimal n) ≤ length out
 number-room n out at room = omega (arith, decimal-few n)
 
-pub after-room : (n : ℕ) (out : List ℕ) (at : ℕ) {r : ℕ} {out′ : List ℕ} → Put out at (decimal n) r out′ → at + mostDigits < length out → r < length out′
-after-room n out at first room = omega (arith, put-room out at (decimal n) first mostDigits 1 (decimal-few n) (omega arith))
+pub after-room : (n : ℕ) (out : List ℕ) (at : ℕ) {r : ℕ} {out′ : List ℕ} → Put out at (decimal n) r out′
+    → at + mostDigits < length out → r < length out′
+after-room n out at first room =
+    omega (arith, put-room out at (decimal n) first mostDigits 1 (decimal-few n) (omega arith))

@@ -1,4 +1,5 @@
--- Laws of how many members of a list pass a test: a member that passes counts, and where at most one counts it is the only one. A board's windings are counted by them.
+-- Laws of how many members of a list pass a test: a member that passes counts, and where at most one counts it is the
+-- only one. A board's windings are counted by them.
 --     worth t          a test as a number
 --     counted t l      how many members of l pass the test t
 use Prim.Native.Nat.{ℕ, _+_, _≤_}
@@ -23,9 +24,12 @@ member-counted t (y ∷ l) x (inl same) on = omega (arith, ap worth (sym (ap t s
 member-counted t (y ∷ l) x (inr among) on = omega (arith, member-counted t l x among on)
 
 -- where at most one passes, two that pass are one
-pub counted-only : {A : Type 0} (t : A → Bool) (l : List A) → counted t l ≤ 1 → (x y : A) → x ∈ l → y ∈ l → t x ≡ true → t y ≡ true → x ≡ y
+pub counted-only : {A : Type 0} (t : A → Bool) (l : List A) → counted t l ≤ 1 → (x y : A) → x ∈ l → y ∈ l
+    → t x ≡ true → t y ≡ true → x ≡ y
 counted-only t [] most x y among also on too = absurd among
 counted-only t (z ∷ l) most x y (inl same) (inl alike) on too = same ∙ sym alike
-counted-only t (z ∷ l) most x y (inl same) (inr also) on too = absurd (omega (arith, ap worth (sym (ap t same) ∙ on), member-counted t l y also too))
-counted-only t (z ∷ l) most x y (inr among) (inl alike) on too = absurd (omega (arith, ap worth (sym (ap t alike) ∙ too), member-counted t l x among on))
+counted-only t (z ∷ l) most x y (inl same) (inr also) on too =
+    absurd (omega (arith, ap worth (sym (ap t same) ∙ on), member-counted t l y also too))
+counted-only t (z ∷ l) most x y (inr among) (inl alike) on too =
+    absurd (omega (arith, ap worth (sym (ap t alike) ∙ too), member-counted t l x among on))
 counted-only t (z ∷ l) most x y (inr among) (inr also) on too = counted-only t l (omega arith) x y among also on too

@@ -1,4 +1,5 @@
--- Laws of a list laid into n places, the unused ones filled with d: how long that is, that its first places hold the list, and what the next member does to it. A board's parts and the places of a chain are such lists.
+-- Laws of a list laid into n places, the unused ones filled with d: how long that is, that its first places hold the
+-- list, and what the next member does to it. A board's parts and the places of a chain are such lists.
 use Prim.Native.Nat.{ℕ, zero, suc, _-_, _<_, _≤_}
 use native.Mathlib.Omega.{arith}
 use mathlib.Core.Path.{_≡_, sym, ap, _∙_}
@@ -18,7 +19,8 @@ module _ {A : Type 0} (n : ℕ) (d : A) where
   filler-first zero some = absurd (omega arith)
   filler-first (suc m) some = let same : m ≡ suc m - 1 = omega arith in ap (λ (k : ℕ). d ∷ replicate k d) same
 
-  pub filled-set : (l : List A) (x : A) → length l < n → set (l ++ replicate (n - length l) d) (length l) x ≡ (l ++ (x ∷ [])) ++ replicate (n - length (l ++ (x ∷ []))) d
+  pub filled-set : (l : List A) (x : A) → length l < n → set (l ++ replicate (n - length l) d)
+      (length l) x ≡ (l ++ (x ∷ [])) ++ replicate (n - length (l ++ (x ∷ []))) d
   filled-set l x room =
       let left : n - length l - 1 ≡ n - length (l ++ (x ∷ [])) = omega (arith, length-append l (x ∷ [])) in
       ap (λ (k : List A). set (l ++ k) (length l) x) (filler-first (n - length l) (omega arith))

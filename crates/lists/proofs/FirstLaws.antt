@@ -1,4 +1,5 @@
--- Laws of a list's first n elements, walked one by one: what loops over a board's first C parts need. A board handed in may count more parts than it has places for.
+-- Laws of a list's first n elements, walked one by one: what loops over a board's first C parts need. A board handed in
+-- may count more parts than it has places for.
 use Prim.Native.Nat.{ℕ, _+_, _<_, _≤_}
 use native.Mathlib.Omega.{arith}
 use native.Mathlib.Numerals.{add-one}

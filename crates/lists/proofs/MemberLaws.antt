@@ -59,7 +59,8 @@ once-next (y ∷ l) x once new = (λ m. apart (append-member y l (x ∷ []) m), 
 -- where nothing stands twice, what stands later does not stand earlier
 pub once-apart : {A : Type 0} (k : List A) (x : A) (l : List A) → Once (k ++ (x ∷ l)) → ¬ (x ∈ k)
 once-apart [] x l once m = m
-once-apart (y ∷ k) x l once (inl e) = once .0 (subst (λ z. z ∈ (k ++ (x ∷ l))) e (member-append-right x k (x ∷ l) (inl refl)))
+once-apart (y ∷ k) x l once (inl e) =
+    once .0 (subst (λ z. z ∈ (k ++ (x ∷ l))) e (member-append-right x k (x ∷ l) (inl refl)))
 once-apart (y ∷ k) x l once (inr m) = once-apart k x l (once .1) m
 
 -- of numbers up to t without t, each is below t

@@ -1,4 +1,5 @@
--- Laws of the single move as a call, one for each way out of `move_relay`: refused by 15, 14 or 11, in that order, or moved; and that an answer is known by what it tells.
+-- Laws of the single move as a call, one for each way out of `move_relay`: refused by 15, 14 or 11, in that order, or
+-- moved; and that an answer is known by what it tells.
 use Prim.Native.Nat.{ℕ, _≤_, _<_}
 use mathlib.Core.Path.{_≡_, refl, ap}
 use mathlib.Core.Bool.{true}
@@ -34,7 +35,8 @@ module _ (b : Board) (s : State) (r : ℕ) where
   movable-relay fine below = rw (fine, lt-ltb r (b .counts .relays) below) refl
 
   -- where a relay is moved, the board breaks no rule, the state fits it and the relay is there
-  pub movable-given : movable b s r ≡ given tt → (boardFine b ≡ true) × (stateFine (b .counts) s ≡ true) × (r < b .counts .relays)
+  pub movable-given : movable b s r ≡ given tt → (boardFine b ≡ true) × (stateFine (b .counts) s ≡ true)
+      × (r < b .counts .relays)
   unfolding movable
   movable-given taken =
       let both = both-given (usable b s) _ tt taken in
@@ -45,7 +47,8 @@ module _ (b : Board) (s : State) (r : ℕ) where
   unfolding moving left
   moving-refused w k p e = rw e refl
 
-  pub moving-moved : (w : ℕ) (m : Move) (t : State) → movable b s r ≡ given tt → m ≡ stepOf b s r w → t ≡ made s r m → (t, given m) ≡ moving b s r w
+  pub moving-moved : (w : ℕ) (m : Move) (t : State) → movable b s r ≡ given tt → m ≡ stepOf b s r w → t ≡ made s r m
+      → (t, given m) ≡ moving b s r w
   unfolding moving left
   moving-moved w m t e is leaves = rw (e, leaves, is) refl
 
@@ -85,4 +88,5 @@ told-move-answer-injective (Refused r) (Says k) e = cc
 told-move-answer-injective (Refused r) (Refused q) e = ap Refused (refusal-equal r q (cc) (cc))
 
 pub told-moved-injective : (x y : Moved) → toldMoved x ≡ toldMoved y → x ≡ y
-told-moved-injective x y e = λ i. record { state = e i .0; answer = told-move-answer-injective (x .answer) (y .answer) (λ j. e j .1) i }
+told-moved-injective x y e =
+    λ i. record { state = e i .0; answer = told-move-answer-injective (x .answer) (y .answer) (λ j. e j .1) i }

@@ -1,4 +1,5 @@
--- Laws of a relay's step: its windings are judged as `judge` judges them; a larger allowance changes nothing but undecided; a move changes that relay and nothing else. Runs go by these and by nothing of the definition's text.
+-- Laws of a relay's step: its windings are judged as `judge` judges them; a larger allowance changes nothing but
+-- undecided; a move changes that relay and nothing else. Runs go by these and by nothing of the definition's text.
 use Prim.Native.Nat.{ℕ, _≤_, _<_}
 use mathlib.Core.Path.{_≡_, refl, sym, ap, _∙_}
 use mathlib.Core.Logic.{_⊎_, inl, inr}
@@ -21,7 +22,8 @@ use Rattle.judge.specs.declared.Which.the-variants.{First, Second}
 use Rattle.judge.specs.RelayWindings.{windingOf}
 use Rattle.judge.specs.Judging.{judging}
 use Rattle.judge.proofs.JudgeLaws.{judgeable-sought, judging-by, judging-judged}
-use Rattle.moves.specs.Steps.{Move, drew, dropped, rests, undecided, conflict, moveBy, findingOn, stepBy, stepOf, made}
+use Rattle.moves.specs.Steps.{Move, drew, dropped, rests, undecided, conflict, moveBy, findingOn, stepBy, stepOf}
+use Rattle.moves.specs.Steps.{made}
 use Rattle.moves.proofs.MotionLaws.{move-larger}
 
 -- ---- one winding
@@ -32,50 +34,72 @@ module _ (near : List ℕ) (b : Board) (r : ℕ) (n : Which) (w : ℕ) where
   unfolding findingOn
   word-missing k p e = rw e refl
 
-  pub word-judged : (v : Winding) → windingOf n r (partsOf b) ≡ given v → findingOn near b r n w ≡ verdict.verdictBy near (verdict.inSets (b .counts .terminals)) v w .finding
+  pub word-judged : (v : Winding) → windingOf n r (partsOf b) ≡ given v
+      → findingOn near b r n w ≡ verdict.verdictBy near (verdict.inSets (b .counts .terminals)) v w .finding
   unfolding findingOn
   word-judged v e = rw e refl
 
 -- on a board and in a state that are not refused, the word is that of the call `judge`
-pub word-judging : (b : Board) (s : State) (r : ℕ) (n : Which) (w : ℕ) → boardFine b ≡ true → stateFine (b .counts) s ≡ true → findingOn (neighbours b s) b r n w ≡ judging b s r n w .finding
+pub word-judging : (b : Board) (s : State) (r : ℕ) (n : Which) (w : ℕ) → boardFine b ≡ true
+    → stateFine (b .counts) s ≡ true → findingOn (neighbours b s) b r n w ≡ judging b s r n w .finding
 word-judging b s r n w fine fits = by-sought (windingOf n r (partsOf b)) refl
   where
-    by-sought : (o : Outcome Winding) → windingOf n r (partsOf b) ≡ o → findingOn (neighbours b s) b r n w ≡ judging b s r n w .finding
-    by-sought (given v) e = word-judged (neighbours b s) b r n w v e ∙ ap (λ (j : verdict.Verdict). j .finding) (judging-judged b s r n w v (neighbours b s) fine fits e refl)
-    by-sought (refused k p) e = word-missing (neighbours b s) b r n w k p e ∙ ap (λ (j : verdict.Verdict). j .finding) (judging-by b s r n w (refused k p) (judgeable-sought b s r n fine fits ∙ e))
+    by-sought : (o : Outcome Winding) → windingOf n r (partsOf b) ≡ o → findingOn (neighbours b s) b r n w ≡ judging
+        b s r n w .finding
+    by-sought (given v) e =
+        word-judged (neighbours b s) b r n w v e ∙ ap (λ (j : verdict.Verdict). j .finding)
+        (judging-judged b s r n w v (neighbours b s) fine fits e refl)
+    by-sought (refused k p) e =
+        word-missing (neighbours b s) b r n w k p e ∙ ap (λ (j : verdict.Verdict). j .finding)
+        (judging-by b s r n w (refused k p) (judgeable-sought b s r n fine fits ∙ e))
 
 -- a larger allowance x changes no word but undecided
-pub word-larger : (near : List ℕ) (b : Board) (r : ℕ) (n : Which) (w x : ℕ) → w ≤ x → (findingOn near b r n w ≡ given verdict.undecided) ⊎ (findingOn near b r n x ≡ findingOn near b r n w)
+pub word-larger : (near : List ℕ) (b : Board) (r : ℕ) (n : Which) (w x : ℕ) → w ≤ x
+    → (findingOn near b r n w ≡ given verdict.undecided) ⊎ (findingOn near b r n x ≡ findingOn near b r n w)
 word-larger near b r n w x more = by-sought (windingOf n r (partsOf b)) refl
   where
-    by-sought : (o : Outcome Winding) → windingOf n r (partsOf b) ≡ o → (findingOn near b r n w ≡ given verdict.undecided) ⊎ (findingOn near b r n x ≡ findingOn near b r n w)
+    by-sought : (o : Outcome Winding) → windingOf n r (partsOf b) ≡ o
+        → (findingOn near b r n w ≡ given verdict.undecided) ⊎ (findingOn near b r n x ≡ findingOn near b r n w)
     by-sought (refused k p) e = inr (word-missing near b r n x k p e ∙ sym (word-missing near b r n w k p e))
     by-sought (given v) e = either (judged-larger near (b .counts .terminals) v w x more)
       where
-        either : (verdict.verdictBy near (verdict.inSets (b .counts .terminals)) v w .finding ≡ given verdict.undecided) ⊎ (verdict.verdictBy near (verdict.inSets (b .counts .terminals)) v x ≡ verdict.verdictBy near (verdict.inSets (b .counts .terminals)) v w) → (findingOn near b r n w ≡ given verdict.undecided) ⊎ (findingOn near b r n x ≡ findingOn near b r n w)
+        either : (verdict.verdictBy near (verdict.inSets (b .counts .terminals)) v w .finding ≡ given
+            verdict.undecided)
+            ⊎ (verdict.verdictBy near (verdict.inSets (b .counts .terminals)) v x ≡ verdict.verdictBy near
+            (verdict.inSets (b .counts .terminals)) v w) → (findingOn near b r n w ≡ given verdict.undecided)
+            ⊎ (findingOn near b r n x ≡ findingOn near b r n w)
         either (inl u) = inl (word-judged near b r n w v e ∙ u)
-        either (inr same) = inr (word-judged near b r n x v e ∙ ap (λ (j : verdict.Verdict). j .finding) same ∙ sym (word-judged near b r n w v e))
+        either (inr same) =
+            inr (word-judged near b r n x v e ∙ ap (λ (j : verdict.Verdict). j .finding) same
+            ∙ sym (word-judged near b r n w v e))
 
 -- ---- the step
 
-pub step-by : (b : Board) (w : ℕ) (s : State) (r : ℕ) (near : List ℕ) → near ≡ neighbours b s → stepBy near b (isDrawn s r) r w ≡ stepOf b s r w
+pub step-by : (b : Board) (w : ℕ) (s : State) (r : ℕ) (near : List ℕ) → near ≡ neighbours b s
+    → stepBy near b (isDrawn s r) r w ≡ stepOf b s r w
 unfolding stepOf
 step-by b w s r near e = ap (λ (k : List ℕ). stepBy k b (isDrawn s r) r w) e
 
-pub step-words : (near : List ℕ) (b : Board) (d k : Bool) (r w : ℕ) (x y : Outcome verdict.Finding) → k ≡ d → x ≡ findingOn near b r First w → y ≡ findingOn near b r Second w → moveBy k x y ≡ stepBy near b d r w
+pub step-words : (near : List ℕ) (b : Board) (d k : Bool) (r w : ℕ) (x y : Outcome verdict.Finding) → k ≡ d
+    → x ≡ findingOn near b r First w → y ≡ findingOn near b r Second w → moveBy k x y ≡ stepBy near b d r w
 unfolding stepBy
 step-words near b d k r w x y is e f = rw (is, e, f) refl
 
 -- "its winding is always judged, with W": what a step goes by is what the call `judge` says
-pub step-judging : (b : Board) (w : ℕ) (s : State) (r : ℕ) → boardFine b ≡ true → stateFine (b .counts) s ≡ true → stepOf b s r w ≡ moveBy (isDrawn s r) (judging b s r First w .finding) (judging b s r Second w .finding)
+pub step-judging : (b : Board) (w : ℕ) (s : State) (r : ℕ) → boardFine b ≡ true → stateFine (b .counts) s ≡ true
+    → stepOf b s r w ≡ moveBy (isDrawn s r) (judging b s r First w .finding) (judging b s r Second w .finding)
 step-judging b w s r fine fits =
     sym (step-by b w s r (neighbours b s) refl)
-    ∙ sym (step-words (neighbours b s) b (isDrawn s r) (isDrawn s r) r w _ _ refl (sym (word-judging b s r First w fine fits)) (sym (word-judging b s r Second w fine fits)))
+    ∙ sym (step-words (neighbours b s) b (isDrawn s r) (isDrawn s r) r w _ _ refl
+    (sym (word-judging b s r First w fine fits)) (sym (word-judging b s r Second w fine fits)))
 
 -- a step that is not undecided is the same at every larger allowance x
-pub step-larger : (b : Board) (w x : ℕ) (s : State) (r : ℕ) → w ≤ x → (stepOf b s r w ≡ undecided) ⊎ (stepOf b s r x ≡ stepOf b s r w)
+pub step-larger : (b : Board) (w x : ℕ) (s : State) (r : ℕ) → w ≤ x → (stepOf b s r w ≡ undecided)
+    ⊎ (stepOf b s r x ≡ stepOf b s r w)
 unfolding stepOf stepBy
-step-larger b w x s r more = move-larger (isDrawn s r) _ _ _ _ (word-larger (neighbours b s) b r First w x more) (word-larger (neighbours b s) b r Second w x more)
+step-larger b w x s r more =
+    move-larger (isDrawn s r) _ _ _ _ (word-larger (neighbours b s) b r First w x more)
+    (word-larger (neighbours b s) b r Second w x more)
 
 -- ---- "A move changes that relay and nothing else"
 
@@ -94,7 +118,8 @@ made-pushed s r undecided q = refl
 made-pushed s r conflict q = refl
 
 -- a state that fits a board still fits it
-pub made-fits : (c : Counts) (s : State) (r : ℕ) (m : Move) → stateFine c s ≡ true → r < c .relays → stateFine c (made s r m) ≡ true
+pub made-fits : (c : Counts) (s : State) (r : ℕ) (m : Move) → stateFine c s ≡ true → r < c .relays
+    → stateFine c (made s r m) ≡ true
 made-fits c s r drew fine below = state-fits-draw c s r fine below
 made-fits c s r dropped fine below = state-fits-drop c s r fine
 made-fits c s r rests fine below = fine

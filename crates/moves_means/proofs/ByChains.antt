@@ -1,4 +1,5 @@
--- The theorems of specs/ByChains.antt: there is current through a winding exactly if it is live, and what needs more is undecided; so what `Comes` says of a relay, by its sort, is what the rule book says of it by chains.
+-- The theorems of specs/ByChains.antt: there is current through a winding exactly if it is live, and what needs more is
+-- undecided; so what `Comes` says of a relay, by its sort, is what the rule book says of it by chains.
 use Prim.Native.Nat.{ℕ, _<_}
 use native.Mathlib.Omega.{arith}
 use mathlib.Core.Path.{_≡_, sym, subst, _∙_}
@@ -30,7 +31,8 @@ use Rattle.moves.specs.Steps.{Move, drew, dropped, rests, undecided, conflict}
 use Rattle.moves.proofs.MovingLaws.{movable-given}
 use Rattle.moves_means.specs.Guards.{CurrentThrough, BothCurrents}
 use Rattle.moves_means.specs.SingleMoves.{NeedsMore, Comes}
-use Rattle.moves_means.specs.ByChains.{Undecided, Decided, RegularComes, SteelComes, RegularByChains, SteelByChains}
+use Rattle.moves_means.specs.ByChains.{Undecided, Decided, RegularComes, SteelComes, RegularByChains}
+use Rattle.moves_means.specs.ByChains.{SteelByChains}
 use Rattle.moves_means.proofs.CurrentLaws.{through-carries, carries-through}
 use Rattle.moves_means.proofs.ComesLaws.{drawn-apart, regular-one}
 use Rattle.moves_means.proofs.WordLaws.{WordSays, first-word, second-missing}
@@ -47,24 +49,30 @@ module _ {P Q : Type 0} (r : ℕ) (ps : List Part) where
   steel-guard steel (inl (sort, guard)) = absurd (omega (arith, steel .0, sort .0))
   steel-guard steel (inr (sort, guard)) = guard
 
-module _ (b : Board) (w : ℕ) (s : State) (r : ℕ) (fine : boardFine b ≡ true) (fits : stateFine (b .counts) s ≡ true) (below : r < b .counts .relays) where
+module _ (b : Board) (w : ℕ) (s : State) (r : ℕ) (fine : boardFine b ≡ true) (fits : stateFine (b .counts) s ≡ true)
+    (below : r < b .counts .relays) where
   -- ---- winding n of relay r is e
 
   module _ (n : Which) (e : Winding) (found : windingOf n r (partsOf b) ≡ given e) where
     live-current : IsLive b s e ↔ CurrentThrough b s r n
     live-current =
         let its = the-winding b s r n e (judgeable-sought b s r n fine fits ∙ found) in
-        let agree = live-is-carrying b s (e .a) (e .b) fine in
-        (λ live. carries-through b s r n e its (agree .0 live), λ current. agree .1 (through-carries b s r n e its current))
+        let agree = live-is-carrying b s (e .a) (e .b) fine in (
+          λ live. carries-through b s r n e its (agree .0 live),
+          λ current. agree .1
+              (through-carries b s r n e its current),
+        )
 
     undecided-needs : Undecided b s e w → NeedsMore b s r w
     undecided-needs more = record { which = n; winding = e; its-winding = found; more = more }
 
     needs-undecided : (f : Winding) → windingOf n r (partsOf b) ≡ given f → Undecided b s f w → Undecided b s e w
-    needs-undecided f also more = subst (λ (v : Winding). Undecided b s v w) (given-injective f e (sym also ∙ found)) more
+    needs-undecided f also more =
+        subst (λ (v : Winding). Undecided b s v w) (given-injective f e (sym also ∙ found)) more
 
     enough-decided : ¬ (NeedsMore b s r w) → Decided b s e w
-    enough-decided enough = by-test (leb _ w) (leb-true _ w) (λ short. absurd (enough (undecided-needs (leb-false _ w short))))
+    enough-decided enough =
+        by-test (leb _ w) (leb-true _ w) (λ short. absurd (enough (undecided-needs (leb-false _ w short))))
 
   -- ---- a regular relay
 
@@ -74,7 +82,8 @@ module _ (b : Board) (w : ℕ) (s : State) (r : ℕ) (fine : boardFine b ≡ tru
       where
         by-which : (n : Which) → windingOf n r (partsOf b) ≡ given (needs .winding) → Undecided b s e w
         by-which First is = needs-undecided First e found (needs .winding) is (needs .more)
-        by-which Second is = absurd (omega (arith, needs .more, second-missing b w s r fine fits regular .1 (needs .winding) is))
+        by-which Second is =
+            absurd (omega (arith, needs .more, second-missing b w s r fine fits regular .1 (needs .winding) is))
 
     regular-enough : Decided b s e w → ¬ (NeedsMore b s r w)
     regular-enough decided needs = omega (arith, decided, regular-undecided needs)
@@ -83,7 +92,8 @@ module _ (b : Board) (w : ℕ) (s : State) (r : ℕ) (fine : boardFine b ≡ tru
     through = live-current First e found
 
     -- one that is decided and not without current is live
-    decided-live : (x : verdict.Finding) → WordSays b s r First x w → ¬ (NeedsMore b s r w) → ¬ (¬ (CurrentThrough b s r First)) → IsLive b s e
+    decided-live : (x : verdict.Finding) → WordSays b s r First x w → ¬ (NeedsMore b s r w)
+        → ¬ (¬ (CurrentThrough b s r First)) → IsLive b s e
     decided-live verdict.live says enough held = through .1 (says .1)
     decided-live verdict.dead says enough held = absurd (held (says .1))
     decided-live verdict.undecided says enough held = absurd (enough says)
@@ -101,27 +111,56 @@ module _ (b : Board) (w : ℕ) (s : State) (r : ℕ) (fine : boardFine b ≡ tru
         let first = first-word b w s r fine fits below in (
           enough-decided First e found enough,
           by-test (isDrawn s r)
-              (λ on. inl (on, decided-live (first .word) (first .says) enough (λ still. no-drop (below, inl (regular, (on, still))))))
+              (λ on. inl (
+                on,
+                decided-live (first .word) (first .says) enough
+                    (λ still. no-drop (below, inl (regular, (on, still)))),
+              ))
               (λ off. inr (off, λ live. no-draw (below, inl (regular, (off, through .0 live))))),
         )
 
     chains-regular : (m : Move) → RegularComes b s r e m w → Comes b s r m w
     chains-regular undecided more = undecided-needs First e found more
     chains-regular conflict never = absurd never
-    chains-regular drew (decided, off, live) = (regular-enough decided, (regular-one b w s r below regular, (below, inl (regular, (off, through .0 live)))))
-    chains-regular dropped (decided, on, dead) = (regular-enough decided, (regular-one b w s r below regular, (below, inl (regular, (on, λ current. dead (through .1 current))))))
-    chains-regular rests (decided, inl (on, live)) =
-        (regular-enough decided, (regular-one b w s r below regular, (λ draw. drawn-apart b w s r on (regular-guard r (partsOf b) regular (draw .1) .0), λ drop. regular-guard r (partsOf b) regular (drop .1) .1 (through .0 live))))
-    chains-regular rests (decided, inr (off, dead)) =
-        (regular-enough decided, (regular-one b w s r below regular, (λ draw. dead (through .1 (regular-guard r (partsOf b) regular (draw .1) .1)), λ drop. drawn-apart b w s r (regular-guard r (partsOf b) regular (drop .1) .0) off)))
+    chains-regular drew (decided, off, live) = (
+      regular-enough decided,
+      (regular-one b w s r below regular, (below, inl (regular, (off, through .0 live)))),
+    )
+    chains-regular dropped (decided, on, dead) = (
+      regular-enough decided,
+      (regular-one b w s r below regular, (below, inl (regular, (on, λ current. dead (through .1 current))))),
+    )
+    chains-regular rests (decided, inl (on, live)) = (
+      regular-enough decided,
+      (
+        regular-one b w s r below regular,
+        (
+          λ draw. drawn-apart b w s r on (regular-guard r (partsOf b) regular (draw .1) .0),
+          λ drop. regular-guard r (partsOf b) regular (drop .1) .1 (through .0 live),
+        ),
+      ),
+    )
+    chains-regular rests (decided, inr (off, dead)) = (
+      regular-enough decided,
+      (
+        regular-one b w s r below regular,
+        (
+          λ draw. dead (through .1 (regular-guard r (partsOf b) regular (draw .1) .1)),
+          λ drop. drawn-apart b w s
+              r (regular-guard r (partsOf b) regular (drop .1) .0) off,
+        ),
+      ),
+    )
 
   -- ---- a steel relay
 
-  module _ (steel : isSteel r (partsOf b)) (e f : Winding) (first : windingOf First r (partsOf b) ≡ given e) (second : windingOf Second r (partsOf b) ≡ given f) where
+  module _ (steel : isSteel r (partsOf b)) (e f : Winding) (first : windingOf First r (partsOf b) ≡ given e)
+      (second : windingOf Second r (partsOf b) ≡ given f) where
     steel-undecided : NeedsMore b s r w → Undecided b s e w ⊎ Undecided b s f w
     steel-undecided needs = by-which (needs .which) (needs .its-winding)
       where
-        by-which : (n : Which) → windingOf n r (partsOf b) ≡ given (needs .winding) → Undecided b s e w ⊎ Undecided b s f w
+        by-which : (n : Which) → windingOf n r (partsOf b) ≡ given (needs .winding) → Undecided b s e w
+            ⊎ Undecided b s f w
         by-which First is = inl (needs-undecided First e first (needs .winding) is (needs .more))
         by-which Second is = inr (needs-undecided Second f second (needs .winding) is (needs .more))
 
@@ -143,14 +182,28 @@ module _ (b : Board) (w : ℕ) (s : State) (r : ℕ) (fine : boardFine b ≡ tru
 
     steel-chains : (m : Move) → Comes b s r m w → SteelComes b s r e f m w
     steel-chains undecided needs = steel-undecided needs
-    steel-chains conflict (enough, both) =
-        (enough-decided First e first enough, enough-decided Second f second enough, draws .1 (both .1 .1 .0), drops .1 (both .1 .1 .1))
+    steel-chains conflict (enough, both) = (
+      enough-decided First e first enough,
+      enough-decided Second f second enough,
+      draws .1 (both .1 .1 .0),
+      drops .1 (both .1 .1 .1),
+    )
     steel-chains drew (enough, (one, (there, draw))) =
-        let guard = steel-guard r (partsOf b) steel draw in
-        (enough-decided First e first enough, enough-decided Second f second enough, guard .0, draws .1 (guard .1), λ live. one (below, (steel, (guard .1, drops .0 live))))
+        let guard = steel-guard r (partsOf b) steel draw in (
+          enough-decided First e first enough,
+          enough-decided Second f second enough,
+          guard .0,
+          draws .1 (guard .1),
+          λ live. one (below, (steel, (guard .1, drops .0 live))),
+        )
     steel-chains dropped (enough, (one, (there, drop))) =
-        let guard = steel-guard r (partsOf b) steel drop in
-        (enough-decided First e first enough, enough-decided Second f second enough, guard .0, drops .1 (guard .1), λ live. one (below, (steel, (draws .0 live, guard .1))))
+        let guard = steel-guard r (partsOf b) steel drop in (
+          enough-decided First e first enough,
+          enough-decided Second f second enough,
+          guard .0,
+          drops .1 (guard .1),
+          λ live. one (below, (steel, (draws .0 live, guard .1))),
+        )
     steel-chains rests (enough, (one, (no-draw, no-drop))) = (
       enough-decided First e first enough,
       enough-decided Second f second enough,
@@ -162,24 +215,53 @@ module _ (b : Board) (w : ℕ) (s : State) (r : ℕ) (fine : boardFine b ≡ tru
     chains-steel : (m : Move) → SteelComes b s r e f m w → Comes b s r m w
     chains-steel undecided (inl more) = undecided-needs First e first more
     chains-steel undecided (inr more) = undecided-needs Second f second more
-    chains-steel conflict (drawing, dropping, live, also) = (steel-enough drawing dropping, (below, (steel, (draws .0 live, drops .0 also))))
-    chains-steel drew (drawing, dropping, off, live, dead) = (steel-enough drawing dropping, (steel-one (λ both. dead (both .1)), (below, inr (steel, (off, draws .0 live)))))
-    chains-steel dropped (drawing, dropping, on, live, dead) = (steel-enough drawing dropping, (steel-one (λ both. dead (both .0)), (below, inr (steel, (on, drops .0 live)))))
-    chains-steel rests (drawing, dropping, inl (on, dead)) =
-        (steel-enough drawing dropping, (steel-one (λ both. dead (both .1)), (λ draw. drawn-apart b w s r on (steel-guard r (partsOf b) steel (draw .1) .0), λ drop. dead (drops .1 (steel-guard r (partsOf b) steel (drop .1) .1)))))
-    chains-steel rests (drawing, dropping, inr (off, dead)) =
-        (steel-enough drawing dropping, (steel-one (λ both. dead (both .0)), (λ draw. dead (draws .1 (steel-guard r (partsOf b) steel (draw .1) .1)), λ drop. drawn-apart b w s r (steel-guard r (partsOf b) steel (drop .1) .0) off)))
+    chains-steel conflict (drawing, dropping, live, also) =
+        (steel-enough drawing dropping, (below, (steel, (draws .0 live, drops .0 also))))
+    chains-steel drew (drawing, dropping, off, live, dead) = (
+      steel-enough drawing dropping,
+      (steel-one (λ both. dead (both .1)), (below, inr (steel, (off, draws .0 live)))),
+    )
+    chains-steel dropped (drawing, dropping, on, live, dead) = (
+      steel-enough drawing dropping,
+      (steel-one (λ both. dead (both .0)), (below, inr (steel, (on, drops .0 live)))),
+    )
+    chains-steel rests (drawing, dropping, inl (on, dead)) = (
+      steel-enough drawing dropping,
+      (
+        steel-one (λ both. dead (both .1)),
+        (
+          λ draw. drawn-apart b w s r on (steel-guard r (partsOf b) steel (draw .1) .0),
+          λ drop. dead
+              (drops .1 (steel-guard r (partsOf b) steel (drop .1) .1)),
+        ),
+      ),
+    )
+    chains-steel rests (drawing, dropping, inr (off, dead)) = (
+      steel-enough drawing dropping,
+      (
+        steel-one (λ both. dead (both .0)),
+        (
+          λ draw. dead (draws .1 (steel-guard r (partsOf b) steel (draw .1) .1)),
+          λ drop. drawn-apart b w s r
+              (steel-guard r (partsOf b) steel (drop .1) .0) off,
+        ),
+      ),
+    )
 
 -- ---- the theorems
 
 pub regular-by-chains : RegularByChains
 regular-by-chains b s r w a e m moves taken regular found =
     let fit = movable-given b s r taken in
-    let exactly = move-exactly b s r w a m moves taken .0 in
-    (λ says. regular-chains b w s r (fit .0) (fit .1) (fit .2) regular e found m (exactly .0 says), λ comes. exactly .1 (chains-regular b w s r (fit .0) (fit .1) (fit .2) regular e found m comes))
+    let exactly = move-exactly b s r w a m moves taken .0 in (
+      λ says. regular-chains b w s r (fit .0) (fit .1) (fit .2) regular e found m (exactly .0 says),
+      λ comes. exactly .1 (chains-regular b w s r (fit .0) (fit .1) (fit .2) regular e found m comes),
+    )
 
 pub steel-by-chains : SteelByChains
 steel-by-chains b s r w a e f m moves taken steel first second =
     let fit = movable-given b s r taken in
-    let exactly = move-exactly b s r w a m moves taken .0 in
-    (λ says. steel-chains b w s r (fit .0) (fit .1) (fit .2) steel e f first second m (exactly .0 says), λ comes. exactly .1 (chains-steel b w s r (fit .0) (fit .1) (fit .2) steel e f first second m comes))
+    let exactly = move-exactly b s r w a m moves taken .0 in (
+      λ says. steel-chains b w s r (fit .0) (fit .1) (fit .2) steel e f first second m (exactly .0 says),
+      λ comes. exactly .1 (chains-steel b w s r (fit .0) (fit .1) (fit .2) steel e f first second m comes),
+    )

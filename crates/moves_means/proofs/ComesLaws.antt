@@ -1,4 +1,5 @@
--- What a relay comes to by its windings' words says what `Comes` asks of it, by sort: one clause for each row of the rule book's two tables. And no relay comes to two words.
+-- What a relay comes to by its windings' words says what `Comes` asks of it, by sort: one clause for each row of the
+-- rule book's two tables. And no relay comes to two words.
 use Prim.Native.Nat.{ℕ, _<_}
 use native.Mathlib.Omega.{arith}
 use mathlib.Core.Path.{_≡_, refl, sym, subst, _∙_}
@@ -14,8 +15,10 @@ use Rattle.search.specs.Verdicts as verdict
 use Rattle.judge.specs.declared.Which.{Which}
 use Rattle.judge.specs.declared.Which.the-variants.{First, Second}
 use Rattle.moves.specs.Steps.{Move, drew, dropped, rests, undecided, conflict, regularMove, steelMove}
-use Rattle.moves.proofs.MotionLaws.{regular-undecided, regular-live, regular-dead, steel-undecided, steel-undecided-second, steel-conflict, steel-draws, steel-drops, steel-rests}
-use Rattle.moves_means.specs.Guards.{CanDrawRegular, CanDropRegular, CanDrawSteel, CanDropSteel, CanDraw, CanDrop, BothCurrents}
+use Rattle.moves.proofs.MotionLaws.{regular-undecided, regular-live, regular-dead, steel-undecided}
+use Rattle.moves.proofs.MotionLaws.{steel-undecided-second, steel-conflict, steel-draws, steel-drops, steel-rests}
+use Rattle.moves_means.specs.Guards.{CanDrawRegular, CanDropRegular, CanDrawSteel, CanDropSteel, CanDraw, CanDrop}
+use Rattle.moves_means.specs.Guards.{BothCurrents}
 use Rattle.moves_means.specs.SingleMoves.{NeedsMore, Comes}
 use Rattle.moves_means.proofs.WordLaws.{Within, WordSays}
 
@@ -44,11 +47,15 @@ module _ (b : Board) (w : ℕ) (s : State) (r : ℕ) where
     regular-drop (there, inl (sort, drop)) = drop
     regular-drop (there, inr (sort, drop)) = absurd (omega (arith, regular .0, sort .0))
 
-    pub regular-comes : (d : Bool) (x : verdict.Finding) → isDrawn s r ≡ d → Within b s r Second w → WordSays b s r First x w → Comes b s r (regularMove d (given x)) w
-    regular-comes d verdict.undecided is second needs = subst (λ (m : Move). Comes b s r m w) (regular-undecided d (given verdict.undecided) refl) needs
+    pub regular-comes : (d : Bool) (x : verdict.Finding) → isDrawn s r ≡ d → Within b s r Second w
+        → WordSays b s r First x w → Comes b s r (regularMove d (given x)) w
+    regular-comes d verdict.undecided is second needs =
+        subst (λ (m : Move). Comes b s r m w) (regular-undecided d (given verdict.undecided) refl) needs
     regular-comes true verdict.live is second (first, current) =
-        subst (λ (m : Move). Comes b s r m w) (regular-live true (given verdict.live) refl refl)
-        (within-both first second, (regular-one, (λ draw. drawn-apart is (regular-draw draw .0), λ drop. regular-drop drop .1 current)))
+        subst (λ (m : Move). Comes b s r m w) (regular-live true (given verdict.live) refl refl) (
+          within-both first second,
+          (regular-one, (λ draw. drawn-apart is (regular-draw draw .0), λ drop. regular-drop drop .1 current)),
+        )
     regular-comes false verdict.live is second (first, current) =
         subst (λ (m : Move). Comes b s r m w) (regular-live false (given verdict.live) refl refl)
         (within-both first second, (regular-one, (below, inl (regular, (is, current)))))
@@ -56,8 +63,10 @@ module _ (b : Board) (w : ℕ) (s : State) (r : ℕ) where
         subst (λ (m : Move). Comes b s r m w) (regular-dead true (given verdict.dead) refl refl)
         (within-both first second, (regular-one, (below, inl (regular, (is, still)))))
     regular-comes false verdict.dead is second (first, still) =
-        subst (λ (m : Move). Comes b s r m w) (regular-dead false (given verdict.dead) refl refl)
-        (within-both first second, (regular-one, (λ draw. still (regular-draw draw .1), λ drop. drawn-apart (regular-drop drop .0) is)))
+        subst (λ (m : Move). Comes b s r m w) (regular-dead false (given verdict.dead) refl refl) (
+          within-both first second,
+          (regular-one, (λ draw. still (regular-draw draw .1), λ drop. drawn-apart (regular-drop drop .0) is)),
+        )
 
   -- ---- a steel relay
 
@@ -70,28 +79,60 @@ module _ (b : Board) (w : ℕ) (s : State) (r : ℕ) where
     steel-drop (there, inl (sort, drop)) = absurd (omega (arith, steel .0, sort .0))
     steel-drop (there, inr (sort, drop)) = drop
 
-    pub steel-comes : (d : Bool) (x y : verdict.Finding) → isDrawn s r ≡ d → WordSays b s r First x w → WordSays b s r Second y w → Comes b s r (steelMove d (given x) (given y)) w
-    steel-comes d verdict.undecided y is needs second = subst (λ (m : Move). Comes b s r m w) (steel-undecided d (given verdict.undecided) (given y) refl) needs
-    steel-comes d verdict.live verdict.undecided is first needs = subst (λ (m : Move). Comes b s r m w) (steel-undecided-second d (given verdict.live) (given verdict.undecided) refl refl) needs
-    steel-comes d verdict.dead verdict.undecided is first needs = subst (λ (m : Move). Comes b s r m w) (steel-undecided-second d (given verdict.dead) (given verdict.undecided) refl refl) needs
+    pub steel-comes : (d : Bool) (x y : verdict.Finding) → isDrawn s r ≡ d → WordSays b s r First x w
+        → WordSays b s r Second y w → Comes b s r (steelMove d (given x) (given y)) w
+    steel-comes d verdict.undecided y is needs second =
+        subst (λ (m : Move). Comes b s r m w) (steel-undecided d (given verdict.undecided) (given y) refl) needs
+    steel-comes d verdict.live verdict.undecided is first needs =
+        subst (λ (m : Move). Comes b s r m w)
+        (steel-undecided-second d (given verdict.live) (given verdict.undecided) refl refl) needs
+    steel-comes d verdict.dead verdict.undecided is first needs =
+        subst (λ (m : Move). Comes b s r m w)
+        (steel-undecided-second d (given verdict.dead) (given verdict.undecided) refl refl) needs
     steel-comes d verdict.live verdict.live is (first, draws) (second, drops) =
-        subst (λ (m : Move). Comes b s r m w) (steel-conflict (given verdict.live) (given verdict.live) refl refl d refl)
+        subst (λ (m : Move). Comes b s r m w)
+        (steel-conflict (given verdict.live) (given verdict.live) refl refl d refl)
         (within-both first second, (below, (steel, (draws, drops))))
     steel-comes true verdict.live verdict.dead is (first, draws) (second, still) =
-        subst (λ (m : Move). Comes b s r m w) (steel-draws (given verdict.live) (given verdict.dead) refl refl true refl refl)
-        (within-both first second, (λ both. still (both .1 .1 .1), (λ draw. drawn-apart is (steel-draw draw .0), λ drop. still (steel-drop drop .1))))
+        subst (λ (m : Move). Comes b s r m w)
+        (steel-draws (given verdict.live) (given verdict.dead) refl refl true refl refl) (
+          within-both first second,
+          (
+            λ both. still (both .1 .1 .1),
+            (
+              λ draw. drawn-apart is (steel-draw draw .0),
+              λ drop. still
+                  (steel-drop drop .1),
+            ),
+          ),
+        )
     steel-comes false verdict.live verdict.dead is (first, draws) (second, still) =
-        subst (λ (m : Move). Comes b s r m w) (steel-draws (given verdict.live) (given verdict.dead) refl refl false refl refl)
+        subst (λ (m : Move). Comes b s r m w)
+        (steel-draws (given verdict.live) (given verdict.dead) refl refl false refl refl)
         (within-both first second, (λ both. still (both .1 .1 .1), (below, inr (steel, (is, draws)))))
     steel-comes true verdict.dead verdict.live is (first, still) (second, drops) =
-        subst (λ (m : Move). Comes b s r m w) (steel-drops (given verdict.dead) (given verdict.live) refl refl true refl refl)
+        subst (λ (m : Move). Comes b s r m w)
+        (steel-drops (given verdict.dead) (given verdict.live) refl refl true refl refl)
         (within-both first second, (λ both. still (both .1 .1 .0), (below, inr (steel, (is, drops)))))
     steel-comes false verdict.dead verdict.live is (first, still) (second, drops) =
-        subst (λ (m : Move). Comes b s r m w) (steel-drops (given verdict.dead) (given verdict.live) refl refl false refl refl)
-        (within-both first second, (λ both. still (both .1 .1 .0), (λ draw. still (steel-draw draw .1), λ drop. drawn-apart (steel-drop drop .0) is)))
+        subst (λ (m : Move). Comes b s r m w)
+        (steel-drops (given verdict.dead) (given verdict.live) refl refl false refl refl) (
+          within-both first second,
+          (
+            λ both. still (both .1 .1 .0),
+            (
+              λ draw. still (steel-draw draw .1),
+              λ drop. drawn-apart
+                  (steel-drop drop .0) is,
+            ),
+          ),
+        )
     steel-comes d verdict.dead verdict.dead is (first, still) (second, none) =
-        subst (λ (m : Move). Comes b s r m w) (steel-rests (given verdict.dead) (given verdict.dead) refl refl d refl refl)
-        (within-both first second, (λ both. none (both .1 .1 .1), (λ draw. still (steel-draw draw .1), λ drop. none (steel-drop drop .1))))
+        subst (λ (m : Move). Comes b s r m w)
+        (steel-rests (given verdict.dead) (given verdict.dead) refl refl d refl refl) (
+          within-both first second,
+          (λ both. none (both .1 .1 .1), (λ draw. still (steel-draw draw .1), λ drop. none (steel-drop drop .1))),
+        )
 
   -- ---- no relay comes to two words
 

@@ -1,4 +1,5 @@
--- Current through a relay's winding is what verdicts call carrying: a winding conducts in every state, so its connections are the two ways between its ends.
+-- Current through a relay's winding is what verdicts call carrying: a winding conducts in every state, so its
+-- connections are the two ways between its ends.
 use Prim.Native.Nat.{ℕ}
 use mathlib.Core.Path.{_≡_, refl, sym, subst, _∙_}
 use mathlib.Core.Logic.{inl, inr}
@@ -39,15 +40,32 @@ module _ (b : Board) (s : State) (r : ℕ) (n : Which) (e : Winding) (its : ItsW
   its-conducts = winding-conducts s n r (its .part .kind) (its .is-winding)
 
   pub through-carries : CurrentThrough b s r n → WindingCarries b s (e .a) (e .b)
-  through-carries c = either (connection-ends s (its .part) (c .from) (c .to) (subst (λ (p : Part). (c .from, c .to) ∈ actualConnections s p) (its .only (c .winding) (c .on-board) (c .of-relay)) (c .actual)) .1)
+  through-carries c =
+      either (connection-ends s (its .part) (c .from) (c .to)
+      (subst (λ (p : Part). (c .from, c .to) ∈ actualConnections s p)
+      (its .only (c .winding) (c .on-board) (c .of-relay)) (c .actual)) .1)
     where
       either : EndsAt (its .part) (c .from) (c .to) → WindingCarries b s (e .a) (e .b)
       either (inl (x, y)) = inl (rw (sym (its .ends .0) ∙ x, sym (its .ends .1) ∙ y) (c .carrying))
       either (inr (x, y)) = inr (rw (sym (its .ends .0) ∙ x, sym (its .ends .1) ∙ y) (c .carrying))
 
   through : (x y : ℕ) → (x, y) ∈ actualConnections s (its .part) → CurrentCarrying b s x y → CurrentThrough b s r n
-  through x y actual carrying = record { winding = its .part; on-board = its .on-board; of-relay = its .is-winding; from = x; to = y; actual = actual; carrying = carrying }
+  through x y actual carrying =
+      record {
+        winding = its .part;
+        on-board = its .on-board;
+        of-relay = its .is-winding;
+        from = x;
+        to = y;
+        actual =
+            actual;
+        carrying = carrying;
+      }
 
   pub carries-through : WindingCarries b s (e .a) (e .b) → CurrentThrough b s r n
-  carries-through (inl c) = through (its .part .a) (its .part .b) (ends-connection s (its .part) (its .part .a) (its .part .b) its-conducts (inl (refl, refl))) (rw (its .ends .0, its .ends .1) c)
-  carries-through (inr c) = through (its .part .b) (its .part .a) (ends-connection s (its .part) (its .part .b) (its .part .a) its-conducts (inr (refl, refl))) (rw (its .ends .0, its .ends .1) c)
+  carries-through (inl c) =
+      through (its .part .a) (its .part .b) (ends-connection s (its .part) (its .part .a) (its .part .b)
+      its-conducts (inl (refl, refl))) (rw (its .ends .0, its .ends .1) c)
+  carries-through (inr c) =
+      through (its .part .b) (its .part .a) (ends-connection s (its .part) (its .part .b) (its .part .a)
+      its-conducts (inr (refl, refl))) (rw (its .ends .0, its .ends .1) c)

@@ -1,4 +1,5 @@
--- The theorems of specs/SingleMoves.antt: of what a relay comes to `Comes` holds, by the relay's sort, and it holds of no two words; so each word is said exactly then, by a step and by the call.
+-- The theorems of specs/SingleMoves.antt: of what a relay comes to `Comes` holds, by the relay's sort, and it holds of
+-- no two words; so each word is said exactly then, by a step and by the call.
 use Prim.Native.Nat.{ℕ, _<_}
 use mathlib.Core.Path.{_≡_, refl, sym, ap, subst, _∙_}
 use mathlib.Core.Logic.{⊎-elim}
@@ -27,9 +28,12 @@ use Rattle.moves_means.proofs.ComesLaws.{regular-comes, steel-comes, co
 
 -- ---- a step, by the sort of the relay
 
-module _ (b : Board) (w : ℕ) (s : State) (r : ℕ) (fine : boardFine b ≡ true) (fits : stateFine (b .counts) s ≡ true) (below : r < b .counts .relays) where
+module _ (b : Board) (w : ℕ) (s : State) (r : ℕ) (fine : boardFine b ≡ true) (fits : stateFine (b .counts) s ≡ true)
+    (below : r < b .counts .relays) where
   -- a step goes by the words x and y on the relay's windings
-  words-mean : (x y : Outcome Finding) (m : Move) → judging b s r First w .finding ≡ x → judging b s r Second w .finding ≡ y → moveBy (isDrawn s r) x y ≡ m → Comes b s r m w → Comes b s r (stepOf b s r w) w
+  words-mean : (x y : Outcome Finding) (m : Move) → judging b s r First w .finding ≡ x
+      → judging b s r Second w .finding ≡ y → moveBy (isDrawn s r) x y ≡ m → Comes b s r m w
+      → Comes b s r (stepOf b s r w) w
   words-mean x y m e f is comes =
       let steps : stepOf b s r w ≡ m = cc (step-judging b w s r fine fits, e, f, is) in
       subst (λ (m : Move). Comes b s r m w) (sym steps) comes
@@ -51,8 +55,11 @@ module _ (b : Board) (w : ℕ) (s : State) (r : ℕ) (fine : boardFine b ≡ tru
       (steel-comes b w s r below steel (isDrawn s r) (first .word) (second .word) refl (first .says) (second .says))
 
 -- of what a relay comes to `Comes` holds
-pub step-means : (b : Board) (w : ℕ) (s : State) (r : ℕ) → boardFine b ≡ true → stateFine (b .counts) s ≡ true → r < b .counts .relays → Comes b s r (stepOf b s r w) w
-step-means b w s r fine fits below = ⊎-elim (regular-means b w s r fine fits below) (steel-means b w s r fine fits below) (fine-relays-wound b fine r below)
+pub step-means : (b : Board) (w : ℕ) (s : State) (r : ℕ) → boardFine b ≡ true → stateFine (b .counts) s ≡ true
+    → r < b .counts .relays → Comes b s r (stepOf b s r w) w
+step-means b w s r fine fits below =
+    ⊎-elim (regular-means b w s r fine fits below) (steel-means b w s r fine fits below)
+    (fine-relays-wound b fine r below)
 
 -- ---- the theorems
 
@@ -65,8 +72,13 @@ pub move-exactly : MoveExactly
 move-exactly b s r w a m moves taken =
     let fit = movable-given b s r taken in
     let exactly = step-exactly b w s r m (fit .0) (fit .1) (fit .2) in
-    let told : toldMoved a ≡ (made s r (stepOf b s r w), given (stepOf b s r w)) = moves ∙ sym (moving-moved b s r w (stepOf b s r w) (made s r (stepOf b s r w)) taken refl refl) in
+    let told : toldMoved a ≡ (made s r (stepOf b s r w), given (stepOf b s r w)) =
+    moves ∙ sym (moving-moved b s r w (stepOf b s r w) (made s r (stepOf b s r w)) taken refl refl) in
     let answers : toldMoveAnswer (a .answer) ≡ given (stepOf b s r w) = λ i. told i .1 in
     let leaves : a .state ≡ made s r (stepOf b s r w) = λ i. told i .0 in
-    let same : toldMoveAnswer (a .answer) ≡ given m → stepOf b s r w ≡ m = λ says. given-injective (stepOf b s r w) m (sym answers ∙ says) in
-    ((λ says. exactly .0 (same says), λ comes. answers ∙ ap given (exactly .1 comes)), λ says. leaves ∙ ap (made s r) (same says))
+    let same : toldMoveAnswer (a .answer) ≡ given m → stepOf b s r w ≡ m =
+    λ says. given-injective (stepOf b s r w) m (sym answers ∙ says) in (
+      (λ says. exactly .0 (same says), λ comes. answers ∙ ap given (exactly .1 comes)),
+      λ says. leaves
+          ∙ ap (made s r) (same says),
+    )

@@ -1,4 +1,5 @@
--- What the word on one winding says in the words of the published model: live, that there is current through it; dead, that there is none; undecided, that it needs more than the allowance. And which windings of a relay have a word.
+-- What the word on one winding says in the words of the published model: live, that there is current through it; dead,
+-- that there is none; undecided, that it needs more than the allowance. And which windings of a relay have a word.
 --     Within b s r n w         winding n of relay r, if there is one, needs no more than the allowance w
 --     WordSays b s r n x w     what the word x says of it
 --     HasWord b s r n w        the word that `judge` gives it, and that what it says is so
@@ -53,9 +54,11 @@ pub record HasWord (b : Board) (s : State) (r : ℕ) (n : Which) (w : ℕ) : Typ
 
 -- ---- winding n of relay r is found, and is e
 
-module _ (b : Board) (w : ℕ) (s : State) (r : ℕ) (n : Which) (e : Winding) (found : windingOf n r (partsOf b) ≡ given e) where
+module _ (b : Board) (w : ℕ) (s : State) (r : ℕ) (n : Which) (e : Winding)
+    (found : windingOf n r (partsOf b) ≡ given e) where
   found-within : effortOf b s e ≤ w → Within b s r n w
-  found-within enough f also = subst (λ (x : Winding). effortOf b s x ≤ w) (given-injective e f (sym found ∙ also)) enough
+  found-within enough f also =
+      subst (λ (x : Winding). effortOf b s x ≤ w) (given-injective e f (sym found ∙ also)) enough
 
   -- the call weighs all chains of the board in the state
   accepted-weighed : AcceptedWinding b s r n e → weighed (shows (e .a) (e .b)) (chainsOf b s) w ≡ judging b s r n w
@@ -68,7 +71,9 @@ module _ (b : Board) (w : ℕ) (s : State) (r : ℕ) (n : Which) (e : Winding) (
       (λ enough. by-first (firstShown (shows (e .a) (e .b)) (chainsOf b s)) refl (leb-true (effortOf b s e) w enough))
       (λ short. let more = leb-false (effortOf b s e) w short in record {
         word = undecided;
-        judged = ap (λ (j : Verdict). j .finding) (sym weighs ∙ weighed-short (shows (e .a) (e .b)) (chainsOf b s) w more);
+        judged =
+            ap (λ (j : Verdict). j .finding) (sym weighs ∙ weighed-short (shows (e .a) (e .b)) (chainsOf b s) w
+            more);
         says = record { which = n; winding = e; its-winding = found; more = more };
       })
     where
@@ -78,48 +83,70 @@ module _ (b : Board) (w : ℕ) (s : State) (r : ℕ) (n : Which) (e : Winding) (
       weighs : weighed (shows (e .a) (e .b)) (chainsOf b s) w ≡ judging b s r n w
       weighs = accepted-weighed taken
 
-      settles : (o : Option (List ℕ)) → firstShown (shows (e .a) (e .b)) (chainsOf b s) ≡ o → effortOf b s e ≤ w → settled (effortOf b s e) o ≡ judging b s r n w
-      settles o first enough = ap (settled (effortOf b s e)) (sym first) ∙ sym (weighed-within (shows (e .a) (e .b)) (chainsOf b s) w enough) ∙ weighs
+      settles : (o : Option (List ℕ)) → firstShown (shows (e .a) (e .b)) (chainsOf b s) ≡ o → effortOf b s e ≤ w
+          → settled (effortOf b s e) o ≡ judging b s r n w
+      settles o first enough =
+          ap (settled (effortOf b s e)) (sym first)
+          ∙ sym (weighed-within (shows (e .a) (e .b)) (chainsOf b s) w enough) ∙ weighs
 
-      by-first : (o : Option (List ℕ)) → firstShown (shows (e .a) (e .b)) (chainsOf b s) ≡ o → effortOf b s e ≤ w → HasWord b s r n w
+      by-first : (o : Option (List ℕ)) → firstShown (shows (e .a) (e .b)) (chainsOf b s) ≡ o → effortOf b s e ≤ w
+          → HasWord b s r n w
       by-first (some c) first enough =
           let told : Judges b s r n w (liveVerdict (effortOf b s e) c) = settles (some c) first enough in
           record {
             word = live;
             judged = ap (λ (j : Verdict). j .finding) (sym told);
-            says = (found-within enough, carries-through b s r n e (the-winding b s r n e taken) (as-published b s r n w e (liveVerdict (effortOf b s e) c) told taken .0 refl));
+            says = (
+              found-within enough,
+              carries-through b s r n e (the-winding b s r n e taken)
+                  (as-published b s r n w e (liveVerdict (effortOf b s e) c) told taken .0 refl),
+            );
           }
       by-first none first enough =
           let told : Judges b s r n w (deadVerdict (effortOf b s e)) = settles none first enough in
           record {
             word = dead;
             judged = ap (λ (j : Verdict). j .finding) (sym told);
-            says = (found-within enough, λ current. as-published b s r n w e (deadVerdict (effortOf b s e)) told taken .1 refl (through-carries b s r n e (the-winding b s r n e taken) current));
+            says = (
+              found-within enough,
+              λ current. as-published b s r n w e (deadVerdict (effortOf b s e)) told
+                  taken .1 refl (through-carries b s r n e (the-winding b s r n e taken) current),
+            );
           }
 
 -- ---- the windings of a relay, on a board and in a state that are not refused
 
-module _ (b : Board) (w : ℕ) (s : State) (r : ℕ) (fine : boardFine b ≡ true) (fits : stateFine (b .counts) s ≡ true) where
-  -- each winding of a relay has a word, but the second one of a regular relay
-  winding-word : (n : Which) → r < b .counts .relays → ¬ ((n ≡ Second) × isRegular r (partsOf b)) → HasWord b s r n w
-  winding-word n below there = by-sought (windingOf n r (partsOf b)) refl
-    where
-      eleven : (b .counts .relays ≤ r) ⊎ ((n ≡ Second) × isRegular r (partsOf b)) → ⊥
-      eleven (inl past) = omega (arith, below, past)
-      eleven (inr regular) = there regular
+module _ (b : Board) (w : ℕ) (s : State) (r : ℕ) (fine : boardFine b ≡ true) (fits : stateFine (b .counts) s ≡ true)
+  where
+    -- each winding of a relay has a word, but the second one of a regular relay
+    winding-word : (n : Which) → r < b .counts .relays → ¬ ((n ≡ Second) × isRegular r (partsOf b)) → HasWord b s r n w
+    winding-word n below there = by-sought (windingOf n r (partsOf b)) refl
+      where
+        eleven : (b .counts .relays ≤ r) ⊎ ((n ≡ Second) × isRegular r (partsOf b)) → ⊥
+        eleven (inl past) = omega (arith, below, past)
+        eleven (inr regular) = there regular
 
-      by-sought : (o : Outcome Winding) → windingOf n r (partsOf b) ≡ o → HasWord b s r n w
-      by-sought (given e) found = found-word b w s r n e found fine fits
-      by-sought (refused k p) missing = absurd (eleven (eleven-exactly b s r n fine fits .0 (judgeable-sought b s r n fine fits ∙ winding-refused n r (partsOf b) k p missing)))
+        by-sought : (o : Outcome Winding) → windingOf n r (partsOf b) ≡ o → HasWord b s r n w
+        by-sought (given e) found = found-word b w s r n e found fine fits
+        by-sought (refused k p) missing =
+            absurd
+            (eleven
+            (eleven-exactly b s r n fine fits .0 (judgeable-sought b s r n fine fits
+            ∙ winding-refused n r (partsOf b) k p missing)))
 
-  pub first-word : r < b .counts .relays → HasWord b s r First w
-  first-word below = winding-word First below (λ x. let z : _≡_ {A = ℕ} 0 1 = cc (x .0) in omega arith)
+    pub first-word : r < b .counts .relays → HasWord b s r First w
+    first-word below = winding-word First below (λ x. let z : _≡_ {A = ℕ} 0 1 = cc (x .0) in omega arith)
 
-  pub second-word : r < b .counts .relays → isSteel r (partsOf b) → HasWord b s r Second w
-  second-word below steel = winding-word Second below (λ x. omega (arith, steel .0, x .1 .0))
+    pub second-word : r < b .counts .relays → isSteel r (partsOf b) → HasWord b s r Second w
+    second-word below steel = winding-word Second below (λ x. omega (arith, steel .0, x .1 .0))
 
-  -- the second winding of a regular relay is missing: it has no word, and needs nothing
-  pub second-missing : isRegular r (partsOf b) → (judging b s r Second w .finding ≡ refused noSuchWinding 0) × Within b s r Second w
-  second-missing regular =
-      let missing : windingFor b s r Second ≡ refused noSuchWinding 0 = eleven-exactly b s r Second fine fits .1 (inr (refl, regular)) in
-      (ap (λ (j : Verdict). j .finding) (sym (judging-by b s r Second w (refused noSuchWinding 0) missing)), λ e found. absurd (refused-never noSuchWinding 0 e (sym missing ∙ judgeable-sought b s r Second fine fits ∙ found)))
+    -- the second winding of a regular relay is missing: it has no word, and needs nothing
+    pub second-missing : isRegular r (partsOf b) → (judging b s r Second w .finding ≡ refused noSuchWinding 0)
+        × Within b s r Second w
+    second-missing regular =
+        let missing : windingFor b s r Second ≡ refused noSuchWinding 0 =
+        eleven-exactly b s r Second fine fits .1 (inr (refl, regular)) in (
+          ap (λ (j : Verdict). j .finding) (sym (judging-by b s r Second w (refused noSuchWinding 0) missing)),
+          λ e found. absurd
+              (refused-never noSuchWinding 0 e (sym missing ∙ judgeable-sought b s r Second fine fits ∙ found)),
+        )

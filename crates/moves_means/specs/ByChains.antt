@@ -1,8 +1,13 @@
--- How a relay moves, by the chains and the efforts of its windings, over the call `moves::move_relay`, whatever it answers under its promise. Rule book: "Regular: its winding is always judged, with W. Undecided: undecided. Otherwise it draws if dropped and live, drops if drawn and dead, else rests. Steel: both windings are always judged, each with W. Either undecided: undecided. Both live: conflict. Otherwise it draws if dropped and the drawing winding is live, drops if drawn and the dropping winding is live, else rests."
+-- How a relay moves, by the chains and the efforts of its windings, over the call `moves::move_relay`, whatever it
+-- answers under its promise. Rule book: "Regular: its winding is always judged, with W. Undecided: undecided. Otherwise
+-- it draws if dropped and live, drops if drawn and dead, else rests. Steel: both windings are always judged, each with
+-- W. Either undecided: undecided. Both live: conflict. Otherwise it draws if dropped and the drawing winding is live,
+-- drops if drawn and the dropping winding is live, else rests."
 --     Undecided b s e w            winding e is undecided in state s: its effort is larger than the allowance w
 --     Decided b s e w              its effort is at most w
 --     RegularComes b s r e m w     what the word m says of a regular relay r with winding e: never conflict
---     SteelComes b s r e f m w     what it says of a steel relay r with drawing winding e and dropping winding f: what rests is drawn, its dropping winding dead, or dropped, its drawing winding dead
+--     SteelComes b s r e f m w     what it says of a steel relay r with drawing winding e and dropping winding f: what
+--                                  rests is drawn, its dropping winding dead, or dropped, its drawing winding dead
 --     RegularByChains              the call's word on a regular relay is m exactly if `RegularComes` holds of m
 --     SteelByChains                the call's word on a steel relay is m exactly if `SteelComes` holds of m
 use Prim.Native.Nat.{ℕ, _<_, _≤_}
@@ -34,15 +39,20 @@ abbrev pub RegularComes : Board → State → ℕ → Winding → Move → ℕ �
 RegularComes b s r e undecided w = Undecided b s e w
 RegularComes b s r e drew w = Decided b s e w × (isDrawn s r ≡ false) × IsLive b s e
 RegularComes b s r e dropped w = Decided b s e w × (isDrawn s r ≡ true) × ¬ (IsLive b s e)
-RegularComes b s r e rests w = Decided b s e w × (((isDrawn s r ≡ true) × IsLive b s e) ⊎ ((isDrawn s r ≡ false) × ¬ (IsLive b s e)))
+RegularComes b s r e rests w =
+    Decided b s e w × (((isDrawn s r ≡ true) × IsLive b s e) ⊎ ((isDrawn s r ≡ false) × ¬ (IsLive b s e)))
 RegularComes b s r e conflict w = ⊥
 
 abbrev pub SteelComes : Board → State → ℕ → Winding → Winding → Move → ℕ → Type 0
 SteelComes b s r e f undecided w = Undecided b s e w ⊎ Undecided b s f w
 SteelComes b s r e f conflict w = Decided b s e w × Decided b s f w × IsLive b s e × IsLive b s f
-SteelComes b s r e f drew w = Decided b s e w × Decided b s f w × (isDrawn s r ≡ false) × IsLive b s e × ¬ (IsLive b s f)
-SteelComes b s r e f dropped w = Decided b s e w × Decided b s f w × (isDrawn s r ≡ true) × IsLive b s f × ¬ (IsLive b s e)
-SteelComes b s r e f rests w = Decided b s e w × Decided b s f w × (((isDrawn s r ≡ true) × ¬ (IsLive b s f)) ⊎ ((isDrawn s r ≡ false) × ¬ (IsLive b s e)))
+SteelComes b s r e f drew w =
+    Decided b s e w × Decided b s f w × (isDrawn s r ≡ false) × IsLive b s e × ¬ (IsLive b s f)
+SteelComes b s r e f dropped w =
+    Decided b s e w × Decided b s f w × (isDrawn s r ≡ true) × IsLive b s f × ¬ (IsLive b s e)
+SteelComes b s r e f rests w =
+    Decided b s e w × Decided b s f w × (((isDrawn s r ≡ true) × ¬ (IsLive b s f))
+    ⊎ ((isDrawn s r ≡ false) × ¬ (IsLive b s e)))
 
 abbrev pub RegularByChains : Type 0
 RegularByChains =

@@ -1,4 +1,5 @@
--- Laws of the sets as they are gathered part by part: what one part does to them, how many they stay, and the walk along a board's first C parts. For the proofs of `bridge` and `neighbours`, and for `JoinedLaws`.
+-- Laws of the sets as they are gathered part by part: what one part does to them, how many they stay, and the walk
+-- along a board's first C parts. For the proofs of `bridge` and `neighbours`, and for `JoinedLaws`.
 use Prim.Native.Nat.{ℕ, _+_, _≤_, _<_}
 use mathlib.Core.Path.{_≡_, refl, sym, ap, _∙_}
 use mathlib.Core.Bool.{Bool, true, false, cond}
@@ -18,7 +19,8 @@ pub gathered-none : (s : State) (near : List ℕ) → gathered s near [] ≡ nea
 unfolding gathered
 gathered-none s near = refl
 
-pub gathered-next : (s : State) (near : List ℕ) (p : Part) (ps : List Part) → gathered s near (p ∷ ps) ≡ gathered s (bridged s near p) ps
+pub gathered-next : (s : State) (near : List ℕ) (p : Part) (ps : List Part) → gathered s near (p ∷ ps) ≡ gathered s
+    (bridged s near p) ps
 unfolding gathered
 gathered-next s near p ps = refl
 
@@ -26,7 +28,8 @@ pub neighbours-gathered : (b : Board) (s : State) → neighbours b s ≡ gathere
 unfolding neighbours
 neighbours-gathered b s = refl
 
-pub bridged-conducting : (s : State) (near : List ℕ) (p : Part) → conducts s (p .kind) ≡ true → bridged s near p ≡ joining (joining near (p .a) (p .b)) (p .b) (p .a)
+pub bridged-conducting : (s : State) (near : List ℕ) (p : Part) → conducts s (p .kind) ≡ true
+    → bridged s near p ≡ joining (joining near (p .a) (p .b)) (p .b) (p .a)
 bridged-conducting s near p on = simp on
 
 pub bridged-open : (s : State) (near : List ℕ) (p : Part) → conducts s (p .kind) ≡ false → bridged s near p ≡ near
@@ -51,10 +54,13 @@ gathered-length s near [] = ap length (gathered-none s near)
 gathered-length s near (p ∷ ps) =
     ap length (gathered-next s near p ps) ∙ gathered-length s (bridged s near p) ps ∙ bridged-length s near p
 
--- ---- a walk along the first n parts of l, or all of them if there are fewer: at place i, `all` is what the parts from there on make of the sets `near`
+-- ---- a walk along the first n parts of l, or all of them if there are fewer: at place i, `all` is what the parts from
+-- there on make of the sets `near`
 
-module _ (s : State) (near : List ℕ) (l : List Part) (n i : ℕ) (all : List ℕ) (here : all ≡ gathered s near (drop i (take n l))) where
-  pub gather-walk-on : (next : List ℕ) → i < n → i < length l → next ≡ bridged s near (getD l i blank) → all ≡ gathered s next (drop (i + 1) (take n l))
+module _ (s : State) (near : List ℕ) (l : List Part) (n i : ℕ) (all : List ℕ)
+    (here : all ≡ gathered s near (drop i (take n l))) where
+  pub gather-walk-on : (next : List ℕ) → i < n → i < length l → next ≡ bridged s near (getD l i blank)
+      → all ≡ gathered s next (drop (i + 1) (take n l))
   gather-walk-on next below there more =
       here
       ∙ ap (gathered s near) (taken-from blank l n i below there)

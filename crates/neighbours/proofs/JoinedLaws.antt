@@ -1,4 +1,6 @@
--- The laws of which terminals are joined, which every crate above cites: in the sets of a board that breaks no rule, y is in the set of x exactly if a conducting part has x and y as its ends. So being joined goes both ways, and holds of two different terminals of the board.
+-- The laws of which terminals are joined, which every crate above cites: in the sets of a board that breaks no rule, y
+-- is in the set of x exactly if a conducting part has x and y as its ends. So being joined goes both ways, and holds of
+-- two different terminals of the board.
 use Prim.Native.Nat.{ℕ, zero, suc, _≤_, _<_}
 use native.Mathlib.Omega.{arith}
 use mathlib.Core.Path.{_≡_, refl, sym, subst, ap, _∙_}
@@ -23,7 +25,8 @@ use Rattle.board.proofs.FineLaws.{fine-range, fine-parts-fit}
 use Rattle.state.specs.declared.State.{State}
 use Rattle.neighbours.specs.Conduction.{conducts}
 use Rattle.neighbours.specs.Neighbours.{EndsAt, Joined, joined, alone, joining, bridged, gathered, neighbours}
-use Rattle.neighbours.proofs.GatherLaws.{gathered-none, gathered-next, neighbours-gathered, bridged-conducting, bridged-open, joining-length, bridged-length, gathered-length}
+use Rattle.neighbours.proofs.GatherLaws.{gathered-none, gathered-next, neighbours-gathered, bridged-conducting}
+use Rattle.neighbours.proofs.GatherLaws.{bridged-open, joining-length, bridged-length, gathered-length}
 
 -- ---- a part's two ends, in either order
 
@@ -53,7 +56,8 @@ including-kept s n m is =
 
 module _ (near : List ℕ) (u v : ℕ) where
   -- the set of u, where there is one
-  joining-set : (x y : ℕ) → x ≡ u → u < length near → joined (joining near u v) x y ≡ member (including (getD near x 0) v) y
+  joining-set : (x y : ℕ) → x ≡ u → u < length near → joined (joining near u v) x y ≡ member
+      (including (getD near x 0) v) y
   joining-set x y same there = rw same (ap (λ (k : ℕ). member k y) (getD-set-same near u _ 0 there))
 
   joining-no-set : (x y : ℕ) → length near ≤ u → joined (joining near u v) x y ≡ joined near x y
@@ -65,7 +69,8 @@ module _ (near : List ℕ) (u v : ℕ) where
   joining-other : (x y : ℕ) → x ≡ u → (y ≡ v → ⊥) → joined (joining near u v) x y ≡ joined near x y
   joining-other x y same other =
       by-test (ltb u (length near))
-      (λ there. joining-set x y same (ltb-true u (length near) there) ∙ member-including-other (getD near x 0) v y other)
+      (λ there. joining-set x y same (ltb-true u (length near) there) ∙ member-including-other (getD near x 0) v y
+      other)
       (λ past. joining-no-set x y (ltb-false u (length near) past))
 
   joining-joins : u < length near → v < 64 → joined (joining near u v) u v ≡ true
@@ -75,12 +80,14 @@ module _ (near : List ℕ) (u v : ℕ) where
   joining-kept x y is =
       by-test (eqb x u)
       (λ same. by-test (ltb u (length near))
-      (λ there. joining-set x y (eqb-true x u same) (ltb-true u (length near) there) ∙ including-kept (getD near x 0) v y is)
+      (λ there. joining-set x y (eqb-true x u same) (ltb-true u (length near) there)
+      ∙ including-kept (getD near x 0) v y is)
       (λ past. joining-no-set x y (ltb-false u (length near) past) ∙ is))
       (λ differ. joining-other-set x y (eqb-false x u differ) ∙ is)
 
   -- what holds of u and v, and of what was joined before, holds of what is joined now
-  joining-new : (x y : ℕ) {C : Type 0} → (u ≡ x → v ≡ y → C) → (joined near x y ≡ true → C) → joined (joining near u v) x y ≡ true → C
+  joining-new : (x y : ℕ) {C : Type 0} → (u ≡ x → v ≡ y → C) → (joined near x y ≡ true → C)
+      → joined (joining near u v) x y ≡ true → C
   joining-new x y new old is =
       by-test (eqb x u)
       (λ same. by-test (eqb y v)
@@ -91,7 +98,8 @@ module _ (near : List ℕ) (u v : ℕ) where
 -- ---- a part's ends joined to each other
 
 module _ (s : State) (near : List ℕ) (p : Part) where
-  bridged-on : (x y : ℕ) → conducts s (p .kind) ≡ true → joined (bridged s near p) x y ≡ joined (joining (joining near (p .a) (p .b)) (p .b) (p .a)) x y
+  bridged-on : (x y : ℕ) → conducts s (p .kind) ≡ true → joined (bridged s near p) x y ≡ joined
+      (joining (joining near (p .a) (p .b)) (p .b) (p .a)) x y
   bridged-on x y on = ap (λ (k : List ℕ). joined k x y) (bridged-conducting s near p on)
 
   bridged-off : (x y : ℕ) → conducts s (p .kind) ≡ false → joined (bridged s near p) x y ≡ joined near x y
@@ -100,17 +108,22 @@ module _ (s : State) (near : List ℕ) (p : Part) where
   bridged-kept : (x y : ℕ) → joined near x y ≡ true → joined (bridged s near p) x y ≡ true
   bridged-kept x y is =
       by-test (conducts s (p .kind))
-      (λ on. bridged-on x y on ∙ joining-kept (joining near (p .a) (p .b)) (p .b) (p .a) x y (joining-kept near (p .a) (p .b) x y is))
+      (λ on. bridged-on x y on ∙ joining-kept (joining near (p .a) (p .b)) (p .b) (p .a) x y
+      (joining-kept near (p .a) (p .b) x y is))
       (λ off. bridged-off x y off ∙ is)
 
-  bridged-joins : (x y : ℕ) → length near ≡ 64 → conducts s (p .kind) ≡ true → EndsAt p x y → x < 64 → y < 64 → joined (bridged s near p) x y ≡ true
+  bridged-joins : (x y : ℕ) → length near ≡ 64 → conducts s (p .kind) ≡ true → EndsAt p x y → x < 64 → y < 64
+      → joined (bridged s near p) x y ≡ true
   bridged-joins x y long on =
       ends-either p (λ u v. u < 64 → v < 64 → joined (bridged s near p) u v ≡ true)
-      (λ a b. bridged-on (p .a) (p .b) on ∙ joining-kept (joining near (p .a) (p .b)) (p .b) (p .a) (p .a) (p .b) (joining-joins near (p .a) (p .b) (omega arith) b))
-      (λ b a. bridged-on (p .b) (p .a) on ∙ joining-joins (joining near (p .a) (p .b)) (p .b) (p .a) (omega (arith, joining-length near (p .a) (p .b))) a)
+      (λ a b. bridged-on (p .a) (p .b) on ∙ joining-kept (joining near (p .a) (p .b)) (p .b) (p .a) (p .a) (p .b)
+      (joining-joins near (p .a) (p .b) (omega arith) b))
+      (λ b a. bridged-on (p .b) (p .a) on ∙ joining-joins (joining near (p .a) (p .b)) (p .b) (p .a)
+      (omega (arith, joining-length near (p .a) (p .b))) a)
       x y
 
-  bridged-new : (x y : ℕ) {C : Type 0} → (conducts s (p .kind) ≡ true → EndsAt p x y → C) → (joined near x y ≡ true → C) → joined (bridged s near p) x y ≡ true → C
+  bridged-new : (x y : ℕ) {C : Type 0} → (conducts s (p .kind) ≡ true → EndsAt p x y → C)
+      → (joined near x y ≡ true → C) → joined (bridged s near p) x y ≡ true → C
   bridged-new x y new old is =
       by-test (conducts s (p .kind))
       (λ on. joining-new (joining near (p .a) (p .b)) (p .b) (p .a) x y
@@ -122,7 +135,8 @@ module _ (s : State) (near : List ℕ) (p : Part) where
 -- ---- the ends of all the parts
 
 module _ (s : State) (x y : ℕ) where
-  gathered-step : (near : List ℕ) (p : Part) (ps : List Part) → joined (gathered s near (p ∷ ps)) x y ≡ joined (gathered s (bridged s near p) ps) x y
+  gathered-step : (near : List ℕ) (p : Part) (ps : List Part) → joined (gathered s near (p ∷ ps)) x y ≡ joined
+      (gathered s (bridged s near p) ps) x y
   gathered-step near p ps = ap (λ (k : List ℕ). joined k x y) (gathered-next s near p ps)
 
   gathered-end : (near : List ℕ) → joined (gathered s near []) x y ≡ joined near x y
@@ -130,18 +144,23 @@ module _ (s : State) (x y : ℕ) where
 
   gathered-kept : (near : List ℕ) (ps : List Part) → joined near x y ≡ true → joined (gathered s near ps) x y ≡ true
   gathered-kept near [] is = gathered-end near ∙ is
-  gathered-kept near (p ∷ ps) is = gathered-step near p ps ∙ gathered-kept (bridged s near p) ps (bridged-kept s near p x y is)
+  gathered-kept near (p ∷ ps) is =
+      gathered-step near p ps ∙ gathered-kept (bridged s near p) ps (bridged-kept s near p x y is)
 
-  gathered-joins : (near : List ℕ) (ps : List Part) (p : Part) → p ∈ ps → length near ≡ 64 → conducts s (p .kind) ≡ true → EndsAt p x y → x < 64 → y < 64 → joined (gathered s near ps) x y ≡ true
+  gathered-joins : (near : List ℕ) (ps : List Part) (p : Part) → p ∈ ps → length near ≡ 64
+      → conducts s (p .kind) ≡ true → EndsAt p x y → x < 64 → y < 64 → joined (gathered s near ps) x y ≡ true
   gathered-joins near [] p among long on ends inside also = absurd among
   gathered-joins near (q ∷ ps) p (inl same) long on ends inside also =
       gathered-step near q ps
-      ∙ gathered-kept (bridged s near q) ps (subst (λ (r : Part). joined (bridged s near r) x y ≡ true) same (bridged-joins s near p x y long on ends inside also))
+      ∙ gathered-kept (bridged s near q) ps (subst (λ (r : Part). joined (bridged s near r) x y ≡ true) same
+      (bridged-joins s near p x y long on ends inside also))
   gathered-joins near (q ∷ ps) p (inr among) long on ends inside also =
       gathered-step near q ps
       ∙ gathered-joins (bridged s near q) ps p among (bridged-length s near q ∙ long) on ends inside also
 
-  gathered-new : {C : Type 0} (near : List ℕ) (ps : List Part) → ((p : Part) → p ∈ ps → conducts s (p .kind) ≡ true → EndsAt p x y → C) → (joined near x y ≡ true → C) → joined (gathered s near ps) x y ≡ true → C
+  gathered-new : {C : Type 0} (near : List ℕ) (ps : List Part)
+      → ((p : Part) → p ∈ ps → conducts s (p .kind) ≡ true → EndsAt p x y → C) → (joined near x y ≡ true → C)
+      → joined (gathered s near ps) x y ≡ true → C
   gathered-new near [] new old is = old (sym (gathered-end near) ∙ is)
   gathered-new near (p ∷ ps) new old is =
       gathered-new (bridged s near p) ps (λ q among. new q (inr among))
@@ -177,7 +196,8 @@ fit-apart c p fit =
 ends-apart : (c : Counts) (p : Part) (x y : ℕ) → partFits c p ≡ true → EndsAt p x y → TwoTerminals c x y
 ends-apart c p x y fit =
     let on = fit-apart c p fit in
-    ends-either p (TwoTerminals c) on (record { inside = on .also; also = on .inside; apart = λ same. on .apart (sym same) }) x y
+    ends-either p (TwoTerminals c) on
+    (record { inside = on .also; also = on .inside; apart = λ same. on .apart (sym same) }) x y
 
 -- ---- the sets of a board
 
@@ -190,7 +210,8 @@ neighbours-length b s =
 
 module _ (b : Board) (s : State) (x y : ℕ) where
   -- x and y are joined by a conducting part: what follows from such a part holds
-  joined-by : {C : Type 0} → ((p : Part) → p ∈ partsOf b → conducts s (p .kind) ≡ true → EndsAt p x y → C) → joined (neighbours b s) x y ≡ true → C
+  joined-by : {C : Type 0} → ((p : Part) → p ∈ partsOf b → conducts s (p .kind) ≡ true → EndsAt p x y → C)
+      → joined (neighbours b s) x y ≡ true → C
   joined-by use-part is =
       gathered-new s x y alone (partsOf b) use-part
       (λ none. absurd (false≢true (sym (none-joined 64 x y) ∙ none)))
@@ -199,33 +220,41 @@ module _ (b : Board) (s : State) (x y : ℕ) where
   pub joined-part : joined (neighbours b s) x y ≡ true → Joined b s x y
   joined-part = joined-by (λ p among on ends. record { part = p; on-board = among; conducting = on; ends = ends })
 
-  part-joins : (p : Part) → boardFine b ≡ true → p ∈ partsOf b → conducts s (p .kind) ≡ true → EndsAt p x y → joined (neighbours b s) x y ≡ true
+  part-joins : (p : Part) → boardFine b ≡ true → p ∈ partsOf b → conducts s (p .kind) ≡ true → EndsAt p x y
+      → joined (neighbours b s) x y ≡ true
   part-joins p fine among on ends =
       let range = fine-range b fine in
-      let both = ends-apart (b .counts) p x y (fit-among (b .counts) (partsOf b) p (fine-parts-fit b fine) among) ends in
+      let both =
+      ends-apart (b .counts) p x y (fit-among (b .counts) (partsOf b) p (fine-parts-fit b fine) among) ends in
       ap (λ (k : List ℕ). joined k x y) (neighbours-gathered b s)
-      ∙ gathered-joins s x y alone (partsOf b) p among alone-length on ends (omega (arith, range .most-terminals, both .inside)) (omega (arith, range .most-terminals, both .also))
+      ∙ gathered-joins s x y alone (partsOf b) p among alone-length on ends
+      (omega (arith, range .most-terminals, both .inside)) (omega (arith, range .most-terminals, both .also))
 
   pub part-joined : boardFine b ≡ true → Joined b s x y → joined (neighbours b s) x y ≡ true
   part-joined fine j = part-joins (j .part) fine (j .on-board) (j .conducting) (j .ends)
 
   joined-ends : boardFine b ≡ true → joined (neighbours b s) x y ≡ true → TwoTerminals (b .counts) x y
   joined-ends fine =
-      joined-by (λ p among on ends. ends-apart (b .counts) p x y (fit-among (b .counts) (partsOf b) p (fine-parts-fit b fine) among) ends)
+      joined-by (λ p among on ends. ends-apart (b .counts) p x y
+      (fit-among (b .counts) (partsOf b) p (fine-parts-fit b fine) among) ends)
 
-  pub joined-inside : boardFine b ≡ true → joined (neighbours b s) x y ≡ true → (x < b .counts .terminals) × (y < b .counts .terminals)
+  pub joined-inside : boardFine b ≡ true → joined (neighbours b s) x y ≡ true → (x < b .counts .terminals)
+      × (y < b .counts .terminals)
   joined-inside fine is = (joined-ends fine is .inside, joined-ends fine is .also)
 
   pub joined-apart : boardFine b ≡ true → joined (neighbours b s) x y ≡ true → ¬ (x ≡ y)
   joined-apart fine is = joined-ends fine is .apart
 
-joined-turned : (b : Board) (s : State) (x y : ℕ) → boardFine b ≡ true → joined (neighbours b s) x y ≡ true → joined (neighbours b s) y x ≡ true
-joined-turned b s x y fine = joined-by b s x y (λ p among on ends. part-joins b s y x p fine among on (ends-turned p x y ends))
+joined-turned : (b : Board) (s : State) (x y : ℕ) → boardFine b ≡ true → joined (neighbours b s) x y ≡ true
+    → joined (neighbours b s) y x ≡ true
+joined-turned b s x y fine =
+    joined-by b s x y (λ p among on ends. part-joins b s y x p fine among on (ends-turned p x y ends))
 
 both-ways : (p q : Bool) → (p ≡ true → q ≡ true) → (q ≡ true → p ≡ true) → p ≡ q
 both-ways true q there back = sym (there refl)
 both-ways false true there back = back refl
 both-ways false false there back = refl
 
-pub joined-symmetric : (b : Board) (s : State) (x y : ℕ) → boardFine b ≡ true → joined (neighbours b s) x y ≡ joined (neighbours b s) y x
+pub joined-symmetric : (b : Board) (s : State) (x y : ℕ) → boardFine b ≡ true → joined (neighbours b s) x y ≡ joined
+    (neighbours b s) y x
 joined-symmetric b s x y fine = both-ways _ _ (joined-turned b s x y fine) (joined-turned b s y x fine)

@@ -1,5 +1,6 @@
 -- The laws of a number's form, over the longest form k: reading undoes writing, and writing undoes reading.
--- The laws of numbers (NumberLaws) are these at the rule book's longest form; the steps of `read_form` and `write_groups` (FormSteps) cite the first section.
+-- The laws of numbers (NumberLaws) are these at the rule book's longest form; the steps of `read_form` and
+-- `write_groups` (FormSteps) cite the first section.
 -- Assumes nothing.
 use mathlib.Core.Path.{_≡_, refl, sym, ap, _∙_}
 use mathlib.Core.Bool.{Bool, true, false}
@@ -85,7 +86,8 @@ rest-small k v h = omega (arith, parts v)
 rest-some : (v : ℕ) → 128 ≤ v → 0 < v / 128
 rest-some v h = omega (arith, parts v, group-small v)
 
-form-written-more : (k v : ℕ) (s : List ℕ) → 128 ≤ v → form k (encode k (v / 128) ++ s) ≡ Got (v / 128) (length (encode k (v / 128)))
+form-written-more : (k v : ℕ) (s : List ℕ) → 128 ≤ v → form k (encode k (v / 128) ++ s) ≡ Got (v / 128)
+    (length (encode k (v / 128)))
     → form (suc k) ((128 + v % 128) ∷ encode k (v / 128) ++ s) ≡ Got v (suc (length (encode k (v / 128))))
 form-written-more k v s m e =
     form-more k (128 + v % 128) (encode k (v / 128) ++ s) (omega arith)
@@ -111,12 +113,14 @@ Bytes-drop s at h i = rw getD-drop (h (at + i))
 
 -- ---- reading undoes writing
 
-pub form-written : (k v : ℕ) (s : List ℕ) → v < 128 ^ suc k → form (suc k) (encode (suc k) v ++ s) ≡ Got v (length (encode (suc k) v))
+pub form-written : (k v : ℕ) (s : List ℕ) → v < 128 ^ suc k → form (suc k) (encode (suc k) v ++ s) ≡ Got v
+    (length (encode (suc k) v))
 form-written zero v s h = rw encode-last (form-last 0 v s (omega arith))
 form-written (suc k) v s h =
     ⊎-elim
     (λ (l : v < 128). rw encode-last (form-last (suc k) v s l))
-    (λ (m : 128 ≤ v). rw encode-more (form-written-more (suc k) v s m (form-written k (v / 128) s (rest-small (suc k) v h))))
+    (λ (m : 128 ≤ v). rw encode-more
+    (form-written-more (suc k) v s m (form-written k (v / 128) s (rest-small (suc k) v h))))
     (last-or-more v)
 
 -- ---- writing undoes reading
@@ -132,7 +136,13 @@ read-last k b s v n l e =
     let f : Got b 1 ≡ Got v n = sym (form-last k b s l) ∙ e in
     let ev : v ≡ b = cc in
     let en : n ≡ 1 = cc in
-    rw (ev, en) (record { bytes = rw encode-last; next = rw encode-last; small = omega (arith, one-le-pow k 128 (omega arith)) })
+    rw (ev, en)
+    (record {
+      bytes = rw encode-last;
+      next = rw encode-last;
+      small =
+          omega (arith, one-le-pow k 128 (omega arith));
+    })
 
 read-more : (k b : ℕ) (s : List ℕ) (v n : ℕ) → b < 256 → 128 ≤ b → (r : Below (b - 128) (form k s) v n)
     → FormRead k s (r .above) (r .bytes) → FormRead (suc k) (b ∷ s) v n
@@ -140,7 +150,9 @@ read-more k b s v n w m r f =
     let ed : v / 128 ≡ r .above = omega (arith, parts v, group-small v, r .value) in
     let eg : 128 + v % 128 ≡ b = omega (arith, parts v, group-small v, r .value) in
     record {
-      bytes = rw (encode-more k v (omega (arith, r .value, r .some)), eg, ed, r .next) (ap (λ (l : List ℕ). b ∷ l) (f .bytes));
+      bytes =
+          rw (encode-more k v (omega (arith, r .value, r .some)), eg, ed, r .next)
+          (ap (λ (l : List ℕ). b ∷ l) (f .bytes));
       next = rw (encode-more k v (omega (arith, r .value, r .some)), ed) (r .next ∙ ap suc (f .next));
       small = omega (arith, parts v, group-small v, f .small);
     }
@@ -210,7 +222,8 @@ form-no-further (suc k) (b ∷ s) (c ∷ t) v n p e =
     let q : take (suc (r .bytes)) (b ∷ s) ≡ take (suc (r .bytes)) (c ∷ t) = rw (r .next) at p in
     rw (← took-first b c (r .bytes) s t q)
     (form-more k b t m
-    ∙ ap (below (b - 128)) (form-no-further k s t (r .above) (r .bytes) (took-rest b c (r .bytes) s t q) (r .rest) ∙ sym (r .rest))
+    ∙ ap (below (b - 128)) (form-no-further k s t (r .above) (r .bytes) (took-rest b c (r .bytes) s t q) (r .rest)
+    ∙ sym (r .rest))
     ∙ sym (form-more k b s m)
     ∙ e))
     (last-or-more b)
@@ -259,5 +272,6 @@ encode-bytes zero v = λ i. omega arith
 encode-bytes (suc k) v =
     ⊎-elim
     (λ (l : v < 128). rw (encode-last k v l) (bytes-more v [] (omega arith) (λ i. omega arith)))
-    (λ (m : 128 ≤ v). rw (encode-more k v m) (bytes-more (128 + v % 128) (encode k (v / 128)) (omega (arith, group-small v)) (encode-bytes k (v / 128))))
+    (λ (m : 128 ≤ v). rw (encode-more k v m)
+    (bytes-more (128 + v % 128) (encode k (v / 128)) (omega (arith, group-small v)) (encode-bytes k (v / 128))))
     (last-or-more v)

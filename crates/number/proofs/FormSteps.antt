@@ -1,4 +1,5 @@
--- The steps of reading and writing a form at a place, as the code takes them: the proofs of `read_form` and `write_groups` are one law of these for each way out.
+-- The steps of reading and writing a form at a place, as the code takes them: the proofs of `read_form` and
+-- `write_groups` are one law of these for each way out.
 -- Assumes nothing.
 use mathlib.Core.Path.{_≡_, refl, sym, ap, _∙_}
 use mathlib.Core.List.{List}
@@ -16,7 +17,8 @@ use Rattle.number.specs.declared.Form.{Form}
 use Rattle.number.specs.declared.Form.the-variants.{Got, Ends, Bad}
 use Rattle.number.proofs.Form.{the-type}
 use Rattle.number.specs.Numbers.{below, form, encode}
-use Rattle.number.proofs.FormLaws.{FormWithin, Bytes-slice, Bytes-drop, rest-small, below-got, form-last, form-more, form-read, form-within, encode-some, encode-last, encode-more}
+use Rattle.number.proofs.FormLaws.{FormWithin, Bytes-slice, Bytes-drop, rest-small, below-got, form-last}
+use Rattle.number.proofs.FormLaws.{form-more, form-read, form-within, encode-some, encode-last, encode-more}
 
 -- ---- reading
 
@@ -30,7 +32,8 @@ unfolding form
 form-ends zero at s some h = absurd (some refl)
 form-ends (suc k) at s some h = rw (drop-of-length-le s h)
 
-pub form-one : (left at : ℕ) (s : List ℕ) (b : ℕ) → (left ≡ 0 → ⊥) → at < length s → b ≡ getD s at 0 → b < 128 → Got b 1 ≡ form left (drop at s)
+pub form-one : (left at : ℕ) (s : List ℕ) (b : ℕ) → (left ≡ 0 → ⊥) → at < length s → b ≡ getD s at 0 → b < 128
+    → Got b 1 ≡ form left (drop at s)
 form-one zero at s b some h e l = absurd (some refl)
 form-one (suc k) at s b some h e l = rw (drop-cons s at 0 h, ← e) (sym (form-last k b (drop (suc at) s) l))
 
@@ -63,7 +66,9 @@ pub form-grown : (left at : ℕ) (s : List ℕ) (b : ℕ) → (left ≡ 0 → �
     → (f : Form) → f ≡ form (left - 1) (drop (at + 1) s) → (v n : ℕ) → f ≡ Got v n → (v ≡ 0 → ⊥)
     → Got (b - 128 + 128 * v) (n + 1) ≡ form left (drop at s)
 form-grown left at s b some h e m f r v n is more =
-    rw add-one (sym (form-further left at s b some h e m f r ∙ ap (below (b - 128)) is ∙ below-got (b - 128) v n (omega arith)))
+    rw add-one
+    (sym (form-further left at s b some h e m f r ∙ ap (below (b - 128)) is
+    ∙ below-got (b - 128) v n (omega arith)))
 
 -- what bounds a form of at most `most` bytes that was read at a place
 pub record FormBounds (most at : ℕ) (s : List ℕ) (v n : ℕ) : Type 0 where
@@ -76,7 +81,9 @@ pub form-bounds : (most left at : ℕ) (s : List ℕ) → ((i : ℕ) → Fits w8
 form-bounds most left at s h l f r v n is =
     let w : FormWithin left (drop at s) n = form-within left (drop at s) v n (sym r ∙ is) in
     record {
-      small = lt-of-lt-of-le (form-read left (drop at s) v n (Bytes-drop s at (Bytes-slice s h)) (sym r ∙ is) .small) (pow-le-pow-right (omega arith) l);
+      small =
+          lt-of-lt-of-le (form-read left (drop at s) v n (Bytes-drop s at (Bytes-slice s h)) (sym r ∙ is) .small)
+          (pow-le-pow-right (omega arith) l);
       few = omega arith;
       within = omega (arith, w, length-drop at s);
     }

@@ -1,5 +1,7 @@
--- The laws of the file's numbers: what is written is read back, what is read is what would be written, and reading looks no further than the number.
--- Every crate that reads or writes numbers cites these, and nothing of the definitions' text. They are the laws of FormLaws at the rule book's longest form.
+-- The laws of the file's numbers: what is written is read back, what is read is what would be written, and reading
+-- looks no further than the number.
+-- Every crate that reads or writes numbers cites these, and nothing of the definitions' text. They are the laws of
+-- FormLaws at the rule book's longest form.
 -- Assumes nothing.
 use mathlib.Core.Path.{_≡_, refl, sym, ap, _∙_}
 use mathlib.Core.Logic.{_⊎_, inl, inr}
@@ -19,10 +21,12 @@ use Rattle.number.specs.declared.Form.{Form}
 use Rattle.number.specs.declared.Form.the-variants.{Got, Ends, Bad}
 use Rattle.number.specs.Outcomes.{Outcome, given, refused, Found, found}
 use Rattle.number.specs.Refusals.{inputEnds, badForm, bufferTooShort}
-use Rattle.number.specs.Numbers.{Bytes, form, placed, numberAt, encode, numberBytes, numberWriting, toldNumber, toldNumberWritten, longest, largest}
+use Rattle.number.specs.Numbers.{Bytes, form, placed, numberAt, encode, numberBytes, numberWriting, toldNumber}
+use Rattle.number.specs.Numbers.{toldNumberWritten, longest, largest}
 use Rattle.number.proofs.OutcomeLaws.{given-injective, refusal-equal}
 use Rattle.number.proofs.Buffers.{take-drop}
-use Rattle.number.proofs.FormLaws.{FormRead, Bytes-drop, form-written, form-read, form-within, form-no-further, encode-last, encode-some, encode-few, encode-short, encode-long, encode-bytes}
+use Rattle.number.proofs.FormLaws.{FormRead, Bytes-drop, form-written, form-read, form-within, form-no-further}
+use Rattle.number.proofs.FormLaws.{encode-last, encode-some, encode-few, encode-short, encode-long, encode-bytes}
 
 -- ---- outcomes
 
@@ -48,7 +52,8 @@ placed-found : (len at : ℕ) (f : Form) (v n : ℕ) → placed len at f ≡ fou
 unfolding placed
 placed-found len at (Got w m) v n e = placed-got (leb w largest) at w m v n refl e
   where
-    placed-got : (t : Bool) (at w m v n : ℕ) → leb w largest ≡ t → cond t (found w (at + m)) (refused badForm at) ≡ found v n → PlacedForm at (Got w m) v n
+    placed-got : (t : Bool) (at w m v n : ℕ) → leb w largest ≡ t
+        → cond t (found w (at + m)) (refused badForm at) ≡ found v n → PlacedForm at (Got w m) v n
     placed-got true at w m v n h e = record {
       bytes = m;
       is = ap (λ (x : ℕ). Got x m) (found-value w v (at + m) n e);
@@ -64,17 +69,20 @@ unfolding placed
 placed-as len at v m h = rw (le-leb v largest h)
 
 -- a number is refused by 1 at the input's end or by 2 at its place, and by nothing else
-placed-refused : (len at : ℕ) (f : Form) (n p : ℕ) → placed len at f ≡ refused n p → ((n ≡ inputEnds) × (p ≡ len)) ⊎ ((n ≡ badForm) × (p ≡ at))
+placed-refused : (len at : ℕ) (f : Form) (n p : ℕ) → placed len at f ≡ refused n p → ((n ≡ inputEnds) × (p ≡ len))
+    ⊎ ((n ≡ badForm) × (p ≡ at))
 unfolding placed
 placed-refused len at (Got v m) n p e = by (leb v largest) e
   where
-    by : (t : Bool) → cond t (found v (at + m)) (refused badForm at) ≡ refused n p → ((n ≡ inputEnds) × (p ≡ len)) ⊎ ((n ≡ badForm) × (p ≡ at))
+    by : (t : Bool) → cond t (found v (at + m)) (refused badForm at) ≡ refused n p → ((n ≡ inputEnds) × (p ≡ len))
+        ⊎ ((n ≡ badForm) × (p ≡ at))
     by true e = absurd (never-refused n p v (at + m) (sym e))
     by false e = inr (cc, cc)
 placed-refused len at Ends n p e = inl (cc, cc)
 placed-refused len at Bad n p e = inr (cc, cc)
 
-pub number-refusal : (s : List ℕ) (at n p : ℕ) → numberAt s at ≡ refused n p → ((n ≡ inputEnds) × (p ≡ length s)) ⊎ ((n ≡ badForm) × (p ≡ at))
+pub number-refusal : (s : List ℕ) (at n p : ℕ) → numberAt s at ≡ refused n p → ((n ≡ inputEnds) × (p ≡ length s))
+    ⊎ ((n ≡ badForm) × (p ≡ at))
 unfolding numberAt
 number-refusal s at = placed-refused (length s) at (form longest (drop at s))
 
@@ -102,9 +110,12 @@ pub written-read : (s : List ℕ) (at v n : ℕ) → Bytes s → numberAt s at �
 unfolding numberBytes
 written-read s at v n h e =
     let p : PlacedForm at (form longest (drop at s)) v n = number-placed s at v n e in
-    let r : FormRead longest (drop at s) v (p .bytes) = form-read longest (drop at s) v (p .bytes) (Bytes-drop s at h) (p .is) in
+    let r : FormRead longest (drop at s) v (p .bytes) =
+    form-read longest (drop at s) v (p .bytes) (Bytes-drop s at h) (p .is) in
     record {
-      bytes = r .bytes ∙ ap (λ (l : List ℕ). encode longest v ++ l) (drop-drop (p .bytes) at s ∙ ap (λ (i : ℕ). drop i s) (sym (p .next)));
+      bytes =
+          r .bytes ∙ ap (λ (l : List ℕ). encode longest v ++ l)
+          (drop-drop (p .bytes) at s ∙ ap (λ (i : ℕ). drop i s) (sym (p .next)));
       next = p .next ∙ ap (λ (m : ℕ). at + m) (r .next);
       small = p .small;
     }
@@ -117,7 +128,8 @@ number-next-within s at v n e =
     let p : PlacedForm at (form longest (drop at s)) v n = number-placed s at v n e in
     omega (arith, form-within longest (drop at s) v (p .bytes) (p .is), length-drop at s)
 
-pub number-looks-no-further : (s t : List ℕ) (at v n : ℕ) → take n s ≡ take n t → numberAt s at ≡ found v n → numberAt t at ≡ found v n
+pub number-looks-no-further : (s t : List ℕ) (at v n : ℕ) → take n s ≡ take n t → numberAt s at ≡ found v n
+    → numberAt t at ≡ found v n
 unfolding numberAt
 number-looks-no-further s t at v n q e =
     let p : PlacedForm at (form longest (drop at s)) v n = number-placed s at v n e in
@@ -159,15 +171,18 @@ number-length-three v h = omega (arith, encode-long 2 3 v (omega arith) h, encod
 
 -- ---- reading a number from its form, as `read_number` does
 
-pub number-got : (s : List ℕ) (at : ℕ) (f : Form) (v m : ℕ) → f ≡ form longest (drop at s) → f ≡ Got v m → v < 128 ^ longest → found v (at + m) ≡ numberAt s at
+pub number-got : (s : List ℕ) (at : ℕ) (f : Form) (v m : ℕ) → f ≡ form longest (drop at s) → f ≡ Got v m
+    → v < 128 ^ longest → found v (at + m) ≡ numberAt s at
 unfolding numberAt
 number-got s at f v m r is h = sym (ap (placed (length s) at) (sym r ∙ is) ∙ placed-as (length s) at v m (omega arith))
 
-pub number-ends : (s : List ℕ) (at : ℕ) (f : Form) → f ≡ form longest (drop at s) → f ≡ Ends → refused inputEnds (length s) ≡ numberAt s at
+pub number-ends : (s : List ℕ) (at : ℕ) (f : Form) → f ≡ form longest (drop at s) → f ≡ Ends
+    → refused inputEnds (length s) ≡ numberAt s at
 unfolding numberAt placed
 number-ends s at f r is = sym (ap (placed (length s) at) (sym r ∙ is))
 
-pub number-bad : (s : List ℕ) (at : ℕ) (f : Form) → f ≡ form longest (drop at s) → f ≡ Bad → refused badForm at ≡ numberAt s at
+pub number-bad : (s : List ℕ) (at : ℕ) (f : Form) → f ≡ form longest (drop at s) → f ≡ Bad
+    → refused badForm at ≡ numberAt s at
 unfolding numberAt placed
 number-bad s at f r is = sym (ap (placed (length s) at) (sym r ∙ is))
 
@@ -185,19 +200,23 @@ number-lacks-room v out at h r =
     rw (le-leb v largest h, lt-leb (at + length (numberBytes v)) (length out) r)
 
 pub number-written : (v : ℕ) (out : List ℕ) (at : ℕ) → v ≤ largest → at + length (numberBytes v) ≤ length out
-    → _≡_ {A = Outcome ℕ × List ℕ} (numberWriting v out at) (given (at + length (numberBytes v)), sets out at (numberBytes v))
+    → _≡_ {A = Outcome ℕ × List ℕ} (numberWriting v out at)
+    (given (at + length (numberBytes v)), sets out at (numberBytes v))
 unfolding numberWriting
 number-written v out at h r =
     rw (le-leb v largest h, le-leb (at + length (numberBytes v)) (length out) r)
 
 -- writing a number's groups, as `write_number` does
-pub number-groups : (v : ℕ) (out : List ℕ) (at bytes : ℕ) → v ≤ largest → at ≤ length out → bytes ≤ length out - at → bytes ≡ length (numberBytes v)
+pub number-groups : (v : ℕ) (out : List ℕ) (at bytes : ℕ) → v ≤ largest → at ≤ length out → bytes ≤ length out - at
+    → bytes ≡ length (numberBytes v)
     → (0 < longest) × (v < 128 ^ longest) × (at + length (encode longest v) ≤ length out)
 unfolding numberBytes
 number-groups v out at bytes h a r e = omega arith
 
-pub number-stored : (v : ℕ) (out out′ : List ℕ) (at bytes : ℕ) → v ≤ largest → at ≤ length out → bytes ≤ length out - at → bytes ≡ length (numberBytes v)
-    → out′ ≡ sets out at (encode longest v) → _≡_ {A = Outcome ℕ × List ℕ} (given (at + bytes), out′) (numberWriting v out at)
+pub number-stored : (v : ℕ) (out out′ : List ℕ) (at bytes : ℕ) → v ≤ largest → at ≤ length out
+    → bytes ≤ length out - at → bytes ≡ length (numberBytes v)
+    → out′ ≡ sets out at (encode longest v) → _≡_ {A = Outcome ℕ × List ℕ} (given (at + bytes), out′)
+    (numberWriting v out at)
 unfolding numberBytes
 number-stored v out out′ at bytes h a r e w = rw (e, w) (sym (number-written v out at h (omega arith)))
 
@@ -213,4 +232,5 @@ pub told-number-written-injective : (x y : NumberWritten) → toldNumberWritten 
 told-number-written-injective (Next n) (Next m) e = cc
 told-number-written-injective (Next n) (NumberWritten.Refused q) e = cc
 told-number-written-injective (NumberWritten.Refused r) (Next m) e = cc
-told-number-written-injective (NumberWritten.Refused r) (NumberWritten.Refused q) e = ap NumberWritten.Refused (refusal-equal r q (cc) (cc))
+told-number-written-injective (NumberWritten.Refused r) (NumberWritten.Refused q) e =
+    ap NumberWritten.Refused (refusal-equal r q (cc) (cc))

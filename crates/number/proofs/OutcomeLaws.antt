@@ -1,4 +1,5 @@
--- Laws of outcomes one after the other: where a row of them gives something, each of them did. They take a `do` block of the definitions apart. Also, when two refusals are one.
+-- Laws of outcomes one after the other: where a row of them gives something, each of them did. They take a `do` block
+-- of the definitions apart. Also, when two refusals are one.
 use Prim.Native.Nat.{ℕ}
 use native.Mathlib.Omega.{arith}
 use mathlib.Core.Path.{_≡_, refl}
@@ -25,11 +26,13 @@ pub handed : {A B : Type 0} (o : Outcome A) (f : A → Outcome B) (b : B) → (o
 handed (given a) f b h = record { value = a; first = refl; then = h }
 handed (refused k p) f b h = absurd (refused-never k p b h)
 
-pub passed : {B : Type 0} (t : Bool) (n p : ℕ) (o : Outcome B) (b : B) → (unless t n p >> o) ≡ given b → (t ≡ true) × (o ≡ given b)
+pub passed : {B : Type 0} (t : Bool) (n p : ℕ) (o : Outcome B) (b : B) → (unless t n p >> o) ≡ given b → (t ≡ true)
+    × (o ≡ given b)
 passed true n p o b h = (refl, h)
 passed false n p o b h = absurd (refused-never n p b h)
 
-pub both-given : {B : Type 0} (o : Outcome (Unit {0})) (q : Outcome B) (b : B) → (o >> q) ≡ given b → (o ≡ given tt) × (q ≡ given b)
+pub both-given : {B : Type 0} (o : Outcome (Unit {0})) (q : Outcome B) (b : B) → (o >> q) ≡ given b → (o ≡ given tt)
+    × (q ≡ given b)
 both-given (given u) q b h = (refl, h)
 both-given (refused n p) q b h = absurd (refused-never n p b h)
 

@@ -1,6 +1,9 @@
--- The file's numbers. Rule book, "The board file": "A number is in groups of seven bits, lowest group first, one byte a group; the top bit is set on every byte but the last. At most three bytes (2,097,151). Only the shortest form is allowed: the last byte is 0 only if it is the only byte."
+-- The file's numbers. Rule book, "The board file": "A number is in groups of seven bits, lowest group first, one byte a
+-- group; the top bit is set on every byte but the last. At most three bytes (2,097,151). Only the shortest form is
+-- allowed: the last byte is 0 only if it is the only byte."
 --     longest, largest     the longest form, in bytes, and the largest value
---     form k s             the number of at most k bytes that the bytes s begin with: got its value and length; ends, if s ends inside or before it; bad, if it is longer or not shortest
+--     form k s             the number of at most k bytes that the bytes s begin with: got its value and length; ends,
+--                          if s ends inside or before it; bad, if it is longer or not shortest
 --     Bytes s              every element of s is a byte
 --     numberAt s at        the number at place `at` of the input s, by its value and the next place, or refusal 1 or 2
 --     encode k v           the shortest form of v, in at most k bytes
@@ -60,7 +63,8 @@ encode (suc k) v = cond (ltb v 128) (v ∷ []) ((128 + v % 128) ∷ encode k (v 
 unfoldable pub numberBytes : ℕ → List ℕ
 numberBytes v = encode longest v
 
--- refused by 2 where v is too large for a number, then by 16 where its bytes have no room there; else they stand at the place and the rest stays
+-- refused by 2 where v is too large for a number, then by 16 where its bytes have no room there; else they stand at the
+-- place and the rest stays
 unfoldable pub numberWriting : ℕ → List ℕ → ℕ → Outcome ℕ × List ℕ
 numberWriting v out at =
     cond (leb v largest)

@@ -1,4 +1,5 @@
--- Laws of the calls that push and release a button: what a refused call gives back, that an answer is known by what it tells, and one law for each way out of `pressable`, `settle`, `push` and `release`. Assumes nothing.
+-- Laws of the calls that push and release a button: what a refused call gives back, that an answer is known by what it
+-- tells, and one law for each way out of `pressable`, `settle`, `push` and `release`. Assumes nothing.
 use Prim.Native.Nat.{ℕ, _≤_, _<_}
 use mathlib.Core.Path.{_≡_, refl, sym, ap}
 use mathlib.Core.Bool.{Bool, true, false, not}
@@ -24,15 +25,19 @@ unless-place true k m p e = cc
 unless-place false k m p e = cc
 
 -- of two rows of tests the second is asked only where the first holds
-row-place : (o q : Outcome (Unit {0})) (m p : ℕ) → (o ≡ refused m p → p ≡ 0) → (q ≡ refused m p → p ≡ 0) → (o >> q) ≡ refused m p → p ≡ 0
+row-place : (o q : Outcome (Unit {0})) (m p : ℕ) → (o ≡ refused m p → p ≡ 0) → (q ≡ refused m p → p ≡ 0)
+    → (o >> q) ≡ refused m p → p ≡ 0
 row-place (given u) q m p first rest e = rest e
 row-place (refused k j) q m p first rest e = first e
 
 usable-place : (b : Board) (s : State) (m p : ℕ) → usable b s ≡ refused m p → p ≡ 0
 unfolding usable
-usable-place b s m p = row-place (unless (boardFine b) brokenBoard 0) _ m p (unless-place (boardFine b) brokenBoard m p) (unless-place (stateFine (b .counts) s) stateBeyondBoard m p)
+usable-place b s m p =
+    row-place (unless (boardFine b) brokenBoard 0) _ m p (unless-place (boardFine b) brokenBoard m p)
+    (unless-place (stateFine (b .counts) s) stateBeyondBoard m p)
 
-pressable-place : (b : Board) (s : State) (n : ℕ) (already : Bool) (m p : ℕ) → pressable b s n already ≡ refused m p → p ≡ 0
+pressable-place : (b : Board) (s : State) (n : ℕ) (already : Bool) (m p : ℕ) → pressable b s n already ≡ refused m p
+    → p ≡ 0
 unfolding pressable
 pressable-place b s n already m p =
     row-place (usable b s) _ m p
@@ -41,7 +46,8 @@ pressable-place b s n already m p =
     (unless-place (ltb n (b .counts .buttons)) noSuchName m p)
     (unless-place (not already) alreadySo m p))
 
-left-refused : (s : State) (f : Unit {0} → State) (u : State) (o : Outcome (Unit {0})) (m p : ℕ) → (o ≡ refused m p → p ≡ 0) → left s f o ≡ (u, refused m p) → (u ≡ s) × (p ≡ 0)
+left-refused : (s : State) (f : Unit {0} → State) (u : State) (o : Outcome (Unit {0})) (m p : ℕ)
+    → (o ≡ refused m p → p ≡ 0) → left s f o ≡ (u, refused m p) → (u ≡ s) × (p ≡ 0)
 unfolding left
 left-refused s f u (given a) m p place e =
     let never : given a ≡ refused m p = λ i. e i .1 in (cc, cc)
@@ -75,11 +81,13 @@ module _ (b : Board) (s : State) (n : ℕ) (already : Bool) where
   unfolding pressable
   press-unusable k p unusable = rw unusable refl
 
-  pub press-no-such-name : usable b s ≡ given tt → b .counts .buttons ≤ n → refused noSuchName 0 ≡ pressable b s n already
+  pub press-no-such-name : usable b s ≡ given tt → b .counts .buttons ≤ n
+      → refused noSuchName 0 ≡ pressable b s n already
   unfolding pressable
   press-no-such-name fine beyond = simp (fine, le-ltb n (b .counts .buttons) beyond)
 
-  pub press-already-so : usable b s ≡ given tt → n < b .counts .buttons → already ≡ true → refused alreadySo 0 ≡ pressable b s n already
+  pub press-already-so : usable b s ≡ given tt → n < b .counts .buttons → already ≡ true
+      → refused alreadySo 0 ≡ pressable b s n already
   unfolding pressable
   press-already-so fine below so = simp (fine, lt-ltb n (b .counts .buttons) below, so)
 
@@ -93,10 +101,13 @@ module _ (s t : State) (a : Press) where
   unfolding left
   settle-done done = rw done
 
-  pub settle-refused : (r : Refusal) → a ≡ Refused r → toldPressed (record { state = s; answer = a }) ≡ left s (λ u. t) (toldPress a)
+  pub settle-refused : (r : Refusal) → a ≡ Refused r → toldPressed (record { state = s; answer = a }) ≡ left s
+      (λ u. t) (toldPress a)
   unfolding left
   settle-refused r is = rw is
 
--- an outcome o that was asked for with the test p and the state u that was made, where the definition has the test q and the state t
-pub left-asked : (b : Board) (s t u : State) (n : ℕ) (o : Outcome (Unit {0})) (p q : Bool) → u ≡ t → o ≡ pressable b s n p → p ≡ q → left s (λ v. u) o ≡ left s (λ v. t) (pressable b s n q)
+-- an outcome o that was asked for with the test p and the state u that was made, where the definition has the test q
+-- and the state t
+pub left-asked : (b : Board) (s t u : State) (n : ℕ) (o : Outcome (Unit {0})) (p q : Bool) → u ≡ t
+    → o ≡ pressable b s n p → p ≡ q → left s (λ v. u) o ≡ left s (λ v. t) (pressable b s n q)
 left-asked b s t u n o p q made told same = rw (made, told, same)

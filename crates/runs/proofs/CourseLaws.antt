@@ -1,4 +1,6 @@
--- The course that the loops of `course::follow` take: what the run's loop holds after some moves, what the scan holds at a relay, and one law for each way on and each way out. The stepper is any: nothing here knows what is below a step.
+-- The course that the loops of `course::follow` take: what the run's loop holds after some moves, what the scan holds
+-- at a relay, and one law for each way on and each way out. The stepper is any: nothing here knows what is below a
+-- step.
 use Prim.Native.Nat.{ℕ, suc, _+_, _-_, _<_, _≤_}
 use native.Mathlib.Omega.{arith}
 use mathlib.Core.Path.{_≡_, refl, sym, ap, _∙_}
@@ -9,7 +11,8 @@ use lib.Seq.{sets, sets-eq}
 use Rattle.number.specs.Outcomes.{given}
 use Rattle.state.specs.declared.State.{State}
 use Rattle.moves.specs.Steps as step
-use Rattle.runs.specs.Looks.{Stepper, Ending, idle, spent, undecided, conflict, Look, makes, decides, byteOf, lookFrom}
+use Rattle.runs.specs.Looks.{Stepper, Ending, idle, spent, undecided, conflict, Look, makes, decides, byteOf}
+use Rattle.runs.specs.Looks.{lookFrom}
 use Rattle.runs.specs.Runs.{noRelay, Run, ends, logged, runOf}
 use Rattle.runs.specs.Running.{Ran, ran}
 use Rattle.runs.proofs.LookLaws.{look-quiet, look-decides}
@@ -17,7 +20,15 @@ use Rattle.runs.proofs.RunLaws.{run-quiet, run-halts, run-spent, run-mo
 
 -- what is told of a run that logged its first m moves and goes on as x
 abbrev onward : List ℕ → ℕ → Run → Ran
-onward log m x = record { word = given (x .word); moves = m + length (x .bytes); state = x .state; relay = x .relay; log = sets log m (x .bytes) }
+onward log m x =
+    record {
+      word = given (x .word);
+      moves = m + length (x .bytes);
+      state = x .state;
+      relay = x .relay;
+      log =
+          sets log m (x .bytes);
+    }
 
 -- what is told of a run that ends after m moves with the word w
 abbrev pub stopped : Ending → ℕ → State → ℕ → List ℕ → Ran
@@ -34,7 +45,8 @@ pub record Course (f : Stepper) (k : ℕ) (all : Ran) (room : ℕ) (log : List �
   pub goes : all ≡ onward log m (runOf f k (room - m) s)
 
 -- at relay r of the scan: nothing has changed since it began, and the look from 0 is the look from r
-pub record ScanSoFar (f : Stepper) (k : ℕ) (log₀ : List ℕ) (m₀ : ℕ) (s₀ : State) (log : List ℕ) (m : ℕ) (s : State) (r : ℕ) : Type 0 where
+pub record ScanSoFar (f : Stepper) (k : ℕ) (log₀ : List ℕ) (m₀ : ℕ) (s₀ : State) (log : List ℕ) (m : ℕ) (s : State)
+    (r : ℕ) : Type 0 where
   pub same-log : log₀ ≡ log
   pub same-moves : m₀ ≡ m
   pub same-state : s₀ ≡ s
@@ -47,13 +59,16 @@ ran-onward x log room =
     let after = ap (λ (n : ℕ). x .bytes ++ drop n log) none ∙ sym (sets-eq (x .bytes) log 0 (omega arith)) in
     λ i. record { word = given (x .word); moves = none i; state = x .state; relay = x .relay; log = after i }
 
-pub course-starts : (f : Stepper) (k : ℕ) (log : List ℕ) (s : State) → Course f k (ran (runOf f k (length log) s) log) (length log) log 0 s
+pub course-starts : (f : Stepper) (k : ℕ) (log : List ℕ) (s : State)
+    → Course f k (ran (runOf f k (length log) s) log) (length log) log 0 s
 course-starts f k log s =
     let whole : length log ≡ length log - 0 = omega arith in
     record {
       long = refl;
       within = omega arith;
-      goes = ran-onward (runOf f k (length log) s) log (run-room f k (length log) s) ∙ ap (λ (n : ℕ). onward log 0 (runOf f k n s)) whole;
+      goes =
+          ran-onward (runOf f k (length log) s) log (run-room f k (length log) s)
+          ∙ ap (λ (n : ℕ). onward log 0 (runOf f k n s)) whole;
     }
 
 pub scan-starts : (f : Stepper) (k : ℕ) (log : List ℕ) (m : ℕ) (s : State) → ScanSoFar f k log m s log m s 0
@@ -65,19 +80,34 @@ onward-logged : (log : List ℕ) (m c : ℕ) (x : Run) → onward log m (logged 
 onward-logged log m c x =
     let sum : m + suc (length (x .bytes)) ≡ m + 1 + length (x .bytes) = omega arith in
     let next : suc m ≡ m + 1 = omega arith in
-    λ i. record { word = given (x .word); moves = sum i; state = x .state; relay = x .relay; log = sets (set log m c) (next i) (x .bytes) }
+    λ i. record {
+      word = given (x .word);
+      moves = sum i;
+      state = x .state;
+      relay = x .relay;
+      log =
+          sets (set log m c) (next i) (x .bytes);
+    }
 
 decides-moves : (mv : step.Move) (r : ℕ) (next : Look) → Moving mv → decides mv r next ≡ makes mv r
 decides-moves mv r next (inl e) = rw e refl
 decides-moves mv r next (inr e) = rw e refl
 
-module _ (f : Stepper) (k : ℕ) (log₀ : List ℕ) (m₀ : ℕ) (s₀ : State) (log : List ℕ) (m : ℕ) (s : State) (r : ℕ) (scan : ScanSoFar f k log₀ m₀ s₀ log m s r) where
+module _ (f : Stepper) (k : ℕ) (log₀ : List ℕ) (m₀ : ℕ) (s₀ : State) (log : List ℕ) (m : ℕ) (s : State) (r : ℕ)
+    (scan : ScanSoFar f k log₀ m₀ s₀ log m s r) where
   -- the relay that is looked at decides
   decided : (mv : step.Move) → r < k → mv ≡ f s r → lookFrom f s k 0 ≡ decides mv r (lookFrom f s (k - (r + 1)) (r + 1))
   decided mv below is = scan .look ∙ look-decides f s k r mv below is
 
   pub scan-rests : r < k → step.rests ≡ f s r → ScanSoFar f k log₀ m₀ s₀ log m s (r + 1)
-  scan-rests below is = record { same-log = scan .same-log; same-moves = scan .same-moves; same-state = scan .same-state; look = decided step.rests below is }
+  scan-rests below is =
+      record {
+        same-log = scan .same-log;
+        same-moves = scan .same-moves;
+        same-state = scan .same-state;
+        look =
+            decided step.rests below is;
+      }
 
   module _ (all : Ran) (room : ℕ) (course : Course f k all room log₀ m₀ s₀) where
     here : Course f k all room log m s
@@ -92,10 +122,12 @@ module _ (f : Stepper) (k : ℕ) (log₀ : List ℕ) (m₀ : ℕ) (s₀ : State)
     course-idle past = ends-here idle noRelay (run-quiet f k s (room - m) (scan .look ∙ look-quiet f s k r past))
 
     pub course-undecided : r < k → step.undecided ≡ f s r → stopped undecided m s r log ≡ all
-    course-undecided below is = ends-here undecided r (run-halts f k s (room - m) undecided r (decided step.undecided below is))
+    course-undecided below is =
+        ends-here undecided r (run-halts f k s (room - m) undecided r (decided step.undecided below is))
 
     pub course-conflict : r < k → step.conflict ≡ f s r → stopped conflict m s r log ≡ all
-    course-conflict below is = ends-here conflict r (run-halts f k s (room - m) conflict r (decided step.conflict below is))
+    course-conflict below is =
+        ends-here conflict r (run-halts f k s (room - m) conflict r (decided step.conflict below is))
 
     moves-here : (mv : step.Move) → r < k → mv ≡ f s r → Moving mv → lookFrom f s k 0 ≡ makes mv r
     moves-here mv below is move = decided mv below is ∙ decides-moves mv r _ move
@@ -106,7 +138,8 @@ module _ (f : Stepper) (k : ℕ) (log₀ : List ℕ) (m₀ : ℕ) (s₀ : State)
         ends-here spent r (rw none (run-spent f k s mv r (moves-here mv below is move)))
 
     -- the move is made and logged
-    pub course-moves : (mv : step.Move) (c : ℕ) (t : State) → r < k → mv ≡ f s r → Moving mv → m < room → c ≡ byteOf r mv → t ≡ step.made s r mv → Course f k all room (set log m c) (m + 1) t
+    pub course-moves : (mv : step.Move) (c : ℕ) (t : State) → r < k → mv ≡ f s r → Moving mv → m < room
+        → c ≡ byteOf r mv → t ≡ step.made s r mv → Course f k all room (set log m c) (m + 1) t
     course-moves mv c t below is move free byte leaves =
         let more : room - m ≡ suc (room - (m + 1)) = omega arith in
         record {
@@ -114,7 +147,8 @@ module _ (f : Stepper) (k : ℕ) (log₀ : List ℕ) (m₀ : ℕ) (s₀ : State)
           within = omega arith;
           goes =
               here .goes
-              ∙ ap (onward log m) (ap (λ (n : ℕ). runOf f k n s) more ∙ run-moves f k s (room - (m + 1)) mv r (moves-here mv below is move))
+              ∙ ap (onward log m) (ap (λ (n : ℕ). runOf f k n s) more ∙ run-moves f k s (room - (m + 1)) mv r
+              (moves-here mv below is move))
               ∙ onward-logged log m (byteOf r mv) (runOf f k (room - (m + 1)) (step.made s r mv))
               ∙ rw (byte, leaves) refl;
         }

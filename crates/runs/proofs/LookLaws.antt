@@ -13,7 +13,8 @@ module _ (f : Stepper) (s : State) (k r : ℕ) where
       let none : k - r ≡ 0 = omega arith in
       rw none refl
 
-  pub look-decides : (m : step.Move) → r < k → m ≡ f s r → lookFrom f s (k - r) r ≡ decides m r (lookFrom f s (k - (r + 1)) (r + 1))
+  pub look-decides : (m : step.Move) → r < k → m ≡ f s r → lookFrom f s (k - r) r ≡ decides m r
+      (lookFrom f s (k - (r + 1)) (r + 1))
   unfolding lookFrom
   look-decides m below is =
       let more : k - r ≡ suc (k - (r + 1)) = omega arith in

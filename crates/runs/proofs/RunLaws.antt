@@ -25,7 +25,8 @@ module _ (f : Stepper) (k : ℕ) (s : State) where
   unfolding runOf
   run-spent m r e = rw e refl
 
-  pub run-moves : (n : ℕ) (m : Move) (r : ℕ) → lookFrom f s k 0 ≡ makes m r → runOf f k (suc n) s ≡ logged (byteOf r m) (runOf f k n (made s r m))
+  pub run-moves : (n : ℕ) (m : Move) (r : ℕ) → lookFrom f s k 0 ≡ makes m r
+      → runOf f k (suc n) s ≡ logged (byteOf r m) (runOf f k n (made s r m))
   unfolding runOf
   run-moves n m r e = rw e refl
 
@@ -40,7 +41,8 @@ run-room f k zero s = by-look (lookFrom f s k 0) refl
     by-look (makes m r) e = rw (run-spent f k s m r e) (omega arith)
 run-room f k (suc n) s = by-look (lookFrom f s k 0) refl (λ t. run-room f k n t)
   where
-    by-look : (l : Look) → lookFrom f s k 0 ≡ l → ((t : State) → length (runOf f k n t .bytes) ≤ n) → length (runOf f k (suc n) s .bytes) ≤ suc n
+    by-look : (l : Look) → lookFrom f s k 0 ≡ l → ((t : State) → length (runOf f k n t .bytes) ≤ n)
+        → length (runOf f k (suc n) s .bytes) ≤ suc n
     by-look quiet e on = rw (run-quiet f k s (suc n) e) (omega arith)
     by-look (halts w r) e on = rw (run-halts f k s (suc n) w r e) (omega arith)
     by-look (makes m r) e on = rw (run-moves f k s n m r e) (omega (arith, on (made s r m)))

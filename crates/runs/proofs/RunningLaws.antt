@@ -1,4 +1,5 @@
--- Laws of a run as a call, one for each way out of `run`: refused by 15, 14 or 13, in that order, or run; and that an answer is known by what it tells.
+-- Laws of a run as a call, one for each way out of `run`: refused by 15, 14 or 13, in that order, or run; and that an
+-- answer is known by what it tells.
 use Prim.Native.Nat.{ℕ, _≤_, _<_}
 use mathlib.Core.Path.{_≡_, refl, sym, ap}
 use mathlib.Core.Bool.{true}
@@ -43,8 +44,10 @@ module _ (b : Board) (s : State) (log : List ℕ) where
 
 -- ---- a refused run tells the same over every log
 
-pub unrun-log : (r : Ran) (n p : ℕ) (s : State) (log : List ℕ) → toldRan r [] ≡ unrun n p s [] → toldRan r log ≡ unrun n p s log
-unrun-log r n p s log e = λ i. record { word = e i .word; moves = e i .moves; state = e i .state; relay = e i .relay; log = log }
+pub unrun-log : (r : Ran) (n p : ℕ) (s : State) (log : List ℕ) → toldRan r [] ≡ unrun n p s []
+    → toldRan r log ≡ unrun n p s log
+unrun-log r n p s log e =
+    λ i. record { word = e i .word; moves = e i .moves; state = e i .state; relay = e i .relay; log = log }
 
 -- ---- the answer's cases are told apart
 
@@ -78,6 +81,12 @@ told-ending-injective (Refused r) (Refused q) e = ap Refused (refusal-equal r q 
 -- the answer and the log afterwards
 pub told-ran-injective : (x y : Ran) (k l : List ℕ) → toldRan x k ≡ toldRan y l → (x ≡ y) × (k ≡ l)
 told-ran-injective x y k l e = (
-  λ i. record { word = told-ending-injective (x .word) (y .word) (λ j. e j .word) i; moves = e i .moves; state = e i .state; relay = e i .relay },
+  λ i. record {
+    word = told-ending-injective (x .word) (y .word) (λ j. e j .word) i;
+    moves = e i .moves;
+    state =
+        e i .state;
+    relay = e i .relay;
+  },
   λ i. e i .log,
 )

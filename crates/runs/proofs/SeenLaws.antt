@@ -1,4 +1,5 @@
--- What the scan sees of a relay is its step: for the proof of `course::follow`, the one place where a run meets the definition of a step, by its laws.
+-- What the scan sees of a relay is its step: for the proof of `course::follow`, the one place where a run meets the
+-- definition of a step, by its laws.
 use Prim.Native.Nat.{ℕ}
 use native.Mathlib.Omega.{arith}
 use denote.Enum.Declared.{tagOf}
@@ -17,8 +18,10 @@ use Rattle.moves.proofs.StepLaws.{step-by}
 use Rattle.runs.proofs.CourseLaws.{Moving}
 
 -- relay r, looked at as number q in state s by the sets `near` that were gathered in the same state s₀
-pub step-seen : (b : Board) (w : ℕ) (near : List ℕ) (s₀ s : State) (q r : ℕ) (m : Move) → near ≡ neighbours b s₀ → s₀ ≡ s → q ≡ r → m ≡ stepBy near b (isDrawn s q) q w → m ≡ stepOf b s r w
-step-seen b w near s₀ s q r m gathered same number is = is ∙ step-by b w s q near (gathered ∙ ap (neighbours b) same) ∙ ap (λ (k : ℕ). stepOf b s k w) number
+pub step-seen : (b : Board) (w : ℕ) (near : List ℕ) (s₀ s : State) (q r : ℕ) (m : Move) → near ≡ neighbours b s₀
+    → s₀ ≡ s → q ≡ r → m ≡ stepBy near b (isDrawn s q) q w → m ≡ stepOf b s r w
+step-seen b w near s₀ s q r m gathered same number is =
+    is ∙ step-by b w s q near (gathered ∙ ap (neighbours b) same) ∙ ap (λ (k : ℕ). stepOf b s k w) number
 
 -- the arm of `match` for the relays that move
 pub motion-moves : (m : code-move.Move) → (tagOf the-type m ≡ 0) ⊎ (tagOf the-type m ≡ 1) → Moving (toldMove m)

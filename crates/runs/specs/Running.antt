@@ -1,10 +1,14 @@
--- A run, as a call over a lent log. Rule book, calls: "15, 14, 13, 11, 7, 12, 16, those that apply"; "A refused call returns the number, place 0 and the state it was given, if it takes one; a refused run also 0 moves and relay 255"; "Log and output buffer stay as lent"; "The answer has the word, the moves made, the state, and the relay that stopped it (255 for idle). Log bytes beyond the moves made stay unwritten."
+-- A run, as a call over a lent log. Rule book, calls: "15, 14, 13, 11, 7, 12, 16, those that apply"; "A refused call
+-- returns the number, place 0 and the state it was given, if it takes one; a refused run also 0 moves and relay 255";
+-- "Log and output buffer stay as lent"; "The answer has the word, the moves made, the state, and the relay that stopped
+-- it (255 for idle). Log bytes beyond the moves made stay unwritten."
 --     longestLog             the longest log that a run takes (13)
 --     runnable b s log       what stands against a run: refusals 15, 14, 13
 --     Ran                   the answer and the log afterwards
 --     ran x log              what the run x tells over the lent log: its bytes, then the log's own beyond them
 --     unrun n p s log        what a refused run tells
---     runOn b n s w          the run of the board's relays from state s, each winding within the allowance w, with room for n moves
+--     runOn b n s w          the run of the board's relays from state s, each winding within the allowance w, with room
+--                            for n moves
 --     ranOn b s log o w      what is told, by what stands against the run
 --     running b s log w      the call
 --     toldEnding, toldRan      the answer's cases in the rule book's words and numbers
@@ -40,7 +44,15 @@ pub record Ran : Type 0 where
   pub log : List ℕ
 
 unfoldable pub ran : Run → List ℕ → Ran
-ran x log = record { word = given (x .word); moves = length (x .bytes); state = x .state; relay = x .relay; log = x .bytes ++ drop (length (x .bytes)) log }
+ran x log =
+    record {
+      word = given (x .word);
+      moves = length (x .bytes);
+      state = x .state;
+      relay = x .relay;
+      log = x .bytes
+          ++ drop (length (x .bytes)) log;
+    }
 
 abbrev pub unrun : ℕ → ℕ → State → List ℕ → Ran
 unrun n p s log = record { word = refused n p; moves = 0; state = s; relay = noRelay; log = log }

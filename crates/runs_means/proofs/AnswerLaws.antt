@@ -14,7 +14,8 @@ use Rattle.runs.proofs.RunningLaws.{running-by, told-ran-injective}
 use Rattle.runs_means.specs.LongerRuns.{Runs, AcceptedRun, movesOf}
 
 -- a call that is not refused tells of the run
-pub accepted-ran : (b : Board) (s : State) (w : ℕ) (log : List ℕ) (a : Ran) (l : List ℕ) → Runs b s log w a l → AcceptedRun b s log → toldRan a l ≡ ran (runOn b (length log) s w) log
+pub accepted-ran : (b : Board) (s : State) (w : ℕ) (log : List ℕ) (a : Ran) (l : List ℕ) → Runs b s log w a l
+    → AcceptedRun b s log → toldRan a l ≡ ran (runOn b (length log) s w) log
 accepted-ran b s w log a l told taken = told ∙ sym (running-by b s log w (given tt) taken)
 
 module _ (a : Ran) (l : List ℕ) (x : Run) (log : List ℕ) (told : toldRan a l ≡ ran x log) where
@@ -40,10 +41,13 @@ module _ (a : Ran) (l : List ℕ) (x : Run) (log : List ℕ) (told : toldRan a l
 
   -- the log's bytes up to the number of moves are those of the moves made
   pub answer-bytes : movesOf a l ≡ x .bytes
-  answer-bytes = ap (λ (n : ℕ). take n l) answer-moves ∙ ap (take (length (x .bytes))) answer-log ∙ take-append-seam (x .bytes) (drop (length (x .bytes)) log)
+  answer-bytes =
+      ap (λ (n : ℕ). take n l) answer-moves ∙ ap (take (length (x .bytes))) answer-log
+      ∙ take-append-seam (x .bytes) (drop (length (x .bytes)) log)
 
 -- two answers that tell of one run are one answer, whatever logs were lent
-pub answer-unique : (a c : Ran) (l k : List ℕ) (x : Run) (log long : List ℕ) → toldRan a l ≡ ran x log → toldRan c k ≡ ran x long → a ≡ c
+pub answer-unique : (a c : Ran) (l k : List ℕ) (x : Run) (log long : List ℕ) → toldRan a l ≡ ran x log
+    → toldRan c k ≡ ran x long → a ≡ c
 answer-unique a c l k x log long told also =
     told-ran-injective a c [] [] (λ i. record {
       word = (answer-word a l x log told ∙ sym (answer-word c k x long also)) i;

@@ -17,7 +17,8 @@ use Rattle.runs.specs.Running.{toldEnding, runOn}
 use Rattle.runs.proofs.RunLaws.{run-room}
 use Rattle.runs.proofs.RunningLaws.{runnable-given}
 use Rattle.runs_means.specs.LongerRuns.{movesOf}
-use Rattle.runs_means.proofs.AnswerLaws.{accepted-ran, answer-word, answer-moves, answer-state, answer-relay, answer-bytes, answer-log}
+use Rattle.runs_means.proofs.AnswerLaws.{accepted-ran, answer-word, answer-moves, answer-state, answer-relay}
+use Rattle.runs_means.proofs.AnswerLaws.{answer-bytes, answer-log}
 use Rattle.runs_means.specs.Courses.{Ended, RunMeans, RunExactly}
 use Rattle.runs_means.proofs.RunMeans.{Says, run-says, ended-once}
 
@@ -37,15 +38,23 @@ says-means b s w log a l x says word moves state relay bytes room after = record
   counted = ap length bytes ∙ sym moves;
   room = omega (arith, moves, room);
   kept = rw moves (ap (drop (length (x .bytes))) after ∙ drop-append-seam (x .bytes) (drop (length (x .bytes)) log));
-  ended = λ e. (told-ended e, λ end. word ∙ ap given (ended-once b w (length log) (a .moves) (a .state) (a .relay) (x .word) e here end));
+  ended =
+      λ e. (
+        told-ended e,
+        λ end. word ∙ ap given
+            (ended-once b w (length log) (a .moves) (a .state) (a .relay) (x .word) e here end),
+      );
   stable = λ told r below. told-ended idle told .1 r below .1 .1;
 }
   where
     here : Ended b (length log) (a .moves) (a .state) (a .relay) (x .word) w
     here = rw (moves, state, relay) (says .ended)
 
-    told-ended : (e : Ending) → toldEnding (a .word) ≡ given e → Ended b (length log) (a .moves) (a .state) (a .relay) e w
-    told-ended e told = subst (λ (y : Ending). Ended b (length log) (a .moves) (a .state) (a .relay) y w) (given-injective (x .word) e (sym word ∙ told)) here
+    told-ended : (e : Ending) → toldEnding (a .word) ≡ given e → Ended b (length log) (a .moves) (a .state)
+        (a .relay) e w
+    told-ended e told =
+        subst (λ (y : Ending). Ended b (length log) (a .moves) (a .state) (a .relay) y w)
+        (given-injective (x .word) e (sym word ∙ told)) here
 
 pub run-exactly : RunExactly
 run-exactly b s w log a l told taken =
@@ -53,5 +62,6 @@ run-exactly b s w log a l told taken =
     let x = runOn b (length log) s w in
     let is = accepted-ran b s w log a l told taken in
     says-means b s w log a l x (run-says b w (fine .0) (length log) s (fine .1))
-    (answer-word a l x log is) (answer-moves a l x log is) (answer-state a l x log is) (answer-relay a l x log is) (answer-bytes a l x log is)
+    (answer-word a l x log is) (answer-moves a l x log is) (answer-state a l x log is) (answer-relay a l x log is)
+    (answer-bytes a l x log is)
     (run-room (stepper b w) (b .counts .relays) (length log) s) (answer-log a l x log is)

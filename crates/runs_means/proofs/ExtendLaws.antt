@@ -1,4 +1,5 @@
--- Two runs of one row of relays, the second by a stepper that comes to what the first one's does wherever that is not undecided, and with no less room: the second goes on from the first. Nothing here knows what is below a step.
+-- Two runs of one row of relays, the second by a stepper that comes to what the first one's does wherever that is not
+-- undecided, and with no less room: the second goes on from the first. Nothing here knows what is below a step.
 use Prim.Native.Nat.{ℕ, zero, suc, _≤_}
 use native.Mathlib.Omega.{arith}
 use mathlib.Core.Path.{_≡_, refl, sym, ap, _∙_}
@@ -6,7 +7,8 @@ use mathlib.Core.Logic.{_⊎_, inl, inr}
 use mathlib.Core.List.{[], _∷_, append-nil}
 use Rattle.state.specs.declared.State.{State}
 use Rattle.moves.specs.Steps as step
-use Rattle.runs.specs.Looks.{Stepper, Ending, idle, spent, undecided, conflict, Look, quiet, halts, makes, byteOf, lookFrom}
+use Rattle.runs.specs.Looks.{Stepper, Ending, idle, spent, undecided, conflict, Look, quiet, halts, makes, byteOf}
+use Rattle.runs.specs.Looks.{lookFrom}
 use Rattle.runs.specs.Runs.{Run, ends, logged, runOf}
 use Rattle.runs.proofs.RunLaws.{run-quiet, run-halts, run-spent, run-moves}
 use Rattle.runs_means.specs.LongerRuns.{IsStart}
@@ -59,7 +61,11 @@ goes-on-unfinal x y e s r is never =
     }
 
 goes-on-same : (x y : Run) → y ≡ x → GoesOn x y
-goes-on-same x y same = record { starts = record { rest = []; whole = ap (λ (z : Run). z .bytes) same ∙ sym (append-nil (x .bytes)) }; stands = λ final. same }
+goes-on-same x y same =
+    record {
+      starts = record { rest = []; whole = ap (λ (z : Run). z .bytes) same ∙ sym (append-nil (x .bytes)) };
+      stands = λ final. same;
+    }
 
 goes-on-logged : (c : ℕ) (x y : Run) → GoesOn x y → GoesOn (logged c x) (logged c y)
 goes-on-logged c x y on =
@@ -80,7 +86,9 @@ undecided-unfinal (inr e) = let z : _≡_ {A = ℕ} 0 1 = cc in omega arith
 
 module _ (f g : Stepper) (settles : Settles f g) (k : ℕ) where
   -- by what the first look comes to; a move is left to the room that the two runs have
-  goes-on-look : (n m : ℕ) (s : State) → ((mv : step.Move) (r : ℕ) → lookFrom f s k 0 ≡ makes mv r → lookFrom g s k 0 ≡ makes mv r → GoesOn (runOf f k n s) (runOf g k m s)) → GoesOn (runOf f k n s) (runOf g k m s)
+  goes-on-look : (n m : ℕ) (s : State) → ((mv : step.Move) (r : ℕ) → lookFrom f s k 0 ≡ makes mv r
+      → lookFrom g s k 0 ≡ makes mv r → GoesOn (runOf f k n s) (runOf g k m s))
+      → GoesOn (runOf f k n s) (runOf g k m s)
   goes-on-look n m s on = by-looks (look-settles f g settles s k 0)
     where
       by-look : (l : Look) → lookFrom f s k 0 ≡ l → lookFrom g s k 0 ≡ l → GoesOn (runOf f k n s) (runOf g k m s)
@@ -93,6 +101,9 @@ module _ (f g : Stepper) (settles : Settles f g) (k : ℕ) where
       by-looks (inr same) = by-look (lookFrom f s k 0) refl same
 
   pub run-goes-on : (n m : ℕ) (s : State) → n ≤ m → GoesOn (runOf f k n s) (runOf g k m s)
-  run-goes-on zero m s more = goes-on-look zero m s (λ mv r e d. goes-on-unfinal _ _ spent s r (run-spent f k s mv r e) spent-unfinal)
+  run-goes-on zero m s more =
+      goes-on-look zero m s (λ mv r e d. goes-on-unfinal _ _ spent s r (run-spent f k s mv r e) spent-unfinal)
   run-goes-on (suc n) zero s more = absurd (omega arith)
-  run-goes-on (suc n) (suc m) s more = goes-on-look (suc n) (suc m) s (λ mv r e d. rw (run-moves f k s n mv r e, run-moves g k s m mv r d) (goes-on-logged (byteOf r mv) _ _ (run-goes-on n m (step.made s r mv) (omega arith))))
+  run-goes-on (suc n) (suc m) s more =
+      goes-on-look (suc n) (suc m) s (λ mv r e d. rw (run-moves f k s n mv r e, run-moves g k s m mv r d)
+      (goes-on-logged (byteOf r mv) _ _ (run-goes-on n m (step.made s r mv) (omega arith))))

@@ -1,4 +1,5 @@
--- The theorem of specs/LongerRuns.antt: a step that is not undecided is the same at every larger allowance, so the more generous run goes on from the other, and the two answers tell it.
+-- The theorem of specs/LongerRuns.antt: a step that is not undecided is the same at every larger allowance, so the more
+-- generous run goes on from the other, and the two answers tell it.
 use Prim.Native.Nat.{ℕ}
 use mathlib.Core.Path.{_≡_, sym, ap, _∙_}
 use mathlib.Core.Logic.{inl, inr}
@@ -20,15 +21,19 @@ stands-final a x told (inl e) = inl (given-injective _ _ (sym told ∙ ap toldEn
 stands-final a x told (inr e) = inr (given-injective _ _ (sym told ∙ ap toldEnding e))
 
 -- the answers tell what holds of the runs
-answer-extends : (a c : Ran) (l k : List ℕ) (x y : Run) (log long : List ℕ) → toldRan a l ≡ ran x log → toldRan c k ≡ ran y long → GoesOn x y → Extends a l c k
+answer-extends : (a c : Ran) (l k : List ℕ) (x y : Run) (log long : List ℕ) → toldRan a l ≡ ran x log
+    → toldRan c k ≡ ran y long → GoesOn x y → Extends a l c k
 answer-extends a c l k x y log long told also on =
     let first = answer-bytes a l x log told in
     let second = answer-bytes c k y long also in
     record {
       starts = rw (first, second) (on .starts);
       stands = λ standing.
-          let same = on .stands (stands-final a x (answer-word a l x log told) standing) in
-          (answer-unique c a k l x long log (also ∙ ap (λ (z : Run). ran z long) same) told, second ∙ ap (λ (z : Run). z .bytes) same ∙ sym first);
+          let same = on .stands (stands-final a x (answer-word a l x log told) standing) in (
+            answer-unique c a k l x long log (also ∙ ap (λ (z : Run). ran z long) same) told,
+            second
+                ∙ ap (λ (z : Run). z .bytes) same ∙ sym first,
+          );
     }
 
 pub longer-run : LongerRun
@@ -36,4 +41,5 @@ longer-run b s w x log long a c l k told also taken accepted more room =
     answer-extends a c l k _ _ log long
     (accepted-ran b s w log a l told taken)
     (accepted-ran b s x long c k also accepted)
-    (run-goes-on (stepper b w) (stepper b x) (λ t r. step-larger b w x t r more) (b .counts .relays) (length log) (length long) s room)
+    (run-goes-on (stepper b w) (stepper b x) (λ t r. step-larger b w x t r more) (b .counts .relays) (length log)
+    (length long) s room)

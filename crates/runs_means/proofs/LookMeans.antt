@@ -1,4 +1,5 @@
--- What a look at the relays says of them, in the words of the published model: all rest, or the first that does not rest decides.
+-- What a look at the relays says of them, in the words of the published model: all rest, or the first that does not
+-- rest decides.
 use Prim.Native.Nat.{ℕ, zero, suc, _+_, _-_, _<_, _≤_}
 use native.Mathlib.Omega.{arith}
 use mathlib.Core.Path.{_≡_, refl, sym, subst}
@@ -46,7 +47,8 @@ module _ (b : Board) (w : ℕ) (s : State) where
   resting-all r past rest q below = rest q (omega arith)
 
   -- relay r comes to m, all below it rest, and the relays after it mean what they say
-  decides-means : (m : step.Move) (r : ℕ) (next : Look) → r < b .counts .relays → Resting b s r w → Comes b s r m w → (Resting b s (r + 1) w → LookMeans b w s next) → LookMeans b w s (decides m r next)
+  decides-means : (m : step.Move) (r : ℕ) (next : Look) → r < b .counts .relays → Resting b s r w → Comes b s r m w
+      → (Resting b s (r + 1) w → LookMeans b w s next) → LookMeans b w s (decides m r next)
   decides-means step.drew r next below rest here later = (below, (rest, here))
   decides-means step.dropped r next below rest here later = (below, (rest, here))
   decides-means step.rests r next below rest here later = later (resting-more r rest here)
@@ -55,14 +57,20 @@ module _ (b : Board) (w : ℕ) (s : State) where
 
   module _ (fine : boardFine b ≡ true) (fits : stateFine (b .counts) s ≡ true) where
     -- n relays are left to look at
-    look-from-means : (n r : ℕ) → b .counts .relays - r ≡ n → Resting b s r w → LookMeans b w s (lookFrom (step.stepper b w) s (b .counts .relays - r) r)
-    look-from-means zero r left rest = subst (LookMeans b w s) (sym (look-quiet (step.stepper b w) s (b .counts .relays) r (omega arith))) (resting-all r (omega arith) rest)
+    look-from-means : (n r : ℕ) → b .counts .relays - r ≡ n → Resting b s r w
+        → LookMeans b w s (lookFrom (step.stepper b w) s (b .counts .relays - r) r)
+    look-from-means zero r left rest =
+        subst (LookMeans b w s) (sym (look-quiet (step.stepper b w) s (b .counts .relays) r (omega arith)))
+        (resting-all r (omega arith) rest)
     look-from-means (suc n) r left rest =
         let below : r < b .counts .relays = omega arith in
-        subst (LookMeans b w s) (sym (look-decides (step.stepper b w) s (b .counts .relays) r (step.stepOf b s r w) below refl))
-        (decides-means (step.stepOf b s r w) r _ below rest (step-means b w s r fine fits below) (look-from-means n (r + 1) (omega arith)))
+        subst (LookMeans b w s)
+        (sym (look-decides (step.stepper b w) s (b .counts .relays) r (step.stepOf b s r w) below refl))
+        (decides-means (step.stepOf b s r w) r _ below rest (step-means b w s r fine fits below)
+        (look-from-means n (r + 1) (omega arith)))
 
     pub look-means : LookMeans b w s (lookFrom (step.stepper b w) s (b .counts .relays) 0)
     look-means =
         let whole : b .counts .relays - 0 ≡ b .counts .relays = omega arith in
-        subst (λ (n : ℕ). LookMeans b w s (lookFrom (step.stepper b w) s n 0)) whole (look-from-means (b .counts .relays) 0 whole resting-none)
+        subst (λ (n : ℕ). LookMeans b w s (lookFrom (step.stepper b w) s n 0)) whole
+        (look-from-means (b .counts .relays) 0 whole resting-none)

@@ -1,4 +1,5 @@
--- What a run says, in the words of the published model: its moves follow one another, and each word says what it should and nothing else can be said.
+-- What a run says, in the words of the published model: its moves follow one another, and each word says what it should
+-- and nothing else can be said.
 use Prim.Native.Nat.{ℕ, zero, suc, _<_}
 use mathlib.Core.Path.{_≡_, refl, sym, ap, subst, _∙_}
 use mathlib.Core.Logic.{_⊎_, inl, inr, ⊎-elim}
@@ -25,9 +26,24 @@ module _ (b : Board) (w : ℕ) where
   unguarded : (s : State) (r : ℕ) → Resting b s r w → (q : ℕ) → q < r → ¬ (CanDraw b s q) × ¬ (CanDrop b s q)
   unguarded s r rest q below = rest q below .1 .1
 
-  stopped-moves : (s : State) (m : step.Move) (r : ℕ) → LookMeans b w s (makes m r) → LowestMove b s (byteOf r m) (step.made s r m) w
-  stopped-moves s step.drew r stopped = record { relay = r; made = inl (refl, (stopped, refl)); guarded = inl (stopped .1 .1 .1 .1); lowest = unguarded s r (stopped .1 .0) }
-  stopped-moves s step.dropped r stopped = record { relay = r; made = inr (refl, (stopped, refl)); guarded = inr (stopped .1 .1 .1 .1); lowest = unguarded s r (stopped .1 .0) }
+  stopped-moves : (s : State) (m : step.Move) (r : ℕ) → LookMeans b w s (makes m r)
+      → LowestMove b s (byteOf r m) (step.made s r m) w
+  stopped-moves s step.drew r stopped =
+      record {
+        relay = r;
+        made = inl (refl, (stopped, refl));
+        guarded = inl (stopped .1 .1 .1 .1);
+        lowest =
+            unguarded s r (stopped .1 .0);
+      }
+  stopped-moves s step.dropped r stopped =
+      record {
+        relay = r;
+        made = inr (refl, (stopped, refl));
+        guarded = inr (stopped .1 .1 .1 .1);
+        lowest =
+            unguarded s r (stopped .1 .0);
+      }
   stopped-moves s step.rests r never = absurd never
   stopped-moves s step.undecided r never = absurd never
   stopped-moves s step.conflict r never = absurd never
@@ -70,9 +86,15 @@ module _ (b : Board) (w : ℕ) where
   ended-more n k s r undecided h = h
   ended-more n k s r conflict h = h
 
-  says-logged : (n : ℕ) (s : State) (c : ℕ) (t : State) (x : Run) → LowestMove b s c t w → Says n t x → Says (suc n) s (logged c x)
+  says-logged : (n : ℕ) (s : State) (c : ℕ) (t : State) (x : Run) → LowestMove b s c t w → Says n t x
+      → Says (suc n) s (logged c x)
   unfolding Follows
-  says-logged n s c t x move on = record { follows = (t, (move, on .follows)); ended = ended-more n (length (x .bytes)) (x .state) (x .relay) (x .word) (on .ended) }
+  says-logged n s c t x move on =
+      record {
+        follows = (t, (move, on .follows));
+        ended = ended-more n (length (x .bytes)) (x .state) (x .relay)
+            (x .word) (on .ended);
+      }
 
   module _ (fine : boardFine b ≡ true) where
     abbrev run : ℕ → State → Run
@@ -82,15 +104,22 @@ module _ (b : Board) (w : ℕ) where
     look s = lookFrom (step.stepper b w) s (b .counts .relays) 0
 
     -- a look that comes to no move ends the run, whatever its room
-    says-look : (n : ℕ) (s : State) (l : Look) → look s ≡ l → LookMeans b w s l → ((m : step.Move) (r : ℕ) → look s ≡ makes m r → LookMeans b w s (makes m r) → Says n s (run n s)) → Says n s (run n s)
-    says-look n s quiet e means on = subst (Says n s) (sym (run-quiet (step.stepper b w) (b .counts .relays) s n e)) (says-ends n s idle noRelay (refl, means))
-    says-look n s (halts h r) e means on = subst (Says n s) (sym (run-halts (step.stepper b w) (b .counts .relays) s n h r e)) (says-ends n s h r (halts-ended n s h r means))
+    says-look : (n : ℕ) (s : State) (l : Look) → look s ≡ l → LookMeans b w s l
+        → ((m : step.Move) (r : ℕ) → look s ≡ makes m r → LookMeans b w s (makes m r) → Says n s (run n s))
+        → Says n s (run n s)
+    says-look n s quiet e means on =
+        subst (Says n s) (sym (run-quiet (step.stepper b w) (b .counts .relays) s n e))
+        (says-ends n s idle noRelay (refl, means))
+    says-look n s (halts h r) e means on =
+        subst (Says n s) (sym (run-halts (step.stepper b w) (b .counts .relays) s n h r e))
+        (says-ends n s h r (halts-ended n s h r means))
     says-look n s (makes m r) e means on = on m r e means
 
     pub run-says : (n : ℕ) (s : State) → stateFine (b .counts) s ≡ true → Says n s (run n s)
     run-says zero s fits =
         says-look zero s (look s) refl (look-means b w s fine fits)
-        (λ m r e means. subst (Says zero s) (sym (run-spent (step.stepper b w) (b .counts .relays) s m r e)) (says-ends zero s spent r (full-ended s m r means)))
+        (λ m r e means. subst (Says zero s) (sym (run-spent (step.stepper b w) (b .counts .relays) s m r e))
+        (says-ends zero s spent r (full-ended s m r means)))
     run-says (suc n) s fits =
         says-look (suc n) s (look s) refl (look-means b w s fine fits)
         (λ m r e means.
@@ -113,21 +142,28 @@ module _ (b : Board) (w : ℕ) where
     stops : StoppedBy b s r motion w
     says : wordBy motion ≡ e
 
-  ended-by : (n k : ℕ) (s : State) (r : ℕ) (e : Ending) → Ended b n k s r e w → ((idle ≡ e) × Resting b s (b .counts .relays) w) ⊎ Stopped s r e
+  ended-by : (n k : ℕ) (s : State) (r : ℕ) (e : Ending) → Ended b n k s r e w
+      → ((idle ≡ e) × Resting b s (b .counts .relays) w) ⊎ Stopped s r e
   ended-by n k s r idle h = inl (refl, h .1)
-  ended-by n k s r spent h = inr (⊎-elim (λ x. record { motion = step.drew; stops = x; says = refl }) (λ x. record { motion = step.dropped; stops = x; says = refl }) (h .1))
+  ended-by n k s r spent h =
+      inr (⊎-elim (λ x. record { motion = step.drew; stops = x; says = refl })
+      (λ x. record { motion = step.dropped; stops = x; says = refl }) (h .1))
   ended-by n k s r undecided h = inr (record { motion = step.undecided; stops = h; says = refl })
   ended-by n k s r conflict h = inr (record { motion = step.conflict; stops = h; says = refl })
 
   -- where all rest, what a relay came to is that it rests
   rests-stopped : (s : State) (r : ℕ) (e : Ending) → Resting b s (b .counts .relays) w → Stopped s r e → idle ≡ e
-  rests-stopped s r e rest x = ap wordBy (comes-once b w s r step.rests (x .motion) (rest r (x .stops .0)) (x .stops .1 .1)) ∙ x .says
+  rests-stopped s r e rest x =
+      ap wordBy (comes-once b w s r step.rests (x .motion) (rest r (x .stops .0)) (x .stops .1 .1)) ∙ x .says
 
-  causes-once : (s : State) (r : ℕ) (d e : Ending) → ((idle ≡ d) × Resting b s (b .counts .relays) w) ⊎ Stopped s r d → ((idle ≡ e) × Resting b s (b .counts .relays) w) ⊎ Stopped s r e → d ≡ e
+  causes-once : (s : State) (r : ℕ) (d e : Ending) → ((idle ≡ d) × Resting b s (b .counts .relays) w)
+      ⊎ Stopped s r d → ((idle ≡ e) × Resting b s (b .counts .relays) w) ⊎ Stopped s r e → d ≡ e
   causes-once s r d e (inl x) (inl y) = sym (x .0) ∙ y .0
   causes-once s r d e (inl x) (inr y) = sym (x .0) ∙ rests-stopped s r e (x .1) y
   causes-once s r d e (inr x) (inl y) = sym (rests-stopped s r d (y .1) x) ∙ y .0
-  causes-once s r d e (inr x) (inr y) = sym (x .says) ∙ ap wordBy (comes-once b w s r (x .motion) (y .motion) (x .stops .1 .1) (y .stops .1 .1)) ∙ y .says
+  causes-once s r d e (inr x) (inr y) =
+      sym (x .says) ∙ ap wordBy (comes-once b w s r (x .motion) (y .motion) (x .stops .1 .1) (y .stops .1 .1))
+      ∙ y .says
 
   pub ended-once : (n k : ℕ) (s : State) (r : ℕ) (d e : Ending) → Ended b n k s r d w → Ended b n k s r e w → d ≡ e
   ended-once n k s r d e x y = causes-once s r d e (ended-by n k s r d x) (ended-by n k s r e y)

@@ -1,4 +1,5 @@
--- Laws of the next neighbour to which a chain can go on: what `walk::next_member` needs, and that the numbers passed over add no chain.
+-- Laws of the next neighbour to which a chain can go on: what `walk::next_member` needs, and that the numbers passed
+-- over add no chain.
 use Prim.Native.Nat.{ℕ, zero, suc, _+_, _-_, _<_, _≤_}
 use native.Mathlib.Omega.{arith}
 use mathlib.Core.Path.{_≡_, refl, sym, ap, subst, _∙_}
@@ -11,30 +12,40 @@ use Rattle.chains.specs.ChainList.{tries}
 
 -- ---- the lowest member from x, which is n, up is m; y is the number of terminals t
 
-module _ (s t n x m y : ℕ) (start : n ≤ t) (most : t ≤ 64) (from : x ≡ n) (up : y ≡ t) (found : m ≡ lowestFrom s x) where
-  lowest : m ≡ firstFrom (member s) (64 - n) n
-  unfolding lowestFrom
-  lowest = found ∙ ap (λ (k : ℕ). firstFrom (member s) (64 - k) k) from
+module _ (s t n x m y : ℕ) (start : n ≤ t) (most : t ≤ 64) (from : x ≡ n) (up : y ≡ t) (found : m ≡ lowestFrom s x)
+  where
+    lowest : m ≡ firstFrom (member s) (64 - n) n
+    unfolding lowestFrom
+    lowest = found ∙ ap (λ (k : ℕ). firstFrom (member s) (64 - k) k) from
 
-  pub next-none : y ≤ m → t ≡ firstFrom (member s) (t - n) n
-  next-none past =
-      let same : t ≡ n + (t - n) = omega (arith, start) in
-      same ∙ sym (first-fewer (member s) (t - n) (64 - n) n (omega (arith, most)) .1 (omega (arith, past, up, start, lowest)))
+    pub next-none : y ≤ m → t ≡ firstFrom (member s) (t - n) n
+    next-none past =
+        let same : t ≡ n + (t - n) = omega (arith, start) in
+        same
+        ∙ sym (first-fewer (member s) (t - n) (64 - n) n (omega (arith, most)) .1
+        (omega (arith, past, up, start, lowest)))
 
-  pub next-some : m < y → m ≡ firstFrom (member s) (t - n) n
-  next-some below = lowest ∙ sym (first-fewer (member s) (t - n) (64 - n) n (omega (arith, most)) .0 (omega (arith, below, up, start, lowest)))
+    pub next-some : m < y → m ≡ firstFrom (member s) (t - n) n
+    next-some below =
+        lowest
+        ∙ sym (first-fewer (member s) (t - n) (64 - n) n (omega (arith, most)) .0
+        (omega (arith, below, up, start, lowest)))
 
 -- ---- the numbers passed over add no chain
 
-pub tries-none : (go : ℕ → List (List ℕ)) (ok : ℕ → Bool) (k n t : ℕ) → t ≡ n + k → t ≤ firstFrom ok k n → tries go ok k n ≡ []
+pub tries-none : (go : ℕ → List (List ℕ)) (ok : ℕ → Bool) (k n t : ℕ) → t ≡ n + k → t ≤ firstFrom ok k n
+    → tries go ok k n ≡ []
 unfolding tries firstFrom
 tries-none go ok zero n t e none = refl
 tries-none go ok (suc k) n t e none =
     by-test (ok n)
-    (λ here. let at-n : t ≤ n = subst (λ (b : Bool). t ≤ cond b n (firstFrom ok k (suc n))) here none in absurd (omega (arith, e, at-n)))
-    (λ past. rw past (tries-none go ok k (suc n) t (omega (arith, e)) (subst (λ (b : Bool). t ≤ cond b n (firstFrom ok k (suc n))) past none)))
+    (λ here. let at-n : t ≤ n = subst (λ (b : Bool). t ≤ cond b n (firstFrom ok k (suc n))) here none in
+    absurd (omega (arith, e, at-n)))
+    (λ past. rw past (tries-none go ok k (suc n) t (omega (arith, e))
+    (subst (λ (b : Bool). t ≤ cond b n (firstFrom ok k (suc n))) past none)))
 
-pub tries-some : (go : ℕ → List (List ℕ)) (ok : ℕ → Bool) (k n t m : ℕ) → t ≡ n + k → m ≡ firstFrom ok k n → m < t → tries go ok k n ≡ go m ++ tries go ok (t - (m + 1)) (m + 1)
+pub tries-some : (go : ℕ → List (List ℕ)) (ok : ℕ → Bool) (k n t m : ℕ) → t ≡ n + k → m ≡ firstFrom ok k n → m < t
+    → tries go ok k n ≡ go m ++ tries go ok (t - (m + 1)) (m + 1)
 unfolding tries firstFrom
 tries-some go ok zero n t m e first some = absurd (omega (arith, e, first, some))
 tries-some go ok (suc k) n t m e first some =
@@ -43,5 +54,7 @@ tries-some go ok (suc k) n t m e first some =
     let at-n : m ≡ n = first ∙ rw here refl in
     let left : k ≡ t - (m + 1) = omega (arith, e, at-n) in
     let next : suc n ≡ m + 1 = omega (arith, at-n) in
-    rw here (ap (λ (x : ℕ). go x ++ tries go ok k (suc n)) (sym at-n) ∙ ap (λ (x : ℕ). go m ++ tries go ok x (suc n)) left ∙ ap (λ (x : ℕ). go m ++ tries go ok (t - (m + 1)) x) next))
+    rw here (ap (λ (x : ℕ). go x ++ tries go ok k (suc n)) (sym at-n)
+    ∙ ap (λ (x : ℕ). go m ++ tries go ok x (suc n)) left ∙ ap (λ (x : ℕ). go m ++ tries go ok (t - (m + 1)) x)
+    next))
     (λ past. rw past (tries-some go ok k (suc n) t m (omega (arith, e)) (first ∙ rw past refl) some))

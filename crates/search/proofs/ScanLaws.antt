@@ -14,29 +14,55 @@ use Rattle.number.specs.Outcomes.{given}
 use Rattle.search.specs.declared.walk.Scan as code-scan
 use Rattle.search.specs.declared.walk.Scan.the-variants.{Showing, ShowingNone, AllowanceSpent}
 use Rattle.search.specs.declared.walk.Walked.{Walked}
-use Rattle.search.specs.Verdicts.{Finding, undecided, Verdict, firstShown, effort, places, settled, unsettled, weighed}
-use Rattle.search.specs.Walks.{Scan, showing, showing-none, allowance-spent, scan, concluded, LeftWithin, toldWalked}
+use Rattle.search.specs.Verdicts.{Finding, undecided, Verdict, firstShown, effort, places, settled, unsettled}
+use Rattle.search.specs.Verdicts.{weighed}
+use Rattle.search.specs.Walks.{Scan, showing, showing-none, allowance-spent, scan, concluded, LeftWithin}
+use Rattle.search.specs.Walks.{toldWalked}
 
 -- ---- the verdict of a walk
 
 pub left-live : (r : Walked) (ps : List ℕ) (w : ℕ) → r .found ≡ Showing → LeftWithin (toldWalked r ps) w → r .left ≤ w
-left-live r ps w e h = subst (λ (f : code-scan.Scan). LeftWithin (toldWalked (record { found = f; left = r .left; length = r .length }) ps) w) e h
+left-live r ps w e h =
+    subst
+    (λ (f : code-scan.Scan). LeftWithin (toldWalked (record { found = f; left = r .left; length = r .length }) ps)
+    w) e h
 
-pub left-dead : (r : Walked) (ps : List ℕ) (w : ℕ) → r .found ≡ ShowingNone → LeftWithin (toldWalked r ps) w → r .left ≤ w
-left-dead r ps w e h = subst (λ (f : code-scan.Scan). LeftWithin (toldWalked (record { found = f; left = r .left; length = r .length }) ps) w) e h
+pub left-dead : (r : Walked) (ps : List ℕ) (w : ℕ) → r .found ≡ ShowingNone → LeftWithin (toldWalked r ps) w
+    → r .left ≤ w
+left-dead r ps w e h =
+    subst
+    (λ (f : code-scan.Scan). LeftWithin (toldWalked (record { found = f; left = r .left; length = r .length }) ps)
+    w) e h
 
-pub concluded-live : (r : Walked) (ps qs : List ℕ) (w : ℕ) → length ps ≡ 64 → r .length ≤ 64 → qs ≡ places (take (r .length) ps) → r .found ≡ Showing → _≡_ {A = Verdict} (record { finding = given Finding.live; effort = w - r .left; length = r .length; places = qs }) (concluded (toldWalked r ps) w)
+pub concluded-live : (r : Walked) (ps qs : List ℕ) (w : ℕ) → length ps ≡ 64 → r .length ≤ 64
+    → qs ≡ places (take (r .length) ps) → r .found ≡ Showing
+    → _≡_ {A = Verdict}
+    (record { finding = given Finding.live; effort = w - r .left; length = r .length; places = qs })
+    (concluded (toldWalked r ps) w)
 concluded-live r ps qs w room short shown e =
-    let long : r .length ≡ length (take (r .length) ps) = sym (length-take-le (r .length) ps (omega (arith, room, short))) in
+    let long : r .length ≡ length (take (r .length) ps) =
+    sym (length-take-le (r .length) ps (omega (arith, room, short))) in
     ap (λ (k : ℕ). record { finding = given Finding.live; effort = w - r .left; length = k; places = qs }) long
-    ∙ ap (λ (l : List ℕ). record { finding = given Finding.live; effort = w - r .left; length = length (take (r .length) ps); places = l }) shown
+    ∙ ap
+    (λ (l : List ℕ). record {
+      finding = given Finding.live;
+      effort = w - r .left;
+      length =
+          length (take (r .length) ps);
+      places = l;
+    }) shown
     ∙ rw e refl
 
-pub concluded-dead : (r : Walked) (ps : List ℕ) (w : ℕ) → r .found ≡ ShowingNone → _≡_ {A = Verdict} (record { finding = given Finding.dead; effort = w - r .left; length = 0; places = replicate 64 0 }) (concluded (toldWalked r ps) w)
+pub concluded-dead : (r : Walked) (ps : List ℕ) (w : ℕ) → r .found ≡ ShowingNone
+    → _≡_ {A = Verdict}
+    (record { finding = given Finding.dead; effort = w - r .left; length = 0; places = replicate 64 0 })
+    (concluded (toldWalked r ps) w)
 unfolding places
 concluded-dead r ps w e = rw e refl
 
-pub concluded-spent : (r : Walked) (ps : List ℕ) (w : ℕ) → r .found ≡ AllowanceSpent → _≡_ {A = Verdict} (record { finding = given undecided; effort = w; length = 0; places = replicate 64 0 }) (concluded (toldWalked r ps) w)
+pub concluded-spent : (r : Walked) (ps : List ℕ) (w : ℕ) → r .found ≡ AllowanceSpent
+    → _≡_ {A = Verdict} (record { finding = given undecided; effort = w; length = 0; places = replicate 64 0 })
+    (concluded (toldWalked r ps) w)
 unfolding places
 concluded-spent r ps w e = rw e refl
 
@@ -48,7 +74,8 @@ after (showing c left) go = showing c left
 after (showing-none left) go = go left
 after allowance-spent go = allowance-spent
 
-pub scan-append : (s : List ℕ → Bool) (xs ys : List (List ℕ)) (w : ℕ) → scan s (xs ++ ys) w ≡ after (scan s xs w) (scan s ys)
+pub scan-append : (s : List ℕ → Bool) (xs ys : List (List ℕ)) (w : ℕ) → scan s (xs ++ ys) w ≡ after (scan s xs w)
+    (scan s ys)
 unfolding scan
 scan-append s [] ys w = refl
 scan-append s (c ∷ xs) ys zero = refl
@@ -75,7 +102,8 @@ scan-left s (c ∷ cs) (suc w) =
 
 -- w of the allowance x is left before the chains cs
 concluded-scan : (s : List ℕ → Bool) (cs : List (List ℕ)) (x w : ℕ) → w ≤ x
-    → concluded (scan s cs w) x ≡ cond (leb (effort s cs) w) (settled (x - w + effort s cs) (firstShown s cs)) (unsettled x)
+    → concluded (scan s cs w) x ≡ cond (leb (effort s cs) w) (settled (x - w + effort s cs) (firstShown s cs))
+    (unsettled x)
 unfolding scan effort firstShown
 concluded-scan s [] x w most =
     let same : x - w ≡ x - w + 0 = omega arith in
@@ -90,10 +118,13 @@ concluded-scan s (c ∷ cs) x (suc w) most =
     let same : x - w + effort s cs ≡ x - suc w + suc (effort s cs) = omega (arith, most) in
     rw past (concluded-scan s cs x w (omega (arith, most))
     ∙ ap (λ (e : ℕ). cond (leb (effort s cs) w) (settled e (firstShown s cs)) (unsettled x)) same
-    ∙ ap (λ (t : Bool). cond t (settled (x - suc w + suc (effort s cs)) (firstShown s cs)) (unsettled x)) (sym (leb-suc (effort s cs) w))))
+    ∙ ap (λ (t : Bool). cond t (settled (x - suc w + suc (effort s cs)) (firstShown s cs)) (unsettled x))
+    (sym (leb-suc (effort s cs) w))))
   where
     leb-suc : (m n : ℕ) → leb (suc m) (suc n) ≡ leb m n
-    leb-suc m n = by-test (leb m n) (λ h. le-leb (suc m) (suc n) (omega (arith, leb-true m n h)) ∙ sym h) (λ h. lt-leb (suc m) (suc n) (omega (arith, leb-false m n h)) ∙ sym h)
+    leb-suc m n =
+        by-test (leb m n) (λ h. le-leb (suc m) (suc n) (omega (arith, leb-true m n h)) ∙ sym h)
+        (λ h. lt-leb (suc m) (suc n) (omega (arith, leb-false m n h)) ∙ sym h)
 
 pub scan-weighed : (s : List ℕ → Bool) (cs : List (List ℕ)) (w : ℕ) → concluded (scan s cs w) w ≡ weighed s cs w
 unfolding weighed

@@ -9,7 +9,8 @@ use lib.Seq.{take-all, take-suc-set, length-take-le}
 use Rattle.search.specs.Verdicts.{places}
 
 -- ts is ps with the places from k up to i made 0
-module _ (ps ts : List ℕ) (k i : ℕ) (room : length ts ≡ 64) (from : k ≤ i) (done : take i ts ≡ take k ps ++ replicate (i - k) 0) where
+module _ (ps ts : List ℕ) (k i : ℕ) (room : length ts ≡ 64) (from : k ≤ i)
+    (done : take i ts ≡ take k ps ++ replicate (i - k) 0) where
   pub shown-more : i < 64 → take (i + 1) (set ts i 0) ≡ take k ps ++ replicate (i + 1 - k) 0
   shown-more below =
       let count : i - k + 1 ≡ i + 1 - k = omega (arith, from) in
@@ -17,12 +18,14 @@ module _ (ps ts : List ℕ) (k i : ℕ) (room : length ts ≡ 64) (from : k ≤ 
       ∙ take-suc-set ts i 0 (omega (arith, room, below))
       ∙ ap (λ (l : List ℕ). l ++ (0 ∷ [])) done
       ∙ append-assoc (take k ps) (replicate (i - k) 0) (0 ∷ [])
-      ∙ ap (λ (l : List ℕ). take k ps ++ l) (replicate-append-replicate (i - k) 1 0 ∙ ap (λ (n : ℕ). replicate n 0) count)
+      ∙ ap (λ (l : List ℕ). take k ps ++ l) (replicate-append-replicate (i - k) 1 0
+      ∙ ap (λ (n : ℕ). replicate n 0) count)
 
   pub shown-end : length ps ≡ 64 → i ≤ 64 → 64 ≤ i → ts ≡ places (take k ps)
   unfolding places
   shown-end long most past =
-      let count : i - k ≡ 64 - length (take k ps) = omega (arith, most, past, length-take-le k ps (omega (arith, long, from, most))) in
+      let count : i - k ≡ 64 - length (take k ps) =
+      omega (arith, most, past, length-take-le k ps (omega (arith, long, from, most))) in
       sym (take-all i ts (omega (arith, room, past))) ∙ done ∙ ap (λ (n : ℕ). take k ps ++ replicate n 0) count
 
 -- before any is made 0

@@ -1,4 +1,6 @@
--- Laws of verdicts: what live, dead and undecided say of the chains, what the effort counts, that a verdict is known by what it tells, and that at most 64 terminals are looked at. What `search`, `judge` and the crates above them need. Assumes nothing.
+-- Laws of verdicts: what live, dead and undecided say of the chains, what the effort counts, that a verdict is known by
+-- what it tells, and that at most 64 terminals are looked at. What `search`, `judge` and the crates above them need.
+-- Assumes nothing.
 use Prim.Native.Nat.{ℕ, _+_, _<_, _≤_}
 use native.Mathlib.Omega.{arith}
 use mathlib.Core.Path.{_≡_, refl, sym, ap, subst, _∙_}
@@ -18,11 +20,13 @@ use Rattle.search.specs.declared.Winding.{Winding}
 use Rattle.search.specs.declared.Finding.{Finding}
 use Rattle.search.specs.declared.Finding.the-variants.{Live, Dead, Undecided, Refused}
 use Rattle.search.specs.declared.Verdict as code-verdict
-use Rattle.search.specs.Verdicts.{Verdict, undecided, firstShown, effort, settled, unsettled, weighed, verdictBy, inSets, toldFinding, toldVerdict}
+use Rattle.search.specs.Verdicts.{Verdict, undecided, firstShown, effort, settled, unsettled, weighed, verdictBy}
+use Rattle.search.specs.Verdicts.{inSets, toldFinding, toldVerdict}
 
 -- ---- the verdict turns at the effort
 
-pub weighed-within : (s : List ℕ → Bool) (cs : List (List ℕ)) (w : ℕ) → effort s cs ≤ w → weighed s cs w ≡ settled (effort s cs) (firstShown s cs)
+pub weighed-within : (s : List ℕ → Bool) (cs : List (List ℕ)) (w : ℕ) → effort s cs ≤ w
+    → weighed s cs w ≡ settled (effort s cs) (firstShown s cs)
 unfolding weighed
 weighed-within s cs w enough = rw (le-leb (effort s cs) w enough) refl
 
@@ -31,7 +35,8 @@ unfolding weighed
 weighed-short s cs w short = rw (lt-leb (effort s cs) w short) refl
 
 -- what an allowance w settles, every larger one x settles the same way
-pub weighed-larger : (s : List ℕ → Bool) (cs : List (List ℕ)) (w x : ℕ) → w ≤ x → (weighed s cs w .finding ≡ given undecided) ⊎ (weighed s cs x ≡ weighed s cs w)
+pub weighed-larger : (s : List ℕ → Bool) (cs : List (List ℕ)) (w x : ℕ) → w ≤ x
+    → (weighed s cs w .finding ≡ given undecided) ⊎ (weighed s cs x ≡ weighed s cs w)
 weighed-larger s cs w x more =
     by-test (leb (effort s cs) w)
     (λ enough. inr (within (leb-true (effort s cs) w enough)))
@@ -40,7 +45,9 @@ weighed-larger s cs w x more =
     within : effort s cs ≤ w → weighed s cs x ≡ weighed s cs w
     within enough = weighed-within s cs x (omega (arith, enough, more)) ∙ sym (weighed-within s cs w enough)
 
-pub judged-larger : (near : List ℕ) (t : ℕ) (v : Winding) (w x : ℕ) → w ≤ x → (verdictBy near (inSets t) v w .finding ≡ given undecided) ⊎ (verdictBy near (inSets t) v x ≡ verdictBy near (inSets t) v w)
+pub judged-larger : (near : List ℕ) (t : ℕ) (v : Winding) (w x : ℕ) → w ≤ x
+    → (verdictBy near (inSets t) v w .finding ≡ given undecided)
+    ⊎ (verdictBy near (inSets t) v x ≡ verdictBy near (inSets t) v w)
 unfolding verdictBy
 judged-larger near t v w x more = weighed-larger _ _ w x more
 
@@ -66,7 +73,15 @@ first-shown-at s (d ∷ cs) c e =
     at-head : s d ≡ true → some d ≡ some c → FirstAt s (d ∷ cs) c
     at-head here f =
         let same : d ≡ c = Option·some-injective d c f in
-        record { early = []; late = cs; split = ap (λ (x : List ℕ). x ∷ cs) same; shown = subst (λ (x : List ℕ). s x ≡ true) same here; failed = tt; counted = rw here refl }
+        record {
+          early = [];
+          late = cs;
+          split = ap (λ (x : List ℕ). x ∷ cs) same;
+          shown =
+              subst (λ (x : List ℕ). s x ≡ true) same here;
+          failed = tt;
+          counted = rw here refl;
+        }
 
     later : s d ≡ false → FirstAt s cs c → FirstAt s (d ∷ cs) c
     later past first = record {
@@ -78,10 +93,14 @@ first-shown-at s (d ∷ cs) c e =
       counted = rw past (omega (arith, first .counted));
     }
 
-pub first-shown-some : (s : List ℕ → Bool) (cs : List (List ℕ)) (c : List ℕ) → firstShown s cs ≡ some c → (c ∈ cs) × (s c ≡ true)
+pub first-shown-some : (s : List ℕ → Bool) (cs : List (List ℕ)) (c : List ℕ) → firstShown s cs ≡ some c → (c ∈ cs)
+    × (s c ≡ true)
 first-shown-some s cs c e =
-    let first = first-shown-at s cs c e in
-    (subst (λ (l : List (List ℕ)). c ∈ l) (sym (first .split)) (member-append-right c (first .early) (c ∷ first .late) (inl refl)), first .shown)
+    let first = first-shown-at s cs c e in (
+      subst (λ (l : List (List ℕ)). c ∈ l) (sym (first .split))
+          (member-append-right c (first .early) (c ∷ first .late) (inl refl)),
+      first .shown,
+    )
 
 -- ---- no chain shown
 
@@ -101,7 +120,8 @@ none-shown s (d ∷ cs) e =
     later : s d ≡ false → NoneShown s cs → NoneShown s (d ∷ cs)
     later past rest = record { failed = (past, rest .failed); counted = rw past (omega (arith, rest .counted)) }
 
-pub first-shown-none : (s : List ℕ → Bool) (cs : List (List ℕ)) → firstShown s cs ≡ none → (c : List ℕ) → c ∈ cs → s c ≡ false
+pub first-shown-none : (s : List ℕ → Bool) (cs : List (List ℕ)) → firstShown s cs ≡ none → (c : List ℕ) → c ∈ cs
+    → s c ≡ false
 first-shown-none s cs e c m = all-member (λ (d : List ℕ). s d ≡ false) cs c (none-shown s cs e .failed) m
 
 pub effort-none : (s : List ℕ → Bool) (cs : List (List ℕ)) → firstShown s cs ≡ none → effort s cs ≡ length cs
@@ -143,10 +163,12 @@ told-verdict-injective x y e = λ i. record {
 
 -- ---- at most 64 terminals are looked at
 
-pub judged-most : (near : List ℕ) (t : ℕ) (v : Winding) (w : ℕ) → 64 < t → verdictBy near 64 v w ≡ verdictBy near (inSets t) v w
+pub judged-most : (near : List ℕ) (t : ℕ) (v : Winding) (w : ℕ) → 64 < t → verdictBy near 64 v w ≡ verdictBy near
+    (inSets t) v w
 unfolding inSets
 judged-most near t v w more = rw (lt-ltb 64 t more) refl
 
-pub judged-given : (near : List ℕ) (t : ℕ) (v : Winding) (w : ℕ) → t ≤ 64 → verdictBy near t v w ≡ verdictBy near (inSets t) v w
+pub judged-given : (near : List ℕ) (t : ℕ) (v : Winding) (w : ℕ) → t ≤ 64 → verdictBy near t v w ≡ verdictBy near
+    (inSets t) v w
 unfolding inSets
 judged-given near t v w most = rw (le-ltb 64 t most) refl

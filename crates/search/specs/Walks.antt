@@ -2,12 +2,16 @@
 --     pathIn c places        the terminals of a chain on its way: the first of the lent places
 --     marked s p             the set s with the terminals p as members besides
 --     carried v p            what the walk carries for the terminals p while it looks for winding v
---     Carries v c places     a chain on its way carries just that, has a place in the sets for its end, and room in the lent places
+--     Carries v c places     a chain on its way carries just that, has a place in the sets for its end, and room in the
+--                            lent places
 --     atPlus, gone v c n      the chain of plus alone; the chain c gone on to the terminal n
---     scan s cs w            going through the chains cs with w of the allowance left: live by the first that passes the test s, dead with what is left, or spent
---     entered, tried         scan of the chains from p on, p among them; of those that go on from p to a number from n up
+--     scan s cs w            going through the chains cs with w of the allowance left: live by the first that passes
+--                            the test s, dead with what is left, or spent
+--     entered, tried         scan of the chains from p on, p among them; of those that go on from p to a number from n
+--                            up
 --     toldWalked r places    what an answer says, with the chain found in the lent places
---     WalkComes r c ps qs o      the answer r of a walk from chain c comes to o; the lent places were ps and are qs, and c's own are as they were
+--     WalkComes r c ps qs o      the answer r of a walk from chain c comes to o; the lent places were ps and are qs,
+--                                and c's own are as they were
 --     concluded o w          the verdict that a scan with the allowance w comes to
 --     LeftWithin o w         a scan with the allowance w leaves no more than w
 use Prim.Native.Nat.{ℕ, zero, suc, _+_, _-_, _≤_, _<_}
@@ -49,7 +53,14 @@ abbrev pub atPlus : Chain
 atPlus = record { length = 1; end = plus; met = including 0 plus; beside = false }
 
 abbrev pub gone : Winding → Chain → ℕ → Chain
-gone v c n = record { length = c .length + 1; end = n; met = including (c .met) n; beside = c .beside || crosses (v .a) (v .b) (c .end) n }
+gone v c n =
+    record {
+      length = c .length + 1;
+      end = n;
+      met = including (c .met) n;
+      beside = c .beside
+          || crosses (v .a) (v .b) (c .end) n;
+    }
 
 pub data Scan : Type 0 where
   showing : List ℕ → ℕ → Scan
@@ -65,7 +76,10 @@ unfoldable pub entered : List ℕ → ℕ → Winding → List ℕ → ℕ → S
 entered near t v p w = scan (shows (v .a) (v .b)) (p ∷ beyond (joined near) t (t - length p) p (ending p)) w
 
 unfoldable pub tried : List ℕ → ℕ → Winding → List ℕ → ℕ → ℕ → Scan
-tried near t v p n w = scan (shows (v .a) (v .b)) (tries (λ (m : ℕ). (p ++ (m ∷ [])) ∷ beyond (joined near) t (t - length p - 1) (p ++ (m ∷ [])) m) (canFollow (joined near) p (ending p)) (t - n) n) w
+tried near t v p n w =
+    scan (shows (v .a) (v .b))
+    (tries (λ (m : ℕ). (p ++ (m ∷ [])) ∷ beyond (joined near) t (t - length p - 1) (p ++ (m ∷ [])) m)
+    (canFollow (joined near) p (ending p)) (t - n) n) w
 
 abbrev pub toldWalked : Walked → List ℕ → Scan
 toldWalked r ps = told (r .found)
@@ -82,8 +96,10 @@ pub record WalkComes (r : Walked) (c : Chain) (ps qs : List ℕ) (o : Scan) : Ty
   pub room : length qs ≡ length ps
 
 abbrev pub concluded : Scan → ℕ → Verdict
-concluded (showing c left) w = record { finding = given Finding.live; effort = w - left; length = length c; places = places c }
-concluded (showing-none left) w = record { finding = given Finding.dead; effort = w - left; length = 0; places = places [] }
+concluded (showing c left) w =
+    record { finding = given Finding.live; effort = w - left; length = length c; places = places c }
+concluded (showing-none left) w =
+    record { finding = given Finding.dead; effort = w - left; length = 0; places = places [] }
 concluded allowance-spent w = unsettled w
 
 abbrev pub LeftWithin : Scan → ℕ → Type 0

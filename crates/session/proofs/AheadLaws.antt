@@ -1,4 +1,5 @@
--- What a session's next line can be, case by case, and that each line leaves less to come. For the theorem on the lines handed out, and for a program that asks for line after line.
+-- What a session's next line can be, case by case, and that each line leaves less to come. For the theorem on the lines
+-- handed out, and for a program that asks for line after line.
 use Prim.Native.Nat.{ℕ, _<_, _≤_}
 use native.Mathlib.Omega.{arith}
 use mathlib.Core.Path.{_≡_, refl, sym, ap, _∙_}
@@ -15,12 +16,17 @@ use Rattle.board.specs.declared.Board.{Board}
 use Rattle.lines.specs.Lines.{Line}
 use Rattle.events.specs.Events.{eventAt, ranLine, eventLine}
 use Rattle.session.specs.ToCome.{toComeAt, toCome}
-use Rattle.session.specs.Carried.{Stage, first, events, over, refusing, Session, Coming, line, no-line, goesOn, closes, eventOf, nextEvent, nextAt, nextOf}
+use Rattle.session.specs.Carried.{Stage, first, events, over, refusing, Session, Coming, line, no-line, goesOn}
+use Rattle.session.specs.Carried.{closes, eventOf, nextEvent, nextAt, nextOf}
 
 pub data Ahead (z : Session) (s : List ℕ) : Type 0 where
-  runs-first : z .stage ≡ first → nextOf z s ≡ goesOn z (ranLine (z .board) (z .event) (z .state) (z .allowance)) (z .place) → Ahead z s
-  makes-event : (v : Found ℕ) → z .stage ≡ events → z .place < length s → eventAt (z .board) s (z .place) ≡ given v → nextOf z s ≡ goesOn z (eventLine (z .board) (z .event) (z .state) (v .value) (z .allowance)) (v .next) → Ahead z s
-  bad-event : (n p : ℕ) → z .stage ≡ events → z .place < length s → eventAt (z .board) s (z .place) ≡ refused n p → nextOf z s ≡ closes z n p → Ahead z s
+  runs-first : z .stage ≡ first → nextOf z s ≡ goesOn z (ranLine (z .board) (z .event) (z .state) (z .allowance))
+      (z .place) → Ahead z s
+  makes-event : (v : Found ℕ) → z .stage ≡ events → z .place < length s → eventAt (z .board) s (z .place) ≡ given v
+      → nextOf z s ≡ goesOn z (eventLine (z .board) (z .event) (z .state) (v .value) (z .allowance)) (v .next)
+      → Ahead z s
+  bad-event : (n p : ℕ) → z .stage ≡ events → z .place < length s → eventAt (z .board) s (z .place) ≡ refused n p
+      → nextOf z s ≡ closes z n p → Ahead z s
   tells-refusal : (n p : ℕ) → z .stage ≡ refusing n p → nextOf z s ≡ closes z n p → Ahead z s
   at-end : z .stage ≡ events → length s ≤ z .place → nextOf z s ≡ (z, no-line) → Ahead z s
   is-over : z .stage ≡ over → nextOf z s ≡ (z, no-line) → Ahead z s
@@ -31,10 +37,13 @@ module _ (z : Session) (s : List ℕ) where
     unfolding nextOf nextAt
     next-is-event = ap (λ (k : Stage). nextAt k z s) is
 
-    event-by : (o : Outcome (Found ℕ)) → eventAt (z .board) s (z .place) ≡ o → leb (length s) (z .place) ≡ false → Ahead z s
+    event-by : (o : Outcome (Found ℕ)) → eventAt (z .board) s (z .place) ≡ o → leb (length s) (z .place) ≡ false
+        → Ahead z s
     unfolding nextEvent eventOf
-    event-by (given v) e there = makes-event v is (leb-false (length s) (z .place) there) e (next-is-event ∙ rw (there, e) refl)
-    event-by (refused n p) e there = bad-event n p is (leb-false (length s) (z .place) there) e (next-is-event ∙ rw (there, e) refl)
+    event-by (given v) e there =
+        makes-event v is (leb-false (length s) (z .place) there) e (next-is-event ∙ rw (there, e) refl)
+    event-by (refused n p) e there =
+        bad-event n p is (leb-false (length s) (z .place) there) e (next-is-event ∙ rw (there, e) refl)
 
     end-by : (t : Bool) → leb (length s) (z .place) ≡ t → Ahead z s
     unfolding nextEvent
@@ -54,7 +63,8 @@ module _ (z : Session) (s : List ℕ) where
 -- an event's number stands at its place and takes at least a byte
 pub event-next : (b : Board) (s : List ℕ) (at : ℕ) (v : Found ℕ) → eventAt b s at ≡ given v → at < v .next
 unfolding eventAt
-event-next b s at v e = number-next-within s at (v .value) (v .next) (wanted-found _ noSuchName s at (v .value) (v .next) e .1) .1
+event-next b s at v e =
+    number-next-within s at (v .value) (v .next) (wanted-found _ noSuchName s at (v .value) (v .next) e .1) .1
 
 line-never : (l : Line) → no-line ≡ line l → ⊥
 line-never l e = let z : _≡_ {A = ℕ} 0 1 = ap tag e in omega arith
@@ -74,7 +84,8 @@ module _ (z y : Session) (s : List ℕ) (l : Line) (is : nextOf z s ≡ (y, line
   less-by : Ahead z s → toCome y s < toCome z s
   unfolding toCome toComeAt
   less-by (runs-first at e) = rw (left-by _ _ e, at) (omega arith)
-  less-by (makes-event v at there found e) = rw (left-by _ _ e, at) (omega (arith, event-next (z .board) s (z .place) v found))
+  less-by (makes-event v at there found e) =
+      rw (left-by _ _ e, at) (omega (arith, event-next (z .board) s (z .place) v found))
   less-by (bad-event n p at there bad e) = rw (left-by _ _ e, at) (omega arith)
   less-by (tells-refusal n p at e) = rw (left-by _ _ e, at) (omega arith)
   less-by (at-end at past e) = absurd (never-none e)

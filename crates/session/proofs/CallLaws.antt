@@ -1,4 +1,5 @@
--- What a call of `next_line` hands out, by what comes next in the session; and what a line that was handed out says of the session. For programs that ask for line after line, and for the theorem on all the lines.
+-- What a call of `next_line` hands out, by what comes next in the session; and what a line that was handed out says of
+-- the session. For programs that ask for line after line, and for the theorem on all the lines.
 use Prim.Native.Nat.{ℕ, _<_, _≤_}
 use native.Mathlib.Omega.{arith}
 use mathlib.Core.Path.{_≡_, refl, sym, ap, _∙_}
@@ -18,7 +19,8 @@ use Rattle.session.specs.declared.Handed as code-handed
 use Rattle.session.specs.declared.HandOut as code-handout
 use Rattle.session.specs.declared.HandOut.the-variants as said
 use Rattle.session.specs.Carried.{Session, Coming, line, no-line, nextOf, toldSession}
-use Rattle.session.specs.HandingOut.{HandOut, written, nothing, Handed, handedBy, nextLine, toldHandOut, toldHanded}
+use Rattle.session.specs.HandingOut.{HandOut, written, nothing, Handed, handedBy, nextLine, toldHandOut}
+use Rattle.session.specs.HandingOut.{toldHanded}
 use Rattle.session.specs.ToCome.{toCome}
 use Rattle.session.proofs.AheadLaws.{next-less}
 
@@ -46,7 +48,8 @@ answer-over (said.Line m) e = absurd (nothing-never m (sym (given-injective _ _ 
 answer-over said.Over e = refl
 answer-over (said.Refused r) e = absurd (refused-never (r .number) (r .place) _ e)
 
-module _ (z : code-session.Session) (s out out′ : List ℕ) (r : code-handed.Handed) (called : toldHanded r out′ ≡ nextLine (toldSession z) s out) where
+module _ (z : code-session.Session) (s out out′ : List ℕ) (r : code-handed.Handed)
+    (called : toldHanded r out′ ≡ nextLine (toldSession z) s out) where
   -- with room, the answer is what comes next
   by-next : longestLine ≤ length out → toldHanded r out′ ≡ handedBy (nextOf (toldSession z) s) out
   unfolding nextLine
@@ -60,12 +63,14 @@ module _ (z : code-session.Session) (s out out′ : List ℕ) (r : code-handed.H
     unfolding handedBy
     call-over is = answer-over (r .answer) (ap (λ (h : Handed). h .answer) (next-by no-line is))
 
-    pub call-line : (l : Line) → nextOf (toldSession z) s ≡ (y, line l) → (r .answer ≡ said.Line (length (lineText l))) × (take (length (lineText l)) out′ ≡ lineText l)
+    pub call-line : (l : Line) → nextOf (toldSession z) s ≡ (y, line l)
+        → (r .answer ≡ said.Line (length (lineText l))) × (take (length (lineText l)) out′ ≡ lineText l)
     unfolding handedBy
     call-line l is =
         let told = next-by (line l) is in (
           answer-line (r .answer) (length (lineText l)) (ap (λ (h : Handed). h .answer) told),
-          ap (λ (h : Handed). take (length (lineText l)) (h .out)) told ∙ take-append-seam (lineText l) (drop (length (lineText l)) out),
+          ap (λ (h : Handed). take (length (lineText l)) (h .out)) told ∙ take-append-seam (lineText l)
+              (drop (length (lineText l)) out),
         )
 
   -- what a call that hands out a line says of the session
@@ -75,22 +80,37 @@ module _ (z : code-session.Session) (s out out′ : List ℕ) (r : code-handed.H
     pub text : take n out′ ≡ lineText line-told
     pub fits : n ≤ length out
 
-  came-by : (n : ℕ) → toldHandOut (r .answer) ≡ given (written n) → (x : Session × Coming) → nextOf (toldSession z) s ≡ x → (t : Bool) → leb longestLine (length out) ≡ t → Came n
+  came-by : (n : ℕ) → toldHandOut (r .answer) ≡ given (written n) → (x : Session × Coming)
+      → nextOf (toldSession z) s ≡ x → (t : Bool) → leb longestLine (length out) ≡ t → Came n
   unfolding nextLine handedBy
   came-by n line-said x is false short =
-      let told : toldHanded r out′ ≡ record { session = toldSession z; answer = refused bufferTooShort 0; out = out } = called ∙ rw short refl in
+      let told : toldHanded r out′ ≡ record {
+        session = toldSession z;
+        answer = refused bufferTooShort 0;
+        out =
+            out;
+      } = called ∙ rw short refl in
       absurd (refused-never bufferTooShort 0 (written n) (sym (ap (λ (h : Handed). h .answer) told) ∙ line-said))
   came-by n line-said (y, no-line) is true room =
-      let told : toldHanded r out′ ≡ record { session = y; answer = given nothing; out = out } = called ∙ rw (room, is) refl in
+      let told : toldHanded r out′ ≡ record { session = y; answer = given nothing; out = out } = called
+      ∙ rw (room, is) refl in
       absurd (nothing-never n (given-injective _ _ (sym (ap (λ (h : Handed). h .answer) told) ∙ line-said)))
   came-by n line-said (y, line l) is true room =
       let text = lineText l in
-      let told : toldHanded r out′ ≡ record { session = y; answer = given (written (length text)); out = text ++ drop (length text) out } = called ∙ rw (room, is) refl in
-      let long : length text ≡ n = written-same _ _ (given-injective _ _ (sym (ap (λ (h : Handed). h .answer) told) ∙ line-said)) in
+      let told : toldHanded r out′ ≡ record {
+        session = y;
+        answer = given (written (length text));
+        out = text
+            ++ drop (length text) out;
+      } = called ∙ rw (room, is) refl in
+      let long : length text ≡ n =
+      written-same _ _ (given-injective _ _ (sym (ap (λ (h : Handed). h .answer) told) ∙ line-said)) in
       record {
         line-told = l;
         next = is ∙ ap {B = Session × Coming} (λ x. (x, line l)) (sym (ap (λ (h : Handed). h .session) told));
-        text = ap (λ (k : ℕ). take k out′) (sym long) ∙ ap (λ (h : Handed). take (length text) (h .out)) told ∙ take-append-seam text (drop (length text) out);
+        text =
+            ap (λ (k : ℕ). take k out′) (sym long) ∙ ap (λ (h : Handed). take (length text) (h .out)) told
+            ∙ take-append-seam text (drop (length text) out);
         fits = omega (arith, long, line-length-most l, leb-true longestLine (length out) room);
       }
 

@@ -20,7 +20,8 @@ use Rattle.session.specs.declared.Session as code-session
 use Rattle.events.specs.declared.Shown as code
 use Rattle.session.specs.declared.next.Coming.the-variants as comes
 use Rattle.events.specs.Events.{Shown, eventAt, ranLine, eventLine, toldShown}
-use Rattle.session.specs.Carried.{Session, Coming, no-line, following, goesOn, closes, eventOf, nextEvent, nextAt, nextOf, toldSession, toldNext}
+use Rattle.session.specs.Carried.{Session, Coming, no-line, following, goesOn, closes, eventOf, nextEvent, nextAt}
+use Rattle.session.specs.Carried.{nextOf, toldSession, toldNext}
 
 module _ (e : ℕ) where
   pub following-on : e ≤ longestInput → e + 1 ≡ following e
@@ -40,7 +41,18 @@ following-most e = most (leb e longestInput)
     most false = omega arith
 
 pub goes-on-told : (z : code-session.Session) (x : code.Shown) (at e : ℕ) → e ≡ following (z .event)
-    → toldNext (record { session = record { board = z .board; allowance = z .allowance; state = x .state; event = e; place = at; stage = stage.Events }; coming = comes.Line (x .line) }) ≡ goesOn (toldSession z) (toldShown x) at
+    → toldNext
+    (record {
+      session = record {
+        board = z .board;
+        allowance = z .allowance;
+        state = x .state;
+        event = e;
+        place = at;
+        stage = stage.Events;
+      };
+      coming = comes.Line (x .line);
+    }) ≡ goesOn (toldSession z) (toldShown x) at
 goes-on-told z x at e is = rw is
 
 module _ (z : Session) (s : List ℕ) where
@@ -57,24 +69,32 @@ module _ (z : Session) (s : List ℕ) where
     pub event-refused : (q : Refusal) → x ≡ Refused q → closes z (q .number) (q .place) ≡ nextEvent z s
     unfolding eventOf eventAt
     event-refused q is =
-        let bad : eventAt (z .board) s (z .place) ≡ refused (q .number) (q .place) = wanted-refused _ noSuchName s (z .place) _ _ (told-refused _ x q is read) in
+        let bad : eventAt (z .board) s (z .place) ≡ refused (q .number) (q .place) =
+        wanted-refused _ noSuchName s (z .place) _ _ (told-refused _ x q is read) in
         ap (eventOf z) (sym bad) ∙ event-by
 
-    pub event-no-name : (v next : ℕ) → x ≡ Read v next → z .board .counts .buttons ≤ v / 2 → closes z noSuchName (z .place) ≡ nextEvent z s
+    pub event-no-name : (v next : ℕ) → x ≡ Read v next → z .board .counts .buttons ≤ v / 2
+        → closes z noSuchName (z .place) ≡ nextEvent z s
     unfolding eventOf eventAt
     event-no-name v next is beyond =
-        let bad : eventAt (z .board) s (z .place) ≡ refused noSuchName (z .place) = wanted-fails _ noSuchName s (z .place) v next (told-found _ x v next is read) (le-ltb (v / 2) (z .board .counts .buttons) beyond) in
+        let bad : eventAt (z .board) s (z .place) ≡ refused noSuchName (z .place) =
+        wanted-fails _ noSuchName s (z .place) v next (told-found _ x v next is read)
+        (le-ltb (v / 2) (z .board .counts .buttons) beyond) in
         ap (eventOf z) (sym bad) ∙ event-by
 
-    pub event-made : (v next : ℕ) (y : Shown) → x ≡ Read v next → v / 2 < z .board .counts .buttons → y ≡ eventLine (z .board) (z .event) (z .state) v (z .allowance) → goesOn z y next ≡ nextEvent z s
+    pub event-made : (v next : ℕ) (y : Shown) → x ≡ Read v next → v / 2 < z .board .counts .buttons
+        → y ≡ eventLine (z .board) (z .event) (z .state) v (z .allowance) → goesOn z y next ≡ nextEvent z s
     unfolding eventOf eventAt
     event-made v next y is below told =
-        let ok : eventAt (z .board) s (z .place) ≡ found v next = wanted-passes _ noSuchName s (z .place) v next (told-found _ x v next is read) (lt-ltb (v / 2) (z .board .counts .buttons) below) in
+        let ok : eventAt (z .board) s (z .place) ≡ found v next =
+        wanted-passes _ noSuchName s (z .place) v next (told-found _ x v next is read)
+        (lt-ltb (v / 2) (z .board .counts .buttons) below) in
         ap (λ (x : Shown). goesOn z x next) told ∙ ap (eventOf z) (sym ok) ∙ event-by
 
 -- the next line, by the stage
 module _ (z : code-session.Session) (s : List ℕ) where
-  pub next-first : (y : Shown) → z .stage ≡ stage.First → y ≡ ranLine (z .board) (z .event) (z .state) (z .allowance) → goesOn (toldSession z) y (z .place) ≡ nextOf (toldSession z) s
+  pub next-first : (y : Shown) → z .stage ≡ stage.First → y ≡ ranLine (z .board) (z .event) (z .state)
+      (z .allowance) → goesOn (toldSession z) y (z .place) ≡ nextOf (toldSession z) s
   unfolding nextOf nextAt
   next-first y is told = rw (told, is)
 
@@ -82,7 +102,8 @@ module _ (z : code-session.Session) (s : List ℕ) where
   unfolding nextOf nextAt
   next-events is = rw is
 
-  pub next-refusing : (q : Refusal) → z .stage ≡ stage.Refused q → closes (toldSession z) (q .number) (q .place) ≡ nextOf (toldSession z) s
+  pub next-refusing : (q : Refusal) → z .stage ≡ stage.Refused q → closes (toldSession z) (q .number)
+      (q .place) ≡ nextOf (toldSession z) s
   unfolding nextOf nextAt
   next-refusing q is = rw is
 

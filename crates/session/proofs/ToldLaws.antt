@@ -32,7 +32,15 @@ told-stage-injective stage.Over stage.Over e = refl
 
 pub told-session-injective : (x y : Session) → toldSession x ≡ toldSession y → x ≡ y
 told-session-injective x y e =
-    λ i. record { board = e i .board; allowance = e i .allowance; state = e i .state; event = e i .event; place = e i .place; stage = told-stage-injective (x .stage) (y .stage) (λ j. e j .stage) i }
+    λ i. record {
+      board = e i .board;
+      allowance = e i .allowance;
+      state = e i .state;
+      event = e i .event;
+      place =
+          e i .place;
+      stage = told-stage-injective (x .stage) (y .stage) (λ j. e j .stage) i;
+    }
 
 told-hand-out-injective : (x y : HandOut) → toldHandOut x ≡ toldHandOut y → x ≡ y
 told-hand-out-injective (said.Line m) (said.Line n) e = ap said.Line (cc)
@@ -48,6 +56,10 @@ told-hand-out-injective (said.Refused r) (said.Refused q) e = ap said.Refused (r
 -- the answer and the buffer afterwards
 pub told-handed-injective : (x y : Handed) (o p : List ℕ) → toldHanded x o ≡ toldHanded y p → (x ≡ y) × (o ≡ p)
 told-handed-injective x y o p e = (
-  λ i. record { session = told-session-injective (x .session) (y .session) (λ j. e j .session) i; answer = told-hand-out-injective (x .answer) (y .answer) (λ j. e j .answer) i },
+  λ i. record {
+    session = told-session-injective (x .session) (y .session) (λ j. e j .session) i;
+    answer =
+        told-hand-out-injective (x .answer) (y .answer) (λ j. e j .answer) i;
+  },
   λ i. e i .out,
 )

@@ -1,9 +1,11 @@
 -- What a session carries from line to line, and its next line.
---     Stage                  what the next line is: first, that of the first run; events, that of an event; refusing n p, that of the refusal n at p; over, none
+--     Stage                  what the next line is: first, that of the first run; events, that of an event; refusing n
+--                            p, that of the refusal n at p; over, none
 --     Session                the board and allowance, the state, the number and place of the next event, and the stage
 --     begunFrom o, opening s    the session that begins with the head o; with the head of the input s
 --     Coming                 the next line, or none
---     following e            the number after e. It stands still past the longest input, where no session comes: each event takes a byte
+--     following e            the number after e. It stands still past the longest input, where no session comes: each
+--                            event takes a byte
 --     goesOn z x at          z tells x, and goes on with the event at a place
 --     closes z n p           z tells the refusal n at p, and is over
 --     eventOf z o            z makes the event o and tells of it; where its number is refused, z tells that and is over
@@ -45,8 +47,18 @@ pub record Session : Type 0 where
   pub stage : Stage
 
 unfoldable pub begunFrom : Outcome (Found Head) → Session
-begunFrom (given h) = record { board = h .value .board; allowance = h .value .allowance; state = freshState; event = 0; place = h .next; stage = first }
-begunFrom (refused n p) = record { board = emptyBoard; allowance = 0; state = freshState; event = 0; place = 0; stage = refusing n p }
+begunFrom (given h) =
+    record {
+      board = h .value .board;
+      allowance = h .value .allowance;
+      state = freshState;
+      event = 0;
+      place =
+          h .next;
+      stage = first;
+    }
+begunFrom (refused n p) =
+    record { board = emptyBoard; allowance = 0; state = freshState; event = 0; place = 0; stage = refusing n p }
 
 unfoldable pub beginning : List ℕ → Session
 beginning s = begunFrom (headAt s)
@@ -59,10 +71,30 @@ unfoldable pub following : ℕ → ℕ
 following e = cond (leb e longestInput) (suc e) e
 
 abbrev pub goesOn : Session → Shown → ℕ → Session × Coming
-goesOn z x at = (record { board = z .board; allowance = z .allowance; state = x .1; event = following (z .event); place = at; stage = events }, line (x .0))
+goesOn z x at = (
+  record {
+    board = z .board;
+    allowance = z .allowance;
+    state = x .1;
+    event = following (z .event);
+    place = at;
+    stage = events;
+  },
+  line (x .0),
+)
 
 abbrev pub closes : Session → ℕ → ℕ → Session × Coming
-closes z n p = (record { board = z .board; allowance = z .allowance; state = z .state; event = z .event; place = z .place; stage = over }, line (closing n p))
+closes z n p = (
+  record {
+    board = z .board;
+    allowance = z .allowance;
+    state = z .state;
+    event = z .event;
+    place = z .place;
+    stage = over;
+  },
+  line (closing n p),
+)
 
 unfoldable pub eventOf : Session → Outcome (Found ℕ) → Session × Coming
 eventOf z (given v) = goesOn z (eventLine (z .board) (z .event) (z .state) (v .value) (z .allowance)) (v .next)
@@ -87,7 +119,15 @@ toldStage said.Over = over
 toldStage (said.Refused r) = refusing (r .number) (r .place)
 
 abbrev pub toldSession : code-session.Session → Session
-toldSession z = record { board = z .board; allowance = z .allowance; state = z .state; event = z .event; place = z .place; stage = toldStage (z .stage) }
+toldSession z =
+    record {
+      board = z .board;
+      allowance = z .allowance;
+      state = z .state;
+      event = z .event;
+      place = z .place;
+      stage = toldStage (z .stage);
+    }
 
 abbrev pub toldComing : code-coming.Coming → Coming
 toldComing (comes.Line l) = line (toldLine l)

@@ -1,4 +1,5 @@
--- Handing out a session's lines, one at a time, into a lent buffer. "Log and output buffer stay as lent"; "Written bytes begin the buffer; the rest stays."
+-- Handing out a session's lines, one at a time, into a lent buffer. "Log and output buffer stay as lent"; "Written
+-- bytes begin the buffer; the rest stays."
 --     HandOut                 a line of so many bytes, or none
 --     Handed              the session to carry on, the answer, and the buffer afterwards
 --     writtenAnswer o        the answer where writing the line came to o; only for the inner function `answer_of`
@@ -32,7 +33,13 @@ writtenAnswer (given n) = given (written n)
 writtenAnswer (refused n p) = refused n p
 
 unfoldable pub handedBy : Session × Coming → List ℕ → Handed
-handedBy (z, line l) out = record { session = z; answer = given (written (length (lineText l))); out = lineText l ++ drop (length (lineText l)) out }
+handedBy (z, line l) out =
+    record {
+      session = z;
+      answer = given (written (length (lineText l)));
+      out = lineText l
+          ++ drop (length (lineText l)) out;
+    }
 handedBy (z, no-line) out = record { session = z; answer = given nothing; out = out }
 
 unfoldable pub nextLine : Session → List ℕ → List ℕ → Handed

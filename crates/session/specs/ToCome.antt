@@ -1,4 +1,5 @@
--- How many lines can come at most. Only for the loop of a program that asks for line after line: by this number it ends.
+-- How many lines can come at most. Only for the loop of a program that asks for line after line: by this number it
+-- ends.
 --     toComeAt k n      at the stage k, where n bytes of the input are left
 --     toCome z s        of the session z on the input s
 use Prim.Native.Nat.{ℕ, suc, _-_}

@@ -1,4 +1,5 @@
--- One event on a board that breaks no rule, in a state that fits it: where its line tells of a refusal, it is 12; the line has the word of drawn relays of the state after it; and that state fits again.
+-- One event on a board that breaks no rule, in a state that fits it: where its line tells of a refusal, it is 12; the
+-- line has the word of drawn relays of the state after it; and that state fits again.
 use Prim.Native.Nat.{ℕ, _/_, _%_, _≤_}
 use native.Mathlib.Omega.{arith}
 use mathlib.Core.Path.{_≡_, refl, subst}
@@ -57,7 +58,8 @@ module _ (b : Board) (fine : boardFine b ≡ true) where
 
   -- ---- a push or a release
 
-  left-fits : (t u : State) (already : Bool) → stateFine (b .counts) t ≡ true → stateFine (b .counts) u ≡ true → PressFits b (left t (λ _. u) (unless (not already) alreadySo 0))
+  left-fits : (t u : State) (already : Bool) → stateFine (b .counts) t ≡ true → stateFine (b .counts) u ≡ true
+      → PressFits b (left t (λ _. u) (unless (not already) alreadySo 0))
   unfolding left
   left-fits t u true before after = record { twelve = refl; fits = before }
   left-fits t u false before after = record { twelve = tt; fits = after }
@@ -70,13 +72,18 @@ module _ (b : Board) (fine : boardFine b ≡ true) where
 
     push-fits : PressFits b (pushing b t n)
     unfolding pushing
-    push-fits = rw (pressable-twelve (isPushed t n)) (left-fits t (withPushed t n) (isPushed t n) fits (state-fits-push (b .counts) t n fits (ltb-true n (b .counts .buttons) below)))
+    push-fits =
+        rw (pressable-twelve (isPushed t n)) (left-fits t (withPushed t n) (isPushed t n) fits
+        (state-fits-push (b .counts) t n fits (ltb-true n (b .counts .buttons) below)))
 
     release-fits : PressFits b (releasing b t n)
     unfolding releasing
-    release-fits = rw (pressable-twelve (not (isPushed t n))) (left-fits t (withReleased t n) (not (isPushed t n)) fits (state-fits-release (b .counts) t n fits))
+    release-fits =
+        rw (pressable-twelve (not (isPushed t n)))
+        (left-fits t (withReleased t n) (not (isPushed t n)) fits (state-fits-release (b .counts) t n fits))
 
-  press-fits : (t : State) (v : ℕ) → stateFine (b .counts) t ≡ true → ltb (v / 2) (b .counts .buttons) ≡ true → PressFits b (pressing b t v)
+  press-fits : (t : State) (v : ℕ) → stateFine (b .counts) t ≡ true → ltb (v / 2) (b .counts .buttons) ≡ true
+      → PressFits b (pressing b t v)
   unfolding pressing
   press-fits t v fits below = by (eqb (v % 2) 1)
     where
@@ -91,6 +98,7 @@ module _ (b : Board) (fine : boardFine b ≡ true) where
   pressed-fits w e (t, given u) so = ran-fits w e t (so .fits)
   pressed-fits w e (t, refused n p) so = record { twelve = so .twelve; drawn = refl; fits = so .fits }
 
-  pub event-fits : (w e : ℕ) (t : State) (v : ℕ) → stateFine (b .counts) t ≡ true → ltb (v / 2) (b .counts .buttons) ≡ true → ShownFits b (eventLine b e t v w)
+  pub event-fits : (w e : ℕ) (t : State) (v : ℕ) → stateFine (b .counts) t ≡ true
+      → ltb (v / 2) (b .counts .buttons) ≡ true → ShownFits b (eventLine b e t v w)
   unfolding eventLine
   event-fits w e t v fits below = pressed-fits w e (pressing b t v) (press-fits t v fits below)

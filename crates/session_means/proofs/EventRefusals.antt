@@ -9,7 +9,8 @@ use Rattle.session_means.specs.EventRefusals.{OnlyTwelve, EventsRefused}
 use Rattle.session_means.proofs.LinesWalk.{Along, HeadFine, head-fine, head-walk}
 
 along-twelve : (h : Head) → Along h (λ e t ls. All OnlyTwelve ls)
-along-twelve h = record { none = λ e t. tt; closes = λ e t n p. (tt, tt); shown = λ e t x ls shows so on. (so .twelve, on) }
+along-twelve h =
+    record { none = λ e t. tt; closes = λ e t n p. (tt, tt); shown = λ e t x ls shows so on. (so .twelve, on) }
 
 head-lines-twelve : (o : Outcome (Found Head)) (s : List ℕ) → Gives HeadFine o → All OnlyTwelve (headLines o s)
 unfolding headLines

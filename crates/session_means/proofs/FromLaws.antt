@@ -1,4 +1,5 @@
--- Laws of `linesFrom`: at the input's end no line comes, before it one event's; and more events allowed for than there are bytes left change nothing.
+-- Laws of `linesFrom`: at the input's end no line comes, before it one event's; and more events allowed for than there
+-- are bytes left change nothing.
 use Prim.Native.Nat.{ℕ, zero, suc, _-_, _<_, _≤_}
 use native.Mathlib.Omega.{arith}
 use mathlib.Core.Path.{_≡_, refl, sym, ap, _∙_}
@@ -21,26 +22,38 @@ module _ (b : Board) (w : ℕ) (s : List ℕ) where
   from-end zero t e at past = refl
   from-end (suc k) t e at past = rw (le-leb (length s) at past) refl
 
-  pub from-event : (k : ℕ) (t : State) (e at : ℕ) → at < length s → linesFrom (suc k) b s t e at w ≡ eventLines (eventAt b s at) (λ v. eventLine b e t v w) (λ u next. linesFrom k b s u (suc e) next w)
+  pub from-event : (k : ℕ) (t : State) (e at : ℕ) → at < length s → linesFrom (suc k) b s t e at w ≡ eventLines
+      (eventAt b s at) (λ v. eventLine b e t v w) (λ u next. linesFrom k b s u (suc e) next w)
   unfolding linesFrom
   from-event k t e at there = rw (lt-leb (length s) at there) refl
 
   -- two ways to go on after an event that agree at the places after it
-  lines-same : (at : ℕ) (tell : ℕ → Shown) (go stay : State → ℕ → List Line) → ((u : State) (next : ℕ) → at < next → go u next ≡ stay u next)
+  lines-same : (at : ℕ) (tell : ℕ → Shown) (go stay : State → ℕ → List Line)
+      → ((u : State) (next : ℕ) → at < next → go u next ≡ stay u next)
       → (o : Outcome (Found ℕ)) → eventAt b s at ≡ o → eventLines o tell go ≡ eventLines o tell stay
-  lines-same at tell go stay same (given v) e = ap {B = List Line} (λ ls. tell (v .value) .0 ∷ ls) (same (tell (v .value) .1) (v .next) (event-next b s at v e))
+  lines-same at tell go stay same (given v) e =
+      ap {B = List Line} (λ ls. tell (v .value) .0 ∷ ls)
+      (same (tell (v .value) .1) (v .next) (event-next b s at v e))
   lines-same at tell go stay same (refused n p) e = refl
 
-  enough-by : (k m : ℕ) (t : State) (e at : ℕ) → ((u : State) (next : ℕ) → at < next → linesFrom k b s u (suc e) next w ≡ linesFrom m b s u (suc e) next w)
+  enough-by : (k m : ℕ) (t : State) (e at : ℕ)
+      → ((u : State) (next : ℕ) → at < next → linesFrom k b s u (suc e) next w ≡ linesFrom m b s u (suc e) next w)
       → (past : Bool) → leb (length s) at ≡ past → linesFrom (suc k) b s t e at w ≡ linesFrom (suc m) b s t e at w
-  enough-by k m t e at same true past = from-end (suc k) t e at (leb-true (length s) at past) ∙ sym (from-end (suc m) t e at (leb-true (length s) at past))
+  enough-by k m t e at same true past =
+      from-end (suc k) t e at (leb-true (length s) at past)
+      ∙ sym (from-end (suc m) t e at (leb-true (length s) at past))
   enough-by k m t e at same false there =
       from-event k t e at (leb-false (length s) at there)
-      ∙ lines-same at (λ v. eventLine b e t v w) (λ u next. linesFrom k b s u (suc e) next w) (λ u next. linesFrom m b s u (suc e) next w) same (eventAt b s at) refl
+      ∙ lines-same at (λ v. eventLine b e t v w) (λ u next. linesFrom k b s u (suc e) next w)
+      (λ u next. linesFrom m b s u (suc e) next w) same (eventAt b s at) refl
       ∙ sym (from-event m t e at (leb-false (length s) at there))
 
   -- k and m both allow for an event on each byte left
-  pub from-enough : (k m : ℕ) (t : State) (e at : ℕ) → length s - at ≤ k → length s - at ≤ m → linesFrom k b s t e at w ≡ linesFrom m b s t e at w
+  pub from-enough : (k m : ℕ) (t : State) (e at : ℕ) → length s - at ≤ k → length s - at ≤ m
+      → linesFrom k b s t e at w ≡ linesFrom m b s t e at w
   from-enough zero m t e at few most = from-end zero t e at (omega arith) ∙ sym (from-end m t e at (omega arith))
-  from-enough (suc k) zero t e at most few = from-end (suc k) t e at (omega arith) ∙ sym (from-end zero t e at (omega arith))
-  from-enough (suc k) (suc m) t e at most more = enough-by k m t e at (λ u next later. from-enough k m u (suc e) next (omega arith) (omega arith)) (leb (length s) at) refl
+  from-enough (suc k) zero t e at most few =
+      from-end (suc k) t e at (omega arith) ∙ sym (from-end zero t e at (omega arith))
+  from-enough (suc k) (suc m) t e at most more =
+      enough-by k m t e at (λ u next later. from-enough k m u (suc e) next (omega arith) (omega arith))
+      (leb (length s) at) refl

@@ -1,4 +1,5 @@
--- The theorems: what the calls have handed out so far are the first of the session's lines, and the next call hands out the next.
+-- The theorems: what the calls have handed out so far are the first of the session's lines, and the next call hands out
+-- the next.
 use Prim.Native.Nat.{ℕ, _≤_}
 use mathlib.Core.Bool.{Bool, true, false}
 use mathlib.Core.Path.{_≡_, refl, sym, ap, subst, _∙_}
@@ -30,27 +31,42 @@ record From (s : List ℕ) (z : code-session.Session) (ts : List (List ℕ)) (z�
   pub numbered : Numbered (toldSession z′) s
 
 module _ (s : List ℕ) where
-  hands-first : (z y : code-session.Session) (t : List ℕ) → Numbered (toldSession z) s → Hands s z t y → From s z (t ∷ []) y
+  hands-first : (z y : code-session.Session) (t : List ℕ) → Numbered (toldSession z) s → Hands s z t y
+      → From s z (t ∷ []) y
   unfolding lineTexts
   hands-first z y t numbered h =
       let c = came z s (h .out) (h .out′) (h .answer) (h .called) (h .bytes) (h .line) in
-      let next : nextOf (toldSession z) s ≡ (toldSession y, line (c .line-told)) = c .next ∙ ap {B = Session × Coming} (λ (x : code-session.Session). (toldSession x, line (c .line-told))) (h .after) in
+      let next : nextOf (toldSession z) s ≡ (toldSession y, line (c .line-told)) =
+      c .next ∙ ap {B = Session × Coming} (λ (x : code-session.Session). (toldSession x, line (c .line-told)))
+      (h .after) in
       record {
-        told = ap lineTexts (still-next (toldSession z) s numbered _ next) ∙ ap (λ (x : List ℕ). x ∷ ahead y s) (sym (c .text) ∙ h .text);
+        told =
+            ap lineTexts (still-next (toldSession z) s numbered _ next) ∙ ap (λ (x : List ℕ). x ∷ ahead y s)
+            (sym (c .text) ∙ h .text);
         numbered = numbered-next (toldSession z) s numbered _ _ next;
       }
 
-  from-start : (ts : List (List ℕ)) (z z′ : code-session.Session) → Numbered (toldSession z) s → HandsOut s z ts z′ → From s z ts z′
-  from-start [] z z′ numbered same = record { told = ap (λ (x : code-session.Session). ahead x s) same; numbered = subst (λ (x : code-session.Session). Numbered (toldSession x) s) same numbered }
+  from-start : (ts : List (List ℕ)) (z z′ : code-session.Session) → Numbered (toldSession z) s → HandsOut s z ts z′
+      → From s z ts z′
+  from-start [] z z′ numbered same =
+      record {
+        told = ap (λ (x : code-session.Session). ahead x s) same;
+        numbered =
+            subst (λ (x : code-session.Session). Numbered (toldSession x) s) same numbered;
+      }
   from-start (t ∷ ts) z z′ numbered (y, (h, after)) =
       let one = hands-first z y t numbered h in
       let rest = from-start ts y z′ (one .numbered) after in
       record { told = one .told ∙ ap {B = List (List ℕ)} (λ ls. t ∷ ls) (rest .told); numbered = rest .numbered }
 
-  tells-by : (z : code-session.Session) (out out′ : List ℕ) (r : code-handed.Handed) → Numbered (toldSession z) s → longestLine ≤ length out → Called z s out r out′ → (x : Session × Coming) → nextOf (toldSession z) s ≡ x → Tells (ahead z s) r out′
+  tells-by : (z : code-session.Session) (out out′ : List ℕ) (r : code-handed.Handed) → Numbered (toldSession z) s
+      → longestLine ≤ length out → Called z s out r out′ → (x : Session × Coming) → nextOf (toldSession z) s ≡ x
+      → Tells (ahead z s) r out′
   unfolding lineTexts
-  tells-by z out out′ r numbered room called (y, no-line) is = rw (still-next (toldSession z) s numbered _ is) (call-over z s out out′ r called room y is)
-  tells-by z out out′ r numbered room called (y, line l) is = rw (still-next (toldSession z) s numbered _ is) (call-line z s out out′ r called room y l is)
+  tells-by z out out′ r numbered room called (y, no-line) is =
+      rw (still-next (toldSession z) s numbered _ is) (call-over z s out out′ r called room y is)
+  tells-by z out out′ r numbered room called (y, line l) is =
+      rw (still-next (toldSession z) s numbered _ is) (call-line z s out out′ r called room y l is)
 
 pub lines-handed-out : LinesHandedOut
 lines-handed-out s z z′ ts begun out =
@@ -59,20 +75,30 @@ lines-handed-out s z z′ ts begun out =
     record {
       rest = ahead z′ s;
       all = ap lineTexts (sym (opening-still s) ∙ ap (λ (x : Session). still x s) (sym begun)) ∙ so .told;
-      next = λ out out′ r room called. tells-by s z′ out out′ r (so .numbered) room called (nextOf (toldSession z′) s) refl;
+      next =
+          λ out out′ r room called. tells-by s z′ out out′ r (so .numbered) room called (nextOf (toldSession z′) s)
+          refl;
     }
 
 -- a call that says that there is none has room for a line
-over-room : (z : code-session.Session) (s out out′ : List ℕ) (r : code-handed.Handed) → Called z s out r out′ → r .answer ≡ Over → (t : Bool) → leb longestLine (length out) ≡ t → longestLine ≤ length out
+over-room : (z : code-session.Session) (s out out′ : List ℕ) (r : code-handed.Handed) → Called z s out r out′
+    → r .answer ≡ Over → (t : Bool) → leb longestLine (length out) ≡ t → longestLine ≤ length out
 unfolding nextLine
 over-room z s out out′ r called over true room = leb-true longestLine (length out) room
 over-room z s out out′ r called over false short =
-    let told : toldHanded r out′ ≡ record { session = toldSession z; answer = refused bufferTooShort 0; out = out } = called ∙ rw short refl in
+    let told : toldHanded r out′ ≡ record {
+      session = toldSession z;
+      answer = refused bufferTooShort 0;
+      out =
+          out;
+    } = called ∙ rw short refl in
     absurd (refused-never bufferTooShort 0 nothing (sym (ap (λ (h : Handed). h .answer) told) ∙ ap toldHandOut over))
 
-none-left : (rest : List (List ℕ)) (r : code-handed.Handed) (out′ : List ℕ) → Tells rest r out′ → r .answer ≡ Over → rest ≡ []
+none-left : (rest : List (List ℕ)) (r : code-handed.Handed) (out′ : List ℕ) → Tells rest r out′ → r .answer ≡ Over
+    → rest ≡ []
 none-left [] r out′ tells over = refl
-none-left (t ∷ ts) r out′ tells over = absurd (nothing-never (length t) (given-injective _ _ (ap toldHandOut (sym over ∙ tells .0))))
+none-left (t ∷ ts) r out′ tells over =
+    absurd (nothing-never (length t) (given-injective _ _ (ap toldHandOut (sym over ∙ tells .0))))
 
 pub all-handed-out : AllHandedOut
 all-handed-out s z z′ ts out out′ r begun handed called over =

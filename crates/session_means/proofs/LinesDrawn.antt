@@ -1,4 +1,5 @@
--- The theorem: in every session the last number of an event's line is the sum over the relays drawn in the state that it leaves. That state fits the board, so its word of drawn relays is the sum.
+-- The theorem: in every session the last number of an event's line is the sum over the relays drawn in the state that
+-- it leaves. That state fits the board, so its word of drawn relays is the sum.
 use Prim.Native.Nat.{ℕ, suc}
 use mathlib.Core.Path.{refl, subst, _∙_}
 use mathlib.Core.List.{List, _∷_}
@@ -12,8 +13,15 @@ use Rattle.session_means.specs.LinesDrawn.{EventShows, SumsFrom, LinesDr
 use Rattle.session_means.proofs.EventFits.{ShownFits}
 use Rattle.session_means.proofs.LinesWalk.{Along, HeadFine, head-fine, head-walk}
 
-shown-sum : (h : Head) (e : ℕ) (t : State) (x : Shown) (ls : List Line) → EventShows h e t x → ShownFits (h .board) x → SumsFrom h (suc e) (x .1) ls → SumsFrom h e t (x .0 ∷ ls)
-shown-sum h e t (event n o m d, u) ls shows so on = (u, (record { shows = shows; fits = so .fits; sum = so .drawn ∙ drawn-is-sum (h .board .counts) u (so .fits) }, on))
+shown-sum : (h : Head) (e : ℕ) (t : State) (x : Shown) (ls : List Line) → EventShows h e t x
+    → ShownFits (h .board) x → SumsFrom h (suc e) (x .1) ls → SumsFrom h e t (x .0 ∷ ls)
+shown-sum h e t (event n o m d, u) ls shows so on = (
+  u,
+  (
+    record { shows = shows; fits = so .fits; sum = so .drawn ∙ drawn-is-sum (h .board .counts) u (so .fits) },
+    on,
+  ),
+)
 shown-sum h e t (closing n p, u) ls shows so on = absurd (so .drawn)
 
 along-drawn : (h : Head) → Along h (SumsFrom h)
@@ -21,4 +29,6 @@ along-drawn h = record { none = λ e t. tt; closes = λ e t n p. refl; shown = s
 
 pub lines-drawn : LinesDrawn
 unfolding sessionLines
-lines-drawn s h read = rw read (head-walk h s (subst (Gives HeadFine) read (head-fine s)) (SumsFrom (h .value)) (along-drawn (h .value)))
+lines-drawn s h read =
+    rw read (head-walk h s (subst (Gives HeadFine) read (head-fine s)) (SumsFrom (h .value))
+    (along-drawn (h .value)))

@@ -1,4 +1,5 @@
--- The lines of a session, one after the other, for whatever is to be shown of them: by induction on the events, with the state before each fitting the board. The theorems are its instances.
+-- The lines of a session, one after the other, for whatever is to be shown of them: by induction on the events, with
+-- the state before each fitting the board. The theorems are its instances.
 use Prim.Native.Nat.{ℕ, zero, suc, _/_}
 use mathlib.Core.Path.{_≡_, refl}
 use mathlib.Core.Bool.{Bool, true, false, cond}
@@ -22,26 +23,32 @@ use Rattle.session.specs.Sessions.{Head, withAllowance, headAt, eventLines, lin
 use Rattle.session_means.specs.LinesDrawn.{EventShows}
 use Rattle.session_means.proofs.EventFits.{ShownFits, ran-fits, event-fits}
 
--- what is to be shown of the lines from event e on, in state t: of none, of the line that ends a session, and of an event's line before others
+-- what is to be shown of the lines from event e on, in state t: of none, of the line that ends a session, and of an
+-- event's line before others
 pub record Along (h : Head) (Q : ℕ → State → List Line → Type 0) : Type 0 where
   pub none : (e : ℕ) (t : State) → Q e t []
   pub closes : (e : ℕ) (t : State) (n p : ℕ) → Q e t (closing n p ∷ [])
-  pub shown : (e : ℕ) (t : State) (x : Shown) (ls : List Line) → EventShows h e t x → ShownFits (h .board) x → Q (suc e) (x .1) ls → Q e t (x .0 ∷ ls)
+  pub shown : (e : ℕ) (t : State) (x : Shown) (ls : List Line) → EventShows h e t x → ShownFits (h .board) x
+      → Q (suc e) (x .1) ls → Q e t (x .0 ∷ ls)
 
 -- ---- the events
 
-module _ (h : Head) (s : List ℕ) (fine : boardFine (h .board) ≡ true) (Q : ℕ → State → List Line → Type 0) (so : Along h Q) where
+module _ (h : Head) (s : List ℕ) (fine : boardFine (h .board) ≡ true) (Q : ℕ → State → List Line → Type 0)
+    (so : Along h Q) where
   -- the event's button is one of the board's
   abbrev Named : Found ℕ → Type 0
   Named v = ltb (v .value / 2) (h .board .counts .buttons) ≡ true
 
   event-named : (at : ℕ) → Gives Named (eventAt (h .board) s at)
   unfolding eventAt
-  event-named at = wanted-gives Named (λ v. ltb (v / 2) (h .board .counts .buttons)) noSuchName s at (λ v read below. below)
+  event-named at =
+      wanted-gives Named (λ v. ltb (v / 2) (h .board .counts .buttons)) noSuchName s at (λ v read below. below)
 
   -- event e, in state t that fits, and the lines after it
-  event-walk : (e : ℕ) (t : State) (o : Outcome (Found ℕ)) (go : State → ℕ → List Line) → stateFine (h .board .counts) t ≡ true → Gives Named o
-      → ((u : State) (next : ℕ) → stateFine (h .board .counts) u ≡ true → Q (suc (suc e)) u (go u next)) → Q (suc e) t (eventLines o (λ v. eventLine (h .board) (suc e) t v (h .allowance)) go)
+  event-walk : (e : ℕ) (t : State) (o : Outcome (Found ℕ)) (go : State → ℕ → List Line)
+      → stateFine (h .board .counts) t ≡ true → Gives Named o
+      → ((u : State) (next : ℕ) → stateFine (h .board .counts) u ≡ true → Q (suc (suc e)) u (go u next))
+      → Q (suc e) t (eventLines o (λ v. eventLine (h .board) (suc e) t v (h .allowance)) go)
   event-walk e t (given v) go fits named on =
       let x = eventLine (h .board) (suc e) t (v .value) (h .allowance) in
       let after = event-fits (h .board) fine (h .allowance) (suc e) t (v .value) fits named in
@@ -52,12 +59,14 @@ module _ (h : Head) (s : List ℕ) (fine : boardFine (h .board) ≡ true) (Q : �
   unless-over e t true ls all = so .none e t
   unless-over e t false ls all = all
 
-  lines-walk : (k : ℕ) (t : State) (e at : ℕ) → stateFine (h .board .counts) t ≡ true → Q (suc e) t (linesFrom k (h .board) s t (suc e) at (h .allowance))
+  lines-walk : (k : ℕ) (t : State) (e at : ℕ) → stateFine (h .board .counts) t ≡ true
+      → Q (suc e) t (linesFrom k (h .board) s t (suc e) at (h .allowance))
   unfolding linesFrom
   lines-walk zero t e at fits = so .none (suc e) t
   lines-walk (suc k) t e at fits =
       unless-over (suc e) t (leb (length s) at) _
-      (event-walk e t (eventAt (h .board) s at) (λ u next. linesFrom k (h .board) s u (suc (suc e)) next (h .allowance)) fits (event-named at)
+      (event-walk e t (eventAt (h .board) s at)
+      (λ u next. linesFrom k (h .board) s u (suc (suc e)) next (h .allowance)) fits (event-named at)
       (λ u next after. lines-walk k u (suc e) next after))
 
 -- ---- the session
@@ -67,10 +76,14 @@ HeadFine h = boardFine (h .value .board) ≡ true
 
 pub head-fine : (s : List ℕ) → Gives HeadFine (headAt s)
 unfolding headAt withAllowance
-head-fine s = gives-then (BoardRead s (reading s .0)) HeadFine (reading s .1) _ (read-fine s) (λ at was. gives-after HeadFine (numberAt s at) _ (λ w read. was .fine))
+head-fine s =
+    gives-then (BoardRead s (reading s .0)) HeadFine (reading s .1) _ (read-fine s)
+    (λ at was. gives-after HeadFine (numberAt s at) _ (λ w read. was .fine))
 
-pub head-walk : (h : Found Head) (s : List ℕ) → HeadFine h → (Q : ℕ → State → List Line → Type 0) → Along (h .value) Q → Q 0 freshState (headLines (given h) s)
+pub head-walk : (h : Found Head) (s : List ℕ) → HeadFine h → (Q : ℕ → State → List Line → Type 0)
+    → Along (h .value) Q → Q 0 freshState (headLines (given h) s)
 unfolding headLines
 head-walk h s fine Q so =
-    let first = ran-fits (h .value .board) fine (h .value .allowance) 0 freshState (fresh-fits (h .value .board .counts)) in
+    let first =
+    ran-fits (h .value .board) fine (h .value .allowance) 0 freshState (fresh-fits (h .value .board .counts)) in
     so .shown 0 freshState _ _ refl first (lines-walk (h .value) s fine Q so (length s) _ 0 (h .next) (first .fits))

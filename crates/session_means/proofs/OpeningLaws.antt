@@ -38,7 +38,8 @@ read-short s at read = by (leb (length s) longestInput) refl
   where
     by : (t : Bool) → leb (length s) longestInput ≡ t → length s ≤ longestInput
     by true e = leb-true (length s) longestInput e
-    by false e = absurd (refused-never inputTooLong 0 at (sym (long-refused s (leb-false (length s) longestInput e)) ∙ read))
+    by false e =
+        absurd (refused-never inputTooLong 0 at (sym (long-refused s (leb-false (length s) longestInput e)) ∙ read))
 
 head-short : (s : List ℕ) (h : Found Head) → headAt s ≡ given h → length s ≤ longestInput
 unfolding headAt
@@ -46,7 +47,8 @@ head-short s h e =
     let board = handed (reading s .1) (λ at. withAllowance (reading s .0) (numberAt s at)) h e in
     read-short s (board .value) (board .first)
 
-opened-numbered : (o : Outcome (Found Head)) (s : List ℕ) → ((h : Found Head) → o ≡ given h → length s ≤ longestInput) → Numbered (begunFrom o) s
+opened-numbered : (o : Outcome (Found Head)) (s : List ℕ)
+    → ((h : Found Head) → o ≡ given h → length s ≤ longestInput) → Numbered (begunFrom o) s
 unfolding begunFrom toCome toComeAt
 opened-numbered (given h) s short = omega (arith, short h refl)
 opened-numbered (refused n p) s short = omega arith

@@ -1,4 +1,6 @@
--- Rule book: "An event refused by 12 prints its number, `refused` and 12". A session's line would print any other number as well; but its board was read and breaks no rule, its state fits that board, and its log is not too long, so no push, release or run of a session is refused by 15, 14, 13 or 7.
+-- Rule book: "An event refused by 12 prints its number, `refused` and 12". A session's line would print any other
+-- number as well; but its board was read and breaks no rule, its state fits that board, and its log is not too long, so
+-- no push, release or run of a session is refused by 15, 14, 13 or 7.
 --     OnlyTwelve l          where the line l tells of a refused event, it is refused by 12
 --     EventsRefused         so it is of every line of every session
 use Prim.Native.Nat.{ℕ}

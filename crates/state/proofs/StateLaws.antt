@@ -1,4 +1,5 @@
--- The laws of a board's state: what each method changes and leaves, which states a board takes, and when a call can use a board and a state.
+-- The laws of a board's state: what each method changes and leaves, which states a board takes, and when a call can use
+-- a board and a state.
 -- The crates above cite these, and nothing of the definitions' text. The last section is for the proof of `fits`.
 -- Assumes nothing.
 use Prim.Native.Nat.{ℕ, _^_, _<_}
@@ -6,7 +7,9 @@ use mathlib.Core.Path.{_≡_, refl, sym, _∙_}
 use mathlib.Core.Bool.{true, false, false≢true}
 use borrow.Author.Tests.{ltb-true, lt-ltb}
 use Rattle.bits.specs.Sets.{including, excluding, within}
-use Rattle.bits.proofs.SetLaws.{member-including-same, member-including-other, member-excluding-same, member-excluding-other, member-none, members-same, within-member, member-within, including-below, excluding-below}
+use Rattle.bits.proofs.SetLaws.{member-including-same, member-including-other, member-excluding-same}
+use Rattle.bits.proofs.SetLaws.{member-excluding-other, member-none, members-same, within-member, member-within}
+use Rattle.bits.proofs.SetLaws.{including-below, excluding-below}
 use Rattle.number.proofs.OutcomeLaws.{passed, asked}
 use Rattle.number.specs.Outcomes.{given, refused}
 use Rattle.number.specs.Refusals.{stateBeyondBoard, brokenBoard}
@@ -15,7 +18,8 @@ use Rattle.board.specs.declared.Board.{Board}
 use Rattle.board.specs.Rules.{boardFine}
 use Rattle.bits.proofs.BoolLaws.{both-true, true-both}
 use Rattle.state.specs.declared.State.{State}
-use Rattle.state.specs.States.{freshState, isDrawn, isPushed, withDrawn, withDropped, withPushed, withReleased, stateFine, usable}
+use Rattle.state.specs.States.{freshState, isDrawn, isPushed, withDrawn, withDropped, withPushed, withReleased}
+use Rattle.state.specs.States.{stateFine, usable}
 
 -- ---- a method changes its own relay or button and nothing else
 
@@ -59,9 +63,14 @@ module _ (s : State) (b : ℕ) where
 
 -- ---- a state is known by its drawn relays and its pushed buttons
 
-pub state-equal : (s t : State) → ((r : ℕ) → isDrawn s r ≡ isDrawn t r) → ((b : ℕ) → isPushed s b ≡ isPushed t b) → s ≡ t
+pub state-equal : (s t : State) → ((r : ℕ) → isDrawn s r ≡ isDrawn t r) → ((b : ℕ) → isPushed s b ≡ isPushed t b)
+    → s ≡ t
 state-equal s t drawn pushed =
-    λ i. record { drawn = members-same (s .drawn) (t .drawn) drawn i; pushed = members-same (s .pushed) (t .pushed) pushed i }
+    λ i. record {
+      drawn = members-same (s .drawn) (t .drawn) drawn i;
+      pushed = members-same (s .pushed) (t .pushed)
+          pushed i;
+    }
 
 -- ---- a fresh state
 
@@ -77,11 +86,13 @@ pub record MembersBelow (c : Counts) (s : State) : Type 0 where
   pub drawn-below : (r : ℕ) → isDrawn s r ≡ true → r < c .relays
   pub pushed-below : (b : ℕ) → isPushed s b ≡ true → b < c .buttons
 
-both-within : (c : Counts) (s : State) → stateFine c s ≡ true → (within (s .drawn) (c .relays) ≡ true) × (within (s .pushed) (c .buttons) ≡ true)
+both-within : (c : Counts) (s : State) → stateFine c s ≡ true → (within (s .drawn) (c .relays) ≡ true)
+    × (within (s .pushed) (c .buttons) ≡ true)
 unfolding stateFine
 both-within c s fine = both-true _ _ fine
 
-within-both : (c : Counts) (s : State) → within (s .drawn) (c .relays) ≡ true → within (s .pushed) (c .buttons) ≡ true → stateFine c s ≡ true
+within-both : (c : Counts) (s : State) → within (s .drawn) (c .relays) ≡ true
+    → within (s .pushed) (c .buttons) ≡ true → stateFine c s ≡ true
 unfolding stateFine
 within-both c s drawn pushed = true-both drawn pushed
 
@@ -115,16 +126,24 @@ fresh-fits c = within-both c freshState (within-none (c .relays)) (within-none (
 
 module _ (c : Counts) (s : State) (n : ℕ) (fine : stateFine c s ≡ true) where
   pub state-fits-draw : n < c .relays → stateFine c (withDrawn s n) ≡ true
-  state-fits-draw fits = within-both c (withDrawn s n) (within-including (s .drawn) (c .relays) n (both-within c s fine .0) fits) (both-within c s fine .1)
+  state-fits-draw fits =
+      within-both c (withDrawn s n) (within-including (s .drawn) (c .relays) n (both-within c s fine .0) fits)
+      (both-within c s fine .1)
 
   pub state-fits-drop : stateFine c (withDropped s n) ≡ true
-  state-fits-drop = within-both c (withDropped s n) (within-excluding (s .drawn) (c .relays) n (both-within c s fine .0)) (both-within c s fine .1)
+  state-fits-drop =
+      within-both c (withDropped s n) (within-excluding (s .drawn) (c .relays) n (both-within c s fine .0))
+      (both-within c s fine .1)
 
   pub state-fits-push : n < c .buttons → stateFine c (withPushed s n) ≡ true
-  state-fits-push fits = within-both c (withPushed s n) (both-within c s fine .0) (within-including (s .pushed) (c .buttons) n (both-within c s fine .1) fits)
+  state-fits-push fits =
+      within-both c (withPushed s n) (both-within c s fine .0)
+      (within-including (s .pushed) (c .buttons) n (both-within c s fine .1) fits)
 
   pub state-fits-release : stateFine c (withReleased s n) ≡ true
-  state-fits-release = within-both c (withReleased s n) (both-within c s fine .0) (within-excluding (s .pushed) (c .buttons) n (both-within c s fine .1))
+  state-fits-release =
+      within-both c (withReleased s n) (both-within c s fine .0)
+      (within-excluding (s .pushed) (c .buttons) n (both-within c s fine .1))
 
 -- ---- a board and a state that a call can use
 

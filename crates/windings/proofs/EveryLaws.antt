@@ -1,4 +1,5 @@
--- Laws of `every`, a test of each number below a limit: what the loop of `WoundSoFar::complete` and the laws of windings in `board` need.
+-- Laws of `every`, a test of each number below a limit: what the loop of `WoundSoFar::complete` and the laws of
+-- windings in `board` need.
 use Prim.Native.Nat.{ℕ, zero, suc, _+_, _<_}
 use native.Mathlib.Nat.{eq-or-lt-of-le}
 use native.Mathlib.Numerals.{add-one}

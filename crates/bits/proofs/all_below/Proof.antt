@@ -1,4 +1,5 @@
--- `bits::all_below` meets its contract: every member of a word is below 64, and below that the code tests that no bit is left from n on.
+-- `bits::all_below` meets its contract: every member of a word is below 64, and below that the code tests that no bit
+-- is left from n on.
 -- Assumes nothing.
 use mathlib.Core.Path.{sym}
 use native.Mathlib.Omega.{arith}

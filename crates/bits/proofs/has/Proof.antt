@@ -1,4 +1,5 @@
--- `bits::has` meets its contract: a word has no member from 64 on, and below that the code tests the bit as the definition does.
+-- `bits::has` meets its contract: a word has no member from 64 on, and below that the code tests the bit as the
+-- definition does.
 -- Assumes nothing.
 use mathlib.Core.Path.{refl, sym}
 use native.Mathlib.Omega.{arith}

@@ -1,4 +1,5 @@
--- `bits::without` meets its contract: a member of a word is below 64, and there the code's `^` clears the bit that `has` found set.
+-- `bits::without` meets its contract: a member of a word is below 64, and there the code's `^` clears the bit that
+-- `has` found set.
 -- Assumes nothing.
 use mathlib.Core.Path.{sym, _∙_}
 use native.Mathlib.Omega.{arith}

@@ -10,10 +10,14 @@ returns : tie.Need-returns
 returns c = board-counts-off _ (sym (c .before .counts-fine .ensures) ∙ not-true _ (c .if1 .taken))
 
 parts-fine-requires : tie.Need-parts-fine-requires
-parts-fine-requires c κs = counts-in-range _ (sym (c .before .before .counts-fine .ensures) ∙ not-false _ (c .before .if1 .left)) .most-parts
+parts-fine-requires c κs =
+    counts-in-range _ (sym (c .before .before .counts-fine .ensures)
+    ∙ not-false _ (c .before .if1 .left)) .most-parts
 
 returns-2 : tie.Need-returns-2
-returns-2 c = c .parts-fine .ensures ∙ board-fine-last _ (sym (c .before .before .before .counts-fine .ensures) ∙ not-false _ (c .before .before .if1 .left))
+returns-2 c =
+    c .parts-fine .ensures ∙ board-fine-last _
+    (sym (c .before .before .before .counts-fine .ensures) ∙ not-false _ (c .before .before .if1 .left))
 
 pub check-spec : {M : Type 1} → statement M
 check-spec = tie.close (tie.spec (λ c κs. search needs) returns parts-fine-requires returns-2)

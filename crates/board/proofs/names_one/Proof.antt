@@ -14,7 +14,13 @@ returns-2 : tie.Need-returns-2
 unfolding nameFine
 returns-2 c =
     let at-number = c .before .before .before in
-    simp (c .before .name .ensures, c .limit .ensures, at-number .number .ensures, ne-eqb _ 0 (λ e. c .before .before .if1 .left (at-number .number .ensures ∙ e)))
+    simp (
+      c .before .name .ensures,
+      c .limit .ensures,
+      at-number .number .ensures,
+      ne-eqb _ 0
+          (λ e. c .before .before .if1 .left (at-number .number .ensures ∙ e)),
+    )
 
 pub names-one-spec : {M : Type 1} → statement M
 names-one-spec =

@@ -20,13 +20,17 @@ returns-3 : tie.Need-returns-3
 returns-3 c =
     let at-if1 = c .before .before .before .before .before .before in
     let entry = at-if1 .before .before .before in
-    part-kind-differs (entry .args .x) (entry .args .y) (at-if1 .if1 .left) (c .before .before .before .if2 .left) (λ e. c .if3 .taken (c .before .before .number .ensures ∙ e ∙ sym (c .before .number2 .ensures)))
+    part-kind-differs (entry .args .x) (entry .args .y) (at-if1 .if1 .left) (c .before .before .before .if2 .left)
+    (λ e. c .if3 .taken (c .before .before .number .ensures ∙ e ∙ sym (c .before .number2 .ensures)))
 
 returns-4 : tie.Need-returns-4
 returns-4 c =
     let at-if1 = c .before .before .before .before .before .before .before .before in
     let entry = at-if1 .before .before .before in
-    ap₂ eqb (c .before .name .ensures) (c .name2 .ensures) ∙ part-same-last (entry .args .x) (entry .args .y) (at-if1 .if1 .left) (c .before .before .before .before .before .if2 .left) (sym (c .before .before .before .before .number .ensures) ∙ c .before .before .if3 .left ∙ c .before .before .before .number2 .ensures)
+    ap₂ eqb (c .before .name .ensures) (c .name2 .ensures) ∙ part-same-last (entry .args .x) (entry .args .y)
+    (at-if1 .if1 .left) (c .before .before .before .before .before .if2 .left)
+    (sym (c .before .before .before .before .number .ensures) ∙ c .before .before .if3 .left
+    ∙ c .before .before .before .number2 .ensures)
 
 pub same-part-spec : {M : Type 1} → statement M
 same-part-spec =

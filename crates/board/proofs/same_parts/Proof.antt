@@ -11,7 +11,9 @@ use Rattle.board.specs.Same.{sameParts}
 use Rattle.board.proofs.SameLaws.{same-walk-off, same-walk-on, same-walk-end}
 
 abbrev Inv-loop : tie.InvT-loop
-Inv-loop count x y i₀ i = (count ≤ 256) × (length x ≡ 256) × (length y ≡ 256) × (i ≤ count) × (sameParts (take count x) (take count y) ≡ sameParts (drop i (take count x)) (drop i (take count y)))
+Inv-loop count x y i₀ i =
+    (count ≤ 256) × (length x ≡ 256) × (length y ≡ 256) × (i ≤ count)
+    × (sameParts (take count x) (take count y) ≡ sameParts (drop i (take count x)) (drop i (take count y)))
 
 abbrev μ-loop : tie.MeasureT-loop
 μ-loop count x y i₀ i = count - i
@@ -20,12 +22,22 @@ loop-holds : tie.Need-loop-holds Inv-loop μ-loop
 loop-holds c = (c .pre, c .good .0 .1 .0 .1, c .good .1 .0 .1 .0 .1, omega arith, refl)
 
 returns : tie.Need-returns Inv-loop μ-loop
-returns c = same-walk-off _ _ _ _ _ (omega arith) (omega arith) (c .before .before .before .before .before .loop .inv .4) (c .before .before .before .before .loop-test .taken) (sym (c .before .same-part .ensures) ∙ not-true _ (c .if1 .taken))
+returns c =
+    same-walk-off _ _ _ _ _ (omega arith) (omega arith) (c .before .before .before .before .before .loop .inv .4)
+    (c .before .before .before .before .loop-test .taken)
+    (sym (c .before .same-part .ensures) ∙ not-true _ (c .if1 .taken))
 
 loop-again : tie.Need-loop-again Inv-loop μ-loop
 loop-again c =
-    let at-loop = c .before .before .before .before .before in
-    (at-loop .loop .inv .0, at-loop .loop .inv .1, at-loop .loop .inv .2, omega arith, same-walk-on _ _ _ _ _ (omega arith) (omega arith) (at-loop .loop .inv .4) (c .before .before .before .before .loop-test .taken) (sym (c .before .same-part .ensures) ∙ not-false _ (c .if1 .left)))
+    let at-loop = c .before .before .before .before .before in (
+      at-loop .loop .inv .0,
+      at-loop .loop .inv .1,
+      at-loop .loop .inv .2,
+      omega arith,
+      same-walk-on _ _ _ _ _
+          (omega arith) (omega arith) (at-loop .loop .inv .4) (c .before .before .before .before .loop-test .taken)
+          (sym (c .before .same-part .ensures) ∙ not-false _ (c .if1 .left)),
+    )
 
 returns-2 : tie.Need-returns-2 Inv-loop μ-loop
 returns-2 c = same-walk-end _ _ _ _ _ (omega arith) (omega arith) (c .before .loop .inv .4) (c .loop-test .left)

@@ -1,4 +1,5 @@
--- `run_cases` is safe and ends: the place rises to the text's length; the case stays within the buffer, whose length stays.
+-- `run_cases` is safe and ends: the place rises to the text's length; the case stays within the buffer, whose length
+-- stays.
 use borrow.Author.Needs.{needs}
 use mathlib.Core.Path.{_≡_}
 use Prim.Native.Nat.{_≤_, _-_}

@@ -18,7 +18,12 @@ abbrev μ-loop : tie.MeasureT-loop
 add-used : tie.Need-add-used Inv-loop μ-loop
 add-used c =
     let at-loop = c .before .before .before .before .before .before .before .before .before .before .before in
-    omega (arith, c .before .before .before .before .before .hand-out .ensures _ (c .before .before .answer .given .1) .0, at-loop .loop .inv .1)
+    omega (
+      arith,
+      c .before .before .before .before .before .hand-out .ensures _
+          (c .before .before .answer .given .1) .0,
+      at-loop .loop .inv .1,
+    )
 
 loop-less : tie.Need-loop-less Inv-loop μ-loop
 loop-less c = c .before .before .before .before .before .hand-out .ensures _ (c .before .before .answer .given .1) .1
@@ -27,8 +32,14 @@ loop-again : tie.Need-loop-again Inv-loop μ-loop
 loop-again c =
     let at-hand-out = c .before .before .before .before .before in
     let at-loop = at-hand-out .before .before .before .before .before .before in
-    let long : length (at-hand-out .hand-out .last .1 .1 .0) ≡ 16384 = search needs in
-    (omega (arith, at-hand-out .hand-out .ensures _ (c .before .before .answer .given .1) .0, at-loop .loop .inv .1), long)
+    let long : length (at-hand-out .hand-out .last .1 .1 .0) ≡ 16384 = search needs in (
+      omega (
+        arith,
+        at-hand-out .hand-out .ensures _ (c .before .before .answer .given .1) .0,
+        at-loop .loop .inv .1,
+      ),
+      long,
+    )
 
 pub print-lines-spec : {M : Type 1} → statement M
 print-lines-spec =

@@ -1,4 +1,5 @@
--- `herdspiral::read_input` meets its contract: what was read so far lies within the buffer, and each read takes more of it.
+-- `herdspiral::read_input` meets its contract: what was read so far lies within the buffer, and each read takes more of
+-- it.
 use mathlib.Core.Path.{_≡_}
 use Prim.Native.Nat.{_-_, _≤_}
 use lib.ListN.{length}

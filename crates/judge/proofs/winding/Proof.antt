@@ -10,7 +10,9 @@ use Rattle.judge.specs.RelayWindings.{windingOf}
 use Rattle.judge.proofs.SoughtLaws.{sought-here, sought-on, sought-end, sought-full}
 
 abbrev Inv-loop : tie.InvT-loop
-Inv-loop relay which parts count i₀ i = (length parts ≡ 256) × (windingOf which relay (take count parts) ≡ windingOf which relay (drop i (take count parts)))
+Inv-loop relay which parts count i₀ i =
+    (length parts ≡ 256)
+    × (windingOf which relay (take count parts) ≡ windingOf which relay (drop i (take count parts)))
 
 abbrev μ-loop : tie.MeasureT-loop
 μ-loop relay which parts count i₀ i = 256 - i
@@ -22,17 +24,25 @@ returns : tie.Need-returns Inv-loop μ-loop
 returns c =
     let at-loop = c .before .before in
     let entry = at-loop .before .before in
-    sought-full _ _ (entry .args .board .parts) (entry .args .board .counts .parts) (at-loop .loop .i) _ (at-loop .loop .inv .1) (omega (arith, at-loop .loop .inv .0, c .if1 .taken))
+    sought-full _ _ (entry .args .board .parts) (entry .args .board .counts .parts) (at-loop .loop .i) _
+    (at-loop .loop .inv .1) (omega (arith, at-loop .loop .inv .0, c .if1 .taken))
 
 returns-2 : tie.Need-returns-2 Inv-loop μ-loop
 returns-2 c =
     let at-loop = c .before .before .before .before .before in
-    sought-here _ _ _ _ _ _ (at-loop .loop .inv .1) (c .before .before .before .before .loop-test .taken) (omega (arith, at-loop .loop .inv .0, c .before .before .before .if1 .left)) (sym (c .before .is-winding .ensures) ∙ c .if2 .taken)
+    sought-here _ _ _ _ _ _ (at-loop .loop .inv .1) (c .before .before .before .before .loop-test .taken)
+    (omega (arith, at-loop .loop .inv .0, c .before .before .before .if1 .left))
+    (sym (c .before .is-winding .ensures) ∙ c .if2 .taken)
 
 loop-again : tie.Need-loop-again Inv-loop μ-loop
 loop-again c =
-    let at-loop = c .before .before .before .before .before in
-    (at-loop .loop .inv .0, sought-on _ _ _ _ _ _ (at-loop .loop .inv .1) (c .before .before .before .before .loop-test .taken) (omega (arith, at-loop .loop .inv .0, c .before .before .before .if1 .left)) (sym (c .before .is-winding .ensures) ∙ c .if2 .left))
+    let at-loop = c .before .before .before .before .before in (
+      at-loop .loop .inv .0,
+      sought-on _ _ _ _ _ _ (at-loop .loop .inv .1)
+          (c .before .before .before .before .loop-test .taken)
+          (omega (arith, at-loop .loop .inv .0, c .before .before .before .if1 .left))
+          (sym (c .before .is-winding .ensures) ∙ c .if2 .left),
+    )
 
 returns-3 : tie.Need-returns-3 Inv-loop μ-loop
 returns-3 c = sought-end _ _ _ _ _ _ (c .before .loop .inv .1) (c .loop-test .left)

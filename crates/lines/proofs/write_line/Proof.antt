@@ -15,12 +15,14 @@ returns c =
 returns-2 : tie.Need-returns-2
 returns-2 c =
     let entry = c .before .before .before .before .before .before .before .before .before in
-    rw (c .before .before .before .before .before .line .given .1) (line-put _ (entry .args .out .now) (omega arith) (c .before .before .put-event .ensures))
+    rw (c .before .before .before .before .before .line .given .1)
+    (line-put _ (entry .args .out .now) (omega arith) (c .before .before .put-event .ensures))
 
 returns-3 : tie.Need-returns-3
 returns-3 c =
     let entry = c .before .before .before .before .before .before .before .before .before in
-    rw (c .before .before .before .before .before .line2 .given .1) (line-put _ (entry .args .out .now) (omega arith) (c .before .before .put-closing .ensures))
+    rw (c .before .before .before .before .before .line2 .given .1)
+    (line-put _ (entry .args .out .now) (omega arith) (c .before .before .put-closing .ensures))
 
 pub write-line-spec : {M : Type 1} → statement M
 write-line-spec =

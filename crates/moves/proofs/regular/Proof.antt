@@ -9,10 +9,14 @@ returns : tie.Need-returns
 returns c = regular-undecided _ _ (sym (c .before .is-undecided .ensures) ∙ c .if1 .taken)
 
 returns-2 : tie.Need-returns-2
-returns-2 c = c .draws .ensures ∙ regular-live _ _ (sym (c .before .before .before .before .is-undecided .ensures) ∙ c .before .before .before .if1 .left) (sym (c .before .before .is-live .ensures) ∙ c .before .if2 .taken)
+returns-2 c =
+    c .draws .ensures ∙ regular-live _ _ (sym (c .before .before .before .before .is-undecided .ensures)
+    ∙ c .before .before .before .if1 .left) (sym (c .before .before .is-live .ensures) ∙ c .before .if2 .taken)
 
 returns-3 : tie.Need-returns-3
-returns-3 c = c .drops .ensures ∙ regular-dead _ _ (sym (c .before .before .before .before .is-undecided .ensures) ∙ c .before .before .before .if1 .left) (sym (c .before .before .is-live .ensures) ∙ c .before .if2 .left)
+returns-3 c =
+    c .drops .ensures ∙ regular-dead _ _ (sym (c .before .before .before .before .is-undecided .ensures)
+    ∙ c .before .before .before .if1 .left) (sym (c .before .before .is-live .ensures) ∙ c .before .if2 .left)
 
 pub regular-spec : {M : Type 1} → statement M
 regular-spec =

@@ -13,12 +13,14 @@ returns c =
     let args = c .before .before .before .before .args in
     c .join2 .ensures
     ∙ ap (λ (k : List ℕ). joining k (args .part .b) (args .part .a)) (c .before .join .ensures)
-    ∙ sym (bridged-conducting (args .state) (args .near) (args .part) (sym (c .before .before .before .conducts .ensures) ∙ c .before .before .if1 .taken))
+    ∙ sym (bridged-conducting (args .state) (args .near) (args .part)
+    (sym (c .before .before .before .conducts .ensures) ∙ c .before .before .if1 .taken))
 
 returns-2 : tie.Need-returns-2
 returns-2 c =
     let entry = c .before .before in
-    sym (bridged-open (entry .args .state) (entry .args .near) (entry .args .part) (sym (c .before .conducts .ensures) ∙ c .if1 .left))
+    sym (bridged-open (entry .args .state) (entry .args .near) (entry .args .part)
+    (sym (c .before .conducts .ensures) ∙ c .if1 .left))
 
 pub bridge-spec : {M : Type 1} → statement M
 bridge-spec =

@@ -1,4 +1,5 @@
--- `neighbours::neighbours` meets its contract. The invariant: all the parts make of no sets what those from i on make of the sets so far.
+-- `neighbours::neighbours` meets its contract. The invariant: all the parts make of no sets what those from i on make
+-- of the sets so far.
 use borrow.Author.Needs.{needs}
 use native.Mathlib.Omega.{arith}
 use Prim.Native.Nat.{_-_}
@@ -10,7 +11,9 @@ use Rattle.neighbours.proofs.neighbours.Statement.{statement}
 use Rattle.neighbours.proofs.neighbours.Tie as tie
 
 abbrev Inv-loop : tie.InvT-loop
-Inv-loop state parts count near₀ i₀ near i = (length parts ≡ 256) × (gathered state alone (take count parts) ≡ gathered state near (drop i (take count parts)))
+Inv-loop state parts count near₀ i₀ near i =
+    (length parts ≡ 256)
+    × (gathered state alone (take count parts) ≡ gathered state near (drop i (take count parts)))
 
 abbrev μ-loop : tie.MeasureT-loop
 μ-loop state parts count near₀ i₀ near i = 256 - i
@@ -22,7 +25,8 @@ returns : tie.Need-returns Inv-loop μ-loop
 returns c =
     let loop = c .before .before .loop in
     let args = c .before .before .before .before .args in
-    gather-walk-full (args .state) (loop .near) (args .board .parts) (args .board .counts .parts) (loop .i) _ (loop .inv .1) (omega (arith, loop .inv .0, c .if1 .taken))
+    gather-walk-full (args .state) (loop .near) (args .board .parts) (args .board .counts .parts) (loop .i) _
+    (loop .inv .1) (omega (arith, loop .inv .0, c .if1 .taken))
     ∙ sym (neighbours-gathered (args .board) (args .state))
 
 loop-again : tie.Need-loop-again Inv-loop μ-loop
@@ -31,7 +35,9 @@ loop-again c =
     let loop = c .before .before .before .before .loop in
     let args = entry .args in (
       loop .inv .0,
-      gather-walk-on (args .state) (loop .near) (args .board .parts) (args .board .counts .parts) (loop .i) _ (loop .inv .1) (c .bridge .result) (omega (arith, c .before .before .before .loop-test .taken)) (omega (arith, loop .inv .0, c .before .before .if1 .left)) (c .bridge .ensures),
+      gather-walk-on (args .state) (loop .near) (args .board .parts) (args .board .counts .parts) (loop .i) _
+          (loop .inv .1) (c .bridge .result) (omega (arith, c .before .before .before .loop-test .taken))
+          (omega (arith, loop .inv .0, c .before .before .if1 .left)) (c .bridge .ensures),
     )
 
 returns-2 : tie.Need-returns-2 Inv-loop μ-loop

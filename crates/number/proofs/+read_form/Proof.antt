@@ -5,7 +5,8 @@ use native.Mathlib.Omega.{arith}
 use borrow.Author.Needs.{needs}
 use borrow.Fn.Kinds.{In}
 use borrow.Fn.PlainCycle.{Measures, is, falls, and}
-use Rattle.number.proofs.FormSteps.{FormBounds, form-none, form-ends, form-one, below-other, form-left, form-not-shortest, form-grown, form-bounds}
+use Rattle.number.proofs.FormSteps.{FormBounds, form-none, form-ends, form-one, below-other, form-left}
+use Rattle.number.proofs.FormSteps.{form-not-shortest, form-grown, form-bounds}
 use Rattle.number.proofs.read_form.Reads as read-form
 use Rattle.number.proofs.read_form.Kinds as read-form-kinds
 use Rattle.number.proofs.+read_form.Lts-read_form as read-form-lts
@@ -58,7 +59,9 @@ read-form-returns-3 : (t : ℕ) → read-form-lts.Need-returns-3 (
 ) (read-form-at t) read-form.Post
 read-form-returns-3 t c =
     let entry = c .before .before .before .before .before .before in
-    form-one (entry .args .left) (entry .args .at) (entry .args .s .now) (c .before .wide .result) (c .before .before .before .before .if1 .left) (c .before .before .before .if2 .left) (c .before .wide .ensures .0) (c .if3 .taken)
+    form-one (entry .args .left) (entry .args .at) (entry .args .s .now) (c .before .wide .result)
+    (c .before .before .before .before .if1 .left) (c .before .before .before .if2 .left)
+    (c .before .wide .ensures .0) (c .if3 .taken)
 
 read-form-returns-4 : (t : ℕ) → read-form-lts.Need-returns-4 (
   wide-reads.Asked,
@@ -70,7 +73,10 @@ read-form-returns-4 t c =
     let at-wide = c .before .before .before in
     let at-if1 = at-wide .before .before .before in
     let entry = at-if1 .before .before in
-    form-left (entry .args .left) (entry .args .at) (entry .args .s .now) (at-wide .wide .result) (at-if1 .if1 .left) (c .before .before .before .before .before .if2 .left) (at-wide .wide .ensures .0) (c .before .before .if3 .left) (c .before .read-form .result) (c .before .read-form .ensures) (below-other _ _ (c .match .keys2))
+    form-left (entry .args .left) (entry .args .at) (entry .args .s .now) (at-wide .wide .result)
+    (at-if1 .if1 .left) (c .before .before .before .before .before .if2 .left) (at-wide .wide .ensures .0)
+    (c .before .before .if3 .left) (c .before .read-form .result) (c .before .read-form .ensures)
+    (below-other _ _ (c .match .keys2))
 
 read-form-returns-5 : (t : ℕ) → read-form-lts.Need-returns-5 (
   wide-reads.Asked,
@@ -85,7 +91,11 @@ read-form-returns-5 t c =
     let at-if2 = at-wide .before .before in
     let at-if1 = at-if2 .before in
     let entry = at-if1 .before .before in
-    form-not-shortest (entry .args .left) (entry .args .at) (entry .args .s .now) (at-wide .wide .result) (at-if1 .if1 .left) (at-if2 .if2 .left) (at-wide .wide .ensures .0) (c .before .before .before .before .before .if3 .left) (at-read-form .read-form .result) (at-read-form .read-form .ensures) (at-rest .rest .given .0 .0) (at-rest .rest .given .0 .1 .0) (at-rest .rest .given .1) (c .if4 .taken)
+    form-not-shortest (entry .args .left) (entry .args .at) (entry .args .s .now) (at-wide .wide .result)
+    (at-if1 .if1 .left) (at-if2 .if2 .left) (at-wide .wide .ensures .0)
+    (c .before .before .before .before .before .if3 .left) (at-read-form .read-form .result)
+    (at-read-form .read-form .ensures) (at-rest .rest .given .0 .0) (at-rest .rest .given .0 .1 .0)
+    (at-rest .rest .given .1) (c .if4 .taken)
 
 -- what bounds the rest of the number
 rest-bounds : (t : ℕ) (c : read-form-lts.Else4 (
@@ -93,8 +103,19 @@ rest-bounds : (t : ℕ) (c : read-form-lts.Else4 (
   wide-reads.Learnt,
   read-form-below t,
   read-form.Post,
-) (read-form-at t) read-form.Post) → FormBounds 2 (c .before .before .before .before .before .before .before .before .before .before .before .args .at + 1) (c .before .before .before .before .before .before .before .before .before .before .before .args .s .now) (c .before .before .rest .given .0 .0) (c .before .before .rest .given .0 .1 .0)
-rest-bounds t c = form-bounds 2 (c .before .before .before .before .before .before .before .before .before .before .before .args .left - 1) (c .before .before .before .before .before .before .before .before .before .before .before .args .at + 1) (c .before .before .before .before .before .before .before .before .before .before .before .args .s .now) (c .before .before .before .before .before .before .before .before .before .before .shared-slice-known .given) (omega arith) (c .before .before .before .before .read-form .result) (c .before .before .before .before .read-form .ensures) (c .before .before .rest .given .0 .0) (c .before .before .rest .given .0 .1 .0) (c .before .before .rest .given .1)
+) (read-form-at t) read-form.Post) → FormBounds 2
+    (c .before .before .before .before .before .before .before .before .before .before .before .args .at + 1)
+    (c .before .before .before .before .before .before .before .before .before .before .before .args .s .now)
+    (c .before .before .rest .given .0 .0) (c .before .before .rest .given .0 .1 .0)
+rest-bounds t c =
+    form-bounds 2
+    (c .before .before .before .before .before .before .before .before .before .before .before .args .left - 1)
+    (c .before .before .before .before .before .before .before .before .before .before .before .args .at + 1)
+    (c .before .before .before .before .before .before .before .before .before .before .before .args .s .now)
+    (c .before .before .before .before .before .before .before .before .before .before .shared-slice-known .given)
+    (omega arith) (c .before .before .before .before .read-form .result)
+    (c .before .before .before .before .read-form .ensures) (c .before .before .rest .given .0 .0)
+    (c .before .before .rest .given .0 .1 .0) (c .before .before .rest .given .1)
 
 read-form-mul-t14 : (t : ℕ) → read-form-lts.Need-mul-t14 (
   wide-reads.Asked,
@@ -133,7 +154,11 @@ read-form-returns-6 t c =
     let at-if2 = at-wide .before .before in
     let at-if1 = at-if2 .before in
     let entry = at-if1 .before .before in
-    form-grown (entry .args .left) (entry .args .at) (entry .args .s .now) (at-wide .wide .result) (at-if1 .if1 .left) (at-if2 .if2 .left) (at-wide .wide .ensures .0) (c .before .before .before .before .before .if3 .left) (at-read-form .read-form .result) (at-read-form .read-form .ensures) (at-rest .rest .given .0 .0) (at-rest .rest .given .0 .1 .0) (at-rest .rest .given .1) (c .if4 .left)
+    form-grown (entry .args .left) (entry .args .at) (entry .args .s .now) (at-wide .wide .result)
+    (at-if1 .if1 .left) (at-if2 .if2 .left) (at-wide .wide .ensures .0)
+    (c .before .before .before .before .before .if3 .left) (at-read-form .read-form .result)
+    (at-read-form .read-form .ensures) (at-rest .rest .given .0 .0) (at-rest .rest .given .0 .1 .0)
+    (at-rest .rest .given .1) (c .if4 .left)
 
 pub +read-form-spec : {M : Type 1} → statement M
 +read-form-spec = close μ-read-form λ t. read-form-lts.spec (

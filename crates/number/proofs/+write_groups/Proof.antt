@@ -36,7 +36,8 @@ write-groups-slice-write-out : (t : ℕ) → write-groups-lts.Need-slice-write-o
 ) (write-groups-at t) write-groups.Post
 write-groups-slice-write-out t c =
     let entry = c .before .before in
-    encode-room (entry .args .left) (entry .args .value) (entry .args .out .now) (entry .args .at) (entry .pre .1 .0) (entry .pre .1 .2)
+    encode-room (entry .args .left) (entry .args .value) (entry .args .out .now) (entry .args .at)
+    (entry .pre .1 .0) (entry .pre .1 .2)
 
 write-groups-add-out : (t : ℕ) → write-groups-lts.Need-add-out (
   write-groups-below t,
@@ -56,7 +57,8 @@ write-groups-slice-write-out-2 : (t : ℕ) → write-groups-lts.Need-slice-write
 ) (write-groups-at t) write-groups.Post
 write-groups-slice-write-out-2 t c =
     let entry = c .before .before in
-    encode-room (entry .args .left) (entry .args .value) (entry .args .out .now) (entry .args .at) (entry .pre .1 .0) (entry .pre .1 .2)
+    encode-room (entry .args .left) (entry .args .value) (entry .args .out .now) (entry .args .at)
+    (entry .pre .1 .0) (entry .pre .1 .2)
 
 write-groups-add-write-groups : (t : ℕ) → write-groups-lts.Need-add-write-groups (
   write-groups-below t,
@@ -64,15 +66,22 @@ write-groups-add-write-groups : (t : ℕ) → write-groups-lts.Need-add-write-gr
 ) (write-groups-at t) write-groups.Post
 write-groups-add-write-groups t c =
     let entry = c .before .before .before in
-    omega (arith, encode-room (entry .args .left) (entry .args .value) (entry .args .out .now) (entry .args .at) (entry .pre .1 .0) (entry .pre .1 .2))
+    omega (
+      arith,
+      encode-room (entry .args .left) (entry .args .value) (entry .args .out .now) (entry .args .at)
+          (entry .pre .1 .0) (entry .pre .1 .2),
+    )
 
 write-groups-write-groups-requires : (t : ℕ) → write-groups-lts.Need-write-groups-requires (
   write-groups-below t,
   write-groups.Post,
 ) (write-groups-at t) write-groups.Post
 write-groups-write-groups-requires t c κs =
-    let entry = c .before .before .before in
-    (omega arith, rw length-set (encode-rest (entry .args .left) (entry .args .value) (entry .args .out .now) (entry .args .at) (entry .pre .1 .1) (entry .pre .1 .2) (c .before .if1 .left)))
+    let entry = c .before .before .before in (
+      omega arith,
+      rw length-set (encode-rest (entry .args .left) (entry .args .value) (entry .args .out .now)
+          (entry .args .at) (entry .pre .1 .1) (entry .pre .1 .2) (c .before .if1 .left)),
+    )
 
 write-groups-same-length : (t : ℕ) → write-groups-lts.Need-same-length (
   write-groups-below t,
@@ -86,7 +95,8 @@ write-groups-returns : (t : ℕ) → write-groups-lts.Need-returns (
 ) (write-groups-at t) write-groups.Post
 write-groups-returns t c =
     let entry = c .before .before in
-    encode-one (entry .args .left) (entry .args .value) (entry .args .out .now) (entry .args .at) (entry .pre .1 .0) (c .if1 .taken)
+    encode-one (entry .args .left) (entry .args .value) (entry .args .out .now) (entry .args .at) (entry .pre .1 .0)
+    (c .if1 .taken)
 
 write-groups-same-length-2 : (t : ℕ) → write-groups-lts.Need-same-length-2 (
   write-groups-below t,
@@ -101,7 +111,9 @@ write-groups-returns-2 : (t : ℕ) → write-groups-lts.Need-returns-2 (
 write-groups-returns-2 t c =
     let at-write-groups = c .before .before in
     let entry = at-write-groups .before .before .before .before in
-    encode-further (entry .args .left) (entry .args .value) (entry .args .out .now) (at-write-groups .write-groups .last .1 .1 .0) (entry .args .at) (entry .pre .1 .0) (c .before .before .before .before .if1 .left) (at-write-groups .write-groups .ensures)
+    encode-further (entry .args .left) (entry .args .value) (entry .args .out .now)
+    (at-write-groups .write-groups .last .1 .1 .0) (entry .args .at) (entry .pre .1 .0)
+    (c .before .before .before .before .if1 .left) (at-write-groups .write-groups .ensures)
 
 pub +write-groups-spec : {M : Type 1} → statement M
 +write-groups-spec = close μ-write-groups λ t. write-groups-lts.spec (

@@ -14,18 +14,22 @@ returns c =
 returns-2 : tie.Need-returns-2
 returns-2 c =
     let entry = c .before .before .before .before in
-    sym (number-lacks-room (entry .args .value) (entry .args .out .now) (entry .args .at) (c .before .before .if1 .left) (omega arith))
+    sym (number-lacks-room (entry .args .value) (entry .args .out .now) (entry .args .at)
+    (c .before .before .if1 .left) (omega arith))
 
 returns-3 : tie.Need-returns-3
 returns-3 c =
     let entry = c .before .before .before .before .before in
-    sym (number-lacks-room (entry .args .value) (entry .args .out .now) (entry .args .at) (c .before .before .before .if1 .left) (omega arith))
+    sym (number-lacks-room (entry .args .value) (entry .args .out .now) (entry .args .at)
+    (c .before .before .before .if1 .left) (omega arith))
 
 write-groups-requires : tie.Need-write-groups-requires
 write-groups-requires c κs =
     let at-number-length = c .before .before .before in
     let entry = at-number-length .before .before .before in
-    number-groups (entry .args .value) (entry .args .out .now) (entry .args .at) (at-number-length .number-length .result) (c .before .before .before .before .if1 .left) (c .before .before .if2 .left) (c .before .if3 .left) (at-number-length .number-length .ensures)
+    number-groups (entry .args .value) (entry .args .out .now) (entry .args .at)
+    (at-number-length .number-length .result) (c .before .before .before .before .if1 .left)
+    (c .before .before .if2 .left) (c .before .if3 .left) (at-number-length .number-length .ensures)
 
 returns-4 : tie.Need-returns-4
 returns-4 c =
@@ -33,7 +37,10 @@ returns-4 c =
     let at-number-length = at-write-groups .before .before .before .before in
     let at-if1 = at-number-length .before in
     let entry = at-if1 .before .before in
-    number-stored (entry .args .value) (entry .args .out .now) (at-write-groups .write-groups .last .1 .1 .0) (entry .args .at) (at-number-length .number-length .result) (at-if1 .if1 .left) (c .before .before .before .before .before .if2 .left) (c .before .before .before .before .if3 .left) (at-number-length .number-length .ensures) (at-write-groups .write-groups .ensures)
+    number-stored (entry .args .value) (entry .args .out .now) (at-write-groups .write-groups .last .1 .1 .0)
+    (entry .args .at) (at-number-length .number-length .result) (at-if1 .if1 .left)
+    (c .before .before .before .before .before .if2 .left) (c .before .before .before .before .if3 .left)
+    (at-number-length .number-length .ensures) (at-write-groups .write-groups .ensures)
 
 pub write-number-spec : {M : Type 1} → statement M
 write-number-spec =

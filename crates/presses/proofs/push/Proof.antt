@@ -8,8 +8,11 @@ use Rattle.presses.proofs.PressLaws.{left-asked}
 
 returns : tie.Need-returns
 unfolding pushing
-returns c = c .leave .ensures ∙ left-asked _ _ _ _ _ _ _ _ (c .before .push .ensures) (c .before .before .pressable .ensures) (c .before .before .before .has .ensures)
+returns c =
+    c .leave .ensures ∙ left-asked _ _ _ _ _ _ _ _ (c .before .push .ensures)
+    (c .before .before .pressable .ensures) (c .before .before .before .has .ensures)
 
 pub push-spec : {M : Type 1} → statement M
 push-spec =
-    tie.close (tie.spec (λ c κs. search needs) (λ c κs. search needs) (λ c κs. search needs) (λ c κs. search needs) returns)
+    tie.close (tie.spec (λ c κs. search needs) (λ c κs. search needs) (λ c κs. search needs) (λ c κs. search needs)
+    returns)

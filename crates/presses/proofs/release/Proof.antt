@@ -9,8 +9,11 @@ use Rattle.presses.proofs.PressLaws.{left-asked}
 
 returns : tie.Need-returns
 unfolding releasing
-returns c = c .leave .ensures ∙ left-asked _ _ _ _ _ _ _ _ (c .before .release .ensures) (c .before .before .pressable .ensures) (ap not (c .before .before .before .has .ensures))
+returns c =
+    c .leave .ensures ∙ left-asked _ _ _ _ _ _ _ _ (c .before .release .ensures)
+    (c .before .before .pressable .ensures) (ap not (c .before .before .before .has .ensures))
 
 pub release-spec : {M : Type 1} → statement M
 release-spec =
-    tie.close (tie.spec (λ c κs. search needs) (λ c κs. search needs) (λ c κs. search needs) (λ c κs. search needs) returns)
+    tie.close (tie.spec (λ c κs. search needs) (λ c κs. search needs) (λ c κs. search needs) (λ c κs. search needs)
+    returns)

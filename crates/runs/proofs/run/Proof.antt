@@ -9,27 +9,47 @@ use Rattle.state.proofs.StateLaws.{usable-broken, usable-beyond, usable-fine}
 use Rattle.runs.proofs.RunningLaws.{runnable-unusable, runnable-long, runnable-log, running-by, unrun-log}
 
 returns : tie.Need-returns
-returns c = unrun-log (c .refuse .result) _ _ _ _ (c .refuse .ensures) ∙ running-by _ _ _ _ _ (runnable-unusable _ _ _ _ _ (usable-broken _ _ (sym (c .before .before .check .ensures) ∙ not-true _ (c .before .if1 .taken))))
+returns c =
+    unrun-log (c .refuse .result) _ _ _ _ (c .refuse .ensures)
+    ∙ running-by _ _ _ _ _
+    (runnable-unusable _ _ _ _ _
+    (usable-broken _ _ (sym (c .before .before .check .ensures) ∙ not-true _ (c .before .if1 .taken))))
 
 returns-2 : tie.Need-returns-2
-returns-2 c = unrun-log (c .refuse2 .result) _ _ _ _ (c .refuse2 .ensures) ∙ running-by _ _ _ _ _ (runnable-unusable _ _ _ _ _ (usable-beyond _ _ (sym (c .before .before .before .before .before .check .ensures) ∙ not-false _ (c .before .before .before .before .if1 .left)) (sym (c .before .before .fits2 .ensures) ∙ not-true _ (c .before .if2 .taken))))
+returns-2 c =
+    unrun-log (c .refuse2 .result) _ _ _ _ (c .refuse2 .ensures)
+    ∙ running-by _ _ _ _ _
+    (runnable-unusable _ _ _ _ _
+    (usable-beyond _ _ (sym (c .before .before .before .before .before .check .ensures)
+    ∙ not-false _ (c .before .before .before .before .if1 .left))
+    (sym (c .before .before .fits2 .ensures) ∙ not-true _ (c .before .if2 .taken))))
 
 returns-3 : tie.Need-returns-3
 returns-3 c =
     let at-check = c .before .before .before .before .before .before in
-    unrun-log (c .refuse3 .result) _ _ _ _ (c .refuse3 .ensures) ∙ running-by _ _ _ _ _ (runnable-long _ _ _ (usable-fine _ _ (sym (at-check .check .ensures) ∙ not-false _ (c .before .before .before .before .before .if1 .left)) (sym (c .before .before .before .fits2 .ensures) ∙ not-false _ (c .before .before .if2 .left))) (c .before .if3 .taken))
+    unrun-log (c .refuse3 .result) _ _ _ _ (c .refuse3 .ensures)
+    ∙ running-by _ _ _ _ _
+    (runnable-long _ _ _
+    (usable-fine _ _ (sym (at-check .check .ensures)
+    ∙ not-false _ (c .before .before .before .before .before .if1 .left))
+    (sym (c .before .before .before .fits2 .ensures) ∙ not-false _ (c .before .before .if2 .left)))
+    (c .before .if3 .taken))
 
 follow-requires : tie.Need-follow-requires
 follow-requires c κs =
     let at-check = c .before .before .before .before .before .before in
-    fine-range _ (sym (at-check .check .ensures) ∙ not-false _ (c .before .before .before .before .before .if1 .left)) .most-relays
+    fine-range _ (sym (at-check .check .ensures)
+    ∙ not-false _ (c .before .before .before .before .before .if1 .left)) .most-relays
 
 returns-4 : tie.Need-returns-4
 returns-4 c =
     let at-fits2 = c .before .before .before .before .before .before in
     let at-if1 = at-fits2 .before .before in
     let at-check = at-if1 .before in
-    c .before .before .follow .ensures ∙ running-by _ _ _ _ _ (runnable-log _ _ _ (usable-fine _ _ (sym (at-check .check .ensures) ∙ not-false _ (at-if1 .if1 .left)) (sym (at-fits2 .fits2 .ensures) ∙ not-false _ (c .before .before .before .before .before .if2 .left))) (c .before .before .before .before .if3 .left))
+    c .before .before .follow .ensures ∙ running-by _ _ _ _ _
+    (runnable-log _ _ _ (usable-fine _ _ (sym (at-check .check .ensures) ∙ not-false _ (at-if1 .if1 .left))
+    (sym (at-fits2 .fits2 .ensures) ∙ not-false _ (c .before .before .before .before .before .if2 .left)))
+    (c .before .before .before .before .if3 .left))
 
 pub run-spec : {M : Type 1} → statement M
 run-spec =

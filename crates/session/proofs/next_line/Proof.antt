@@ -13,12 +13,15 @@ returns-2 c =
     let at-coming = at-write-line .before .before .before in
     let at-advance = at-coming .before .before .before in
     let at-if1 = at-advance .before in
-    handing-line _ _ _ (at-advance .advance .result) (at-if1 .if1 .left) (at-advance .advance .ensures) _ (at-write-line .write-line .result) (c .answer-of .result) _ (at-coming .coming .given .1) (at-write-line .write-line .ensures) (c .answer-of .ensures)
+    handing-line _ _ _ (at-advance .advance .result) (at-if1 .if1 .left) (at-advance .advance .ensures) _
+    (at-write-line .write-line .result) (c .answer-of .result) _ (at-coming .coming .given .1)
+    (at-write-line .write-line .ensures) (c .answer-of .ensures)
 
 returns-3 : tie.Need-returns-3
 returns-3 c =
     let at-advance = c .before .before .before in
-    handing-over _ _ _ (at-advance .advance .result) (c .before .before .before .before .if1 .left) (at-advance .advance .ensures) (c .enum-told .given .1)
+    handing-over _ _ _ (at-advance .advance .result) (c .before .before .before .before .if1 .left)
+    (at-advance .advance .ensures) (c .enum-told .given .1)
 
 pub next-line-spec : {M : Type 1} → statement M
 next-line-spec =

@@ -21,7 +21,13 @@ array-share-prefix-line c =
     let at-next-line = c .before .before .before .before in
     let at-loop = at-next-line .before .before in
     let entry = at-loop .before .before .before in
-    omega (arith, came (at-loop .loop .session) (entry .args .input .now) (at-loop .loop .line) (at-next-line .next-line .last .1 .1 .0) (at-next-line .next-line .result) (at-next-line .next-line .ensures) _ (c .before .answer .given .1) .fits, at-loop .loop .inv)
+    omega (
+      arith,
+      came (at-loop .loop .session) (entry .args .input .now) (at-loop .loop .line)
+          (at-next-line .next-line .last .1 .1 .0) (at-next-line .next-line .result)
+          (at-next-line .next-line .ensures) _ (c .before .answer .given .1) .fits,
+      at-loop .loop .inv,
+    )
 
 slice-aggregate-write-all : tie.Need-slice-aggregate-write-all Inv-loop μ-loop
 slice-aggregate-write-all c =
@@ -29,14 +35,25 @@ slice-aggregate-write-all c =
     let at-loop = at-next-line .before .before in
     let entry = at-loop .before .before .before in
     let long : length (at-next-line .next-line .last .1 .1 .0) ≡ 73 = search needs in
-    sym (length-take-le _ _ (omega (arith, came (at-loop .loop .session) (entry .args .input .now) (at-loop .loop .line) (at-next-line .next-line .last .1 .1 .0) (at-next-line .next-line .result) (at-next-line .next-line .ensures) _ (c .before .before .answer .given .1) .fits, at-loop .loop .inv, long)))
+    sym
+    (length-take-le _ _
+    (omega (
+      arith,
+      came (at-loop .loop .session) (entry .args .input .now) (at-loop .loop .line)
+          (at-next-line .next-line .last .1 .1 .0) (at-next-line .next-line .result)
+          (at-next-line .next-line .ensures) _ (c .before .before .answer .given .1) .fits,
+      at-loop .loop .inv,
+      long,
+    )))
 
 loop-less : tie.Need-loop-less Inv-loop μ-loop
 loop-less c =
     let at-next-line = c .before .before .before .before .before .before .before in
     let at-loop = at-next-line .before .before in
     let entry = at-loop .before .before .before in
-    came-less (at-loop .loop .session) (entry .args .input .now) (at-loop .loop .line) (at-next-line .next-line .last .1 .1 .0) (at-next-line .next-line .result) (at-next-line .next-line .ensures) _ (c .before .before .before .before .answer .given .1)
+    came-less (at-loop .loop .session) (entry .args .input .now) (at-loop .loop .line)
+    (at-next-line .next-line .last .1 .1 .0) (at-next-line .next-line .result)
+    (at-next-line .next-line .ensures) _ (c .before .before .before .before .answer .given .1)
 
 pub print-lines-spec : {M : Type 1} → statement M
 print-lines-spec =

@@ -20,4 +20,5 @@ returns-2 c =
     simp (away, second)
 
 pub in-neither-spec : {M : Type 1} → statement M
-in-neither-spec = tie.close (tie.spec (λ c κs. search needs) (λ c κs. search needs) returns (λ c κs. search needs) returns-2)
+in-neither-spec =
+    tie.close (tie.spec (λ c κs. search needs) (λ c κs. search needs) returns (λ c κs. search needs) returns-2)

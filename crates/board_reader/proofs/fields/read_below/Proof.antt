@@ -1,4 +1,5 @@
--- `board_reader::fields::read_below` meets its contract: the number's refusal leaves as it is, and a value is tested against the limit.
+-- `board_reader::fields::read_below` meets its contract: the number's refusal leaves as it is, and a value is tested
+-- against the limit.
 use borrow.Author.Needs.{needs}
 use Rattle.board_reader.proofs.fields.read_below.Statement.{statement}
 use Rattle.board_reader.proofs.fields.read_below.Tie as tie
@@ -10,10 +11,16 @@ returns : tie.Need-returns
 returns c = number-refused _ _ _ _ _ _ (c .enum-told .given .1) (c .before .before .read-number .ensures)
 
 returns-2 : tie.Need-returns-2
-returns-2 c = sym (wanted-fails _ _ _ _ _ _ (told-found _ _ _ _ (c .before .before .number .given .1) (c .before .before .before .before .read-number .ensures)) (le-ltb _ _ (c .if1 .taken)))
+returns-2 c =
+    sym
+    (wanted-fails _ _ _ _ _ _ (told-found _ _ _ _ (c .before .before .number .given .1)
+    (c .before .before .before .before .read-number .ensures)) (le-ltb _ _ (c .if1 .taken)))
 
 returns-3 : tie.Need-returns-3
-returns-3 c = sym (wanted-passes _ _ _ _ _ _ (told-found _ _ _ _ (c .before .before .number .given .1) (c .before .before .before .before .read-number .ensures)) (lt-ltb _ _ (c .if1 .left)))
+returns-3 c =
+    sym
+    (wanted-passes _ _ _ _ _ _ (told-found _ _ _ _ (c .before .before .number .given .1)
+    (c .before .before .before .before .read-number .ensures)) (lt-ltb _ _ (c .if1 .left)))
 
 pub read-below-spec : {M : Type 1} → statement M
 read-below-spec =

@@ -1,4 +1,5 @@
--- `board_reader::parts::read_parts` meets its contract. The invariant: the parts read so far fill the array, and those of the definition are these and then the ones from the present place on.
+-- `board_reader::parts::read_parts` meets its contract. The invariant: the parts read so far fill the array, and those
+-- of the definition are these and then the ones from the present place on.
 use Rattle.board_reader.proofs.parts.read_parts.Statement.{statement}
 use Rattle.board_reader.proofs.parts.read_parts.Tie as tie
 use borrow.Author.Needs.{needs}
@@ -7,39 +8,70 @@ use Prim.Native.Nat.{_≤_, _-_}
 use mathlib.Core.Path.{_≡_, refl, sym, _∙_}
 use borrow.Author.Tests.{not-true, not-false}
 use lib.ListN.{length}
-use Rattle.board_reader.proofs.PartsLaws.{Walk, walk-start, walk-on, walk-refused, walk-lacking, walk-end, part-stopped, part-went, answer-refused, board-refused, board-found}
+use Rattle.board_reader.proofs.PartsLaws.{Walk, walk-start, walk-on, walk-refused, walk-lacking, walk-end}
+use Rattle.board_reader.proofs.PartsLaws.{part-stopped, part-went, answer-refused, board-refused, board-found}
 use mathlib.Core.Path.{ap}
 use Rattle.board_reader.specs.Reading.{answered, toldReadAnswer}
 use lib.ListN.{length-set}
 
 abbrev Inv-loop : tie.InvT-loop
-Inv-loop s start counts parts₀ windings₀ at₀ count i₀ parts windings at i = (count ≡ counts .parts) × (count ≤ 256) × (i ≤ count) × (length parts ≡ 256) × Walk counts s start parts windings at i
+Inv-loop s start counts parts₀ windings₀ at₀ count i₀ parts windings at i =
+    (count ≡ counts .parts) × (count ≤ 256) × (i ≤ count) × (length parts ≡ 256)
+    × Walk counts s start parts windings at i
 
 abbrev μ-loop : tie.MeasureT-loop
 μ-loop s start counts parts₀ windings₀ at₀ count i₀ parts windings at i = count - i
 
 loop-holds : tie.Need-loop-holds Inv-loop μ-loop
-loop-holds c = (refl, c .before .before .before .pre, omega arith, refl, walk-start _ _ _ _ _ (c .before .blank .ensures) (c .none .ensures))
+loop-holds c = (
+  refl,
+  c .before .before .before .pre,
+  omega arith,
+  refl,
+  walk-start _ _ _ _ _ (c .before .blank .ensures)
+      (c .none .ensures),
+)
 
 returns : tie.Need-returns Inv-loop μ-loop
 returns c =
     let at-read-part = c .before .before .before in
-    answer-refused (c .no-board .result) _ _ _ (c .no-board .ensures .0) (c .no-board .ensures .1) (ap toldReadAnswer (c .before .enum-told .given .1)) ∙ ap answered (board-refused _ _ _ _ (walk-refused _ _ _ _ _ _ _ (c .before .before .before .before .before .loop .inv .4) _ _ (c .before .before .before .before .loop-test .taken) (part-stopped _ (at-read-part .read-part .result) _ (c .before .enum-told .given .1) (at-read-part .read-part .ensures))))
+    answer-refused (c .no-board .result) _ _ _ (c .no-board .ensures .0) (c .no-board .ensures .1)
+    (ap toldReadAnswer (c .before .enum-told .given .1))
+    ∙ ap answered
+    (board-refused _ _ _ _ (walk-refused _ _ _ _ _ _ _ (c .before .before .before .before .before .loop .inv .4)
+    _ _ (c .before .before .before .before .loop-test .taken)
+    (part-stopped _ (at-read-part .read-part .result) _ (c .before .enum-told .given .1)
+    (at-read-part .read-part .ensures))))
 
 loop-again : tie.Need-loop-again Inv-loop μ-loop
 loop-again c =
     let at-read-part = c .before .before .before .before .before in
     let at-loop-test = at-read-part .before in
-    let at-loop = at-loop-test .before in
-    (refl, at-loop .loop .inv .1, omega arith, length-set (at-loop .loop .parts) (at-loop .loop .i) (at-read-part .read-part .result .part) ∙ at-loop .loop .inv .3, walk-on _ _ _ _ _ _ _ (at-loop .loop .inv .4) _ _ _ (at-loop-test .loop-test .taken) (at-loop .loop .inv .1) (part-went _ (at-read-part .read-part .result) _ (c .before .before .before .answer .given .1) (at-read-part .read-part .ensures)) (c .with .ensures))
+    let at-loop = at-loop-test .before in (
+      refl,
+      at-loop .loop .inv .1,
+      omega arith,
+      length-set (at-loop .loop .parts) (at-loop .loop .i)
+          (at-read-part .read-part .result .part) ∙ at-loop .loop .inv .3,
+      walk-on _ _ _ _ _ _ _
+          (at-loop .loop .inv .4) _ _ _ (at-loop-test .loop-test .taken) (at-loop .loop .inv .1)
+          (part-went _ (at-read-part .read-part .result) _ (c .before .before .before .answer .given .1)
+          (at-read-part .read-part .ensures)) (c .with .ensures),
+    )
 
 returns-2 : tie.Need-returns-2 Inv-loop μ-loop
-returns-2 c = answer-refused (c .no-board2 .result) _ _ _ (c .no-board2 .ensures .0) (c .no-board2 .ensures .1) (c .before .refuse .ensures) ∙ ap answered (board-refused _ _ _ _ (walk-lacking _ _ _ _ _ _ _ (c .before .before .before .before .before .loop .inv .4) (c .before .before .before .before .loop-test .left) (sym (c .before .before .before .complete .ensures) ∙ not-true _ (c .before .before .if1 .taken))))
+returns-2 c = answer-refused (c .no-board2 .result) _ _ _ (c .no-board2 .ensures .0) (c .no-board2 .ensures .1)
+    (c .before .refuse .ensures) ∙ ap answered
+    (board-refused _ _ _ _ (walk-lacking _ _ _ _ _ _ _ (c .before .before .before .before .before .loop .inv .4)
+    (c .before .before .before .before .loop-test .left)
+    (sym (c .before .before .before .complete .ensures) ∙ not-true _ (c .before .before .if1 .taken))))
 
 returns-3 : tie.Need-returns-3 Inv-loop μ-loop
 returns-3 c =
     let at-loop = c .before .before .before in
-    board-found _ _ _ _ _ (at-loop .loop .inv .4 .array) (walk-end _ _ _ _ _ _ _ (at-loop .loop .inv .4) (c .before .before .loop-test .left) (sym (c .before .complete .ensures) ∙ not-false _ (c .if1 .left)))
+    board-found _ _ _ _ _ (at-loop .loop .inv .4 .array)
+    (walk-end _ _ _ _ _ _ _ (at-loop .loop .inv .4) (c .before .before .loop-test .left)
+    (sym (c .before .complete .ensures) ∙ not-false _ (c .if1 .left)))
 
 pub read-parts-spec : {M : Type 1} → statement M
 read-parts-spec =

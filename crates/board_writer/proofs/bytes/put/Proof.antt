@@ -8,13 +8,16 @@ returns : tie.Need-returns
 returns c =
     let at-write-number = c .before .before .before .before in
     let entry = at-write-number .before .before .before in
-    absurd (put-never-refused (entry .args .value) (entry .args .out .now) (entry .args .at) (at-write-number .write-number .result) (entry .pre .0) (entry .pre .1) (at-write-number .write-number .ensures) (c .enum-told .given .1))
+    absurd (put-never-refused (entry .args .value) (entry .args .out .now) (entry .args .at)
+    (at-write-number .write-number .result) (entry .pre .0) (entry .pre .1)
+    (at-write-number .write-number .ensures) (c .enum-told .given .1))
 
 returns-2 : tie.Need-returns-2
 returns-2 c =
     let at-write-number = c .before .before .before .before .before in
     let entry = at-write-number .before .before .before in
-    put-next (entry .args .value) (entry .args .out .now) (entry .args .at) (at-write-number .write-number .result) (entry .pre .0) (entry .pre .1) (at-write-number .write-number .ensures) (c .before .written .given .1)
+    put-next (entry .args .value) (entry .args .out .now) (entry .args .at) (at-write-number .write-number .result)
+    (entry .pre .0) (entry .pre .1) (at-write-number .write-number .ensures) (c .before .written .given .1)
 
 pub put-spec : {M : Type 1} → statement M
 put-spec =

@@ -1,4 +1,5 @@
--- `board_writer::bytes::write_part` meets its contract: of the kind, both ends and the name, if any, one less is to come after each `put`.
+-- `board_writer::bytes::write_part` meets its contract: of the kind, both ends and the name, if any, one less is to
+-- come after each `put`.
 use borrow.Author.Needs.{needs}
 use Rattle.board_writer.proofs.bytes.write_part.Statement.{statement}
 use Rattle.board_writer.proofs.bytes.write_part.Tie as tie
@@ -11,13 +12,18 @@ use Rattle.board_writer.proofs.WriteLaws.{part-to-come, wire-to-come, n
 put-requires : tie.Need-put-requires
 put-requires c κs =
     let entry = c .before .before .before in
-    number-room (c .before .number .ensures) (part-to-come (entry .args .part) (entry .args .out .now) (entry .args .at) (entry .pre)) (omega (arith, kind-number-most (entry .args .part .kind)))
+    number-room (c .before .number .ensures)
+    (part-to-come (entry .args .part) (entry .args .out .now) (entry .args .at) (entry .pre))
+    (omega (arith, kind-number-most (entry .args .part .kind)))
 
 put-requires-2 : tie.Need-put-requires-2
 put-requires-2 c κs =
     let at-number = c .before .before .before .before .before .before in
     let entry = at-number .before .before in
-    number-room (c .before .wide .ensures .0) (number-put (at-number .number .ensures) (part-to-come (entry .args .part) (entry .args .out .now) (entry .args .at) (entry .pre)) (c .before .before .before .before .put .ensures)) (omega arith)
+    number-room (c .before .wide .ensures .0)
+    (number-put (at-number .number .ensures)
+    (part-to-come (entry .args .part) (entry .args .out .now) (entry .args .at) (entry .pre))
+    (c .before .before .before .before .put .ensures)) (omega arith)
 
 put-requires-3 : tie.Need-put-requires-3
 put-requires-3 c κs =
@@ -25,7 +31,11 @@ put-requires-3 c κs =
     let at-put = at-wide .before .before .before in
     let at-number = at-put .before .before in
     let entry = at-number .before .before in
-    number-room (c .before .wide2 .ensures .0) (number-put (at-wide .wide .ensures .0) (number-put (at-number .number .ensures) (part-to-come (entry .args .part) (entry .args .out .now) (entry .args .at) (entry .pre)) (at-put .put .ensures)) (c .before .before .before .before .put2 .ensures)) (omega arith)
+    number-room (c .before .wide2 .ensures .0)
+    (number-put (at-wide .wide .ensures .0)
+    (number-put (at-number .number .ensures)
+    (part-to-come (entry .args .part) (entry .args .out .now) (entry .args .at) (entry .pre))
+    (at-put .put .ensures)) (c .before .before .before .before .put2 .ensures)) (omega arith)
 
 put-requires-4 : tie.Need-put-requires-4
 put-requires-4 c κs =
@@ -36,7 +46,14 @@ put-requires-4 c κs =
     let at-put = at-wide .before .before .before in
     let at-number = at-put .before .before in
     let entry = at-number .before .before in
-    number-room (c .before .wide3 .ensures .0 ∙ c .before .before .name .ensures) (name-to-come (entry .args .part .kind) (number-put (at-wide2 .wide2 .ensures .0) (number-put (at-wide .wide .ensures .0) (number-put (at-number .number .ensures) (part-to-come (entry .args .part) (entry .args .out .now) (entry .args .at) (entry .pre)) (at-put .put .ensures)) (at-put2 .put2 .ensures)) (at-put3 .put3 .ensures)) (λ z. c .before .before .before .if1 .left (at-number .number .ensures ∙ z))) (omega arith)
+    number-room (c .before .wide3 .ensures .0 ∙ c .before .before .name .ensures)
+    (name-to-come (entry .args .part .kind)
+    (number-put (at-wide2 .wide2 .ensures .0)
+    (number-put (at-wide .wide .ensures .0)
+    (number-put (at-number .number .ensures)
+    (part-to-come (entry .args .part) (entry .args .out .now) (entry .args .at) (entry .pre))
+    (at-put .put .ensures)) (at-put2 .put2 .ensures)) (at-put3 .put3 .ensures))
+    (λ z. c .before .before .before .if1 .left (at-number .number .ensures ∙ z))) (omega arith)
 
 returns : tie.Need-returns
 returns c =
@@ -45,7 +62,14 @@ returns c =
     let at-put = at-wide .before .before .before in
     let at-number = at-put .before .before in
     let entry = at-number .before .before in
-    numbers-done (wire-to-come (entry .args .part .kind) (number-put (c .before .before .before .before .before .wide2 .ensures .0) (number-put (at-wide .wide .ensures .0) (number-put (at-number .number .ensures) (part-to-come (entry .args .part) (entry .args .out .now) (entry .args .at) (entry .pre)) (at-put .put .ensures)) (at-put2 .put2 .ensures)) (c .before .before .before .put3 .ensures)) (sym (at-number .number .ensures) ∙ c .if1 .taken))
+    numbers-done
+    (wire-to-come (entry .args .part .kind)
+    (number-put (c .before .before .before .before .before .wide2 .ensures .0)
+    (number-put (at-wide .wide .ensures .0)
+    (number-put (at-number .number .ensures)
+    (part-to-come (entry .args .part) (entry .args .out .now) (entry .args .at) (entry .pre))
+    (at-put .put .ensures)) (at-put2 .put2 .ensures)) (c .before .before .before .put3 .ensures))
+    (sym (at-number .number .ensures) ∙ c .if1 .taken))
 
 returns-2 : tie.Need-returns-2
 returns-2 c =
@@ -57,7 +81,16 @@ returns-2 c =
     let at-put = at-wide .before .before .before in
     let at-number = at-put .before .before in
     let entry = at-number .before .before in
-    numbers-done (number-put (c .before .before .before .before .wide3 .ensures .0 ∙ c .before .before .before .before .before .name .ensures) (name-to-come (entry .args .part .kind) (number-put (at-wide2 .wide2 .ensures .0) (number-put (at-wide .wide .ensures .0) (number-put (at-number .number .ensures) (part-to-come (entry .args .part) (entry .args .out .now) (entry .args .at) (entry .pre)) (at-put .put .ensures)) (at-put2 .put2 .ensures)) (at-put3 .put3 .ensures)) (λ z. at-if1 .if1 .left (at-number .number .ensures ∙ z))) (c .before .before .put4 .ensures))
+    numbers-done
+    (number-put (c .before .before .before .before .wide3 .ensures .0
+    ∙ c .before .before .before .before .before .name .ensures)
+    (name-to-come (entry .args .part .kind)
+    (number-put (at-wide2 .wide2 .ensures .0)
+    (number-put (at-wide .wide .ensures .0)
+    (number-put (at-number .number .ensures)
+    (part-to-come (entry .args .part) (entry .args .out .now) (entry .args .at) (entry .pre))
+    (at-put .put .ensures)) (at-put2 .put2 .ensures)) (at-put3 .put3 .ensures))
+    (λ z. at-if1 .if1 .left (at-number .number .ensures ∙ z))) (c .before .before .put4 .ensures))
 
 pub write-part-spec : {M : Type 1} → statement M
 write-part-spec =

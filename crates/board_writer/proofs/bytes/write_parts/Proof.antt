@@ -10,7 +10,9 @@ use Rattle.board_writer.proofs.PieceLaws.{ToCome, to-come-all, to-come-
 use Rattle.board_writer.proofs.WriteLaws.{part-room, part-put, parts-done}
 
 abbrev Inv-loop : tie.InvT-loop
-Inv-loop count out₀ start parts at₀ i₀ out at i = (count ≤ 256) × (length parts ≡ 256) × (i ≤ count) × ToCome out₀ start (partsBytes (take count parts)) out at (partsBytes (drop i (take count parts)))
+Inv-loop count out₀ start parts at₀ i₀ out at i =
+    (count ≤ 256) × (length parts ≡ 256) × (i ≤ count) × ToCome out₀ start (partsBytes (take count parts)) out at
+    (partsBytes (drop i (take count parts)))
 
 abbrev μ-loop : tie.MeasureT-loop
 μ-loop count out₀ start parts at₀ i₀ out at i = count - i
@@ -22,13 +24,20 @@ write-part-requires : tie.Need-write-part-requires Inv-loop μ-loop
 write-part-requires c κs =
     let at-loop = c .before .before .before in
     let entry = at-loop .before .before in
-    part-room (entry .args .t1) (entry .args .count) (at-loop .loop .i) (omega arith) (at-loop .loop .inv .3) (c .before .before .loop-test .taken)
+    part-room (entry .args .t1) (entry .args .count) (at-loop .loop .i) (omega arith) (at-loop .loop .inv .3)
+    (c .before .before .loop-test .taken)
 
 loop-again : tie.Need-loop-again Inv-loop μ-loop
 loop-again c =
     let at-loop = c .before .before .before .before .before .before in
-    let entry = at-loop .before .before in
-    (at-loop .loop .inv .0, at-loop .loop .inv .1, omega arith, part-put (entry .args .t1) (entry .args .count) (at-loop .loop .i) (omega arith) (at-loop .loop .inv .3) (c .before .before .before .before .before .loop-test .taken) (c .before .before .write-part .ensures))
+    let entry = at-loop .before .before in (
+      at-loop .loop .inv .0,
+      at-loop .loop .inv .1,
+      omega arith,
+      part-put (entry .args .t1) (entry .args .count)
+          (at-loop .loop .i) (omega arith) (at-loop .loop .inv .3)
+          (c .before .before .before .before .before .loop-test .taken) (c .before .before .write-part .ensures),
+    )
 
 same-length : tie.Need-same-length Inv-loop μ-loop
 same-length c = to-come-length (c .before .loop .inv .3)
@@ -36,7 +45,8 @@ same-length c = to-come-length (c .before .loop .inv .3)
 returns : tie.Need-returns Inv-loop μ-loop
 returns c =
     let entry = c .before .before .before in
-    parts-done (entry .args .t1) (entry .args .count) (c .before .loop .i) (omega arith) (c .before .loop .inv .3) (c .loop-test .left)
+    parts-done (entry .args .t1) (entry .args .count) (c .before .loop .i) (omega arith) (c .before .loop .inv .3)
+    (c .loop-test .left)
 
 pub write-parts-spec : {M : Type 1} → statement M
 write-parts-spec =

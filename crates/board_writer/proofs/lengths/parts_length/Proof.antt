@@ -1,4 +1,5 @@
--- `board_writer::lengths::parts_length` meets its contract. The invariant: the total and the bytes of the parts from i on are all the bytes, and the total is at most 12 for each part passed.
+-- `board_writer::lengths::parts_length` meets its contract. The invariant: the total and the bytes of the parts from i
+-- on are all the bytes, and the total is at most 12 for each part passed.
 use Rattle.board_writer.proofs.lengths.parts_length.Statement.{statement}
 use Rattle.board_writer.proofs.lengths.parts_length.Tie as tie
 use mathlib.Core.Path.{_≡_}
@@ -10,7 +11,9 @@ use Rattle.board_writer.specs.File.{partsBytes}
 use Rattle.board_writer.proofs.LengthLaws.{parts-length-on, parts-length-end}
 
 abbrev Inv-loop : tie.InvT-loop
-Inv-loop count parts total₀ i₀ total i = (count ≤ 256) × (length parts ≡ 256) × (i ≤ count) × (total ≤ 12 * i) × (total + length (partsBytes (drop i (take count parts))) ≡ length (partsBytes (take count parts)))
+Inv-loop count parts total₀ i₀ total i =
+    (count ≤ 256) × (length parts ≡ 256) × (i ≤ count) × (total ≤ 12 * i)
+    × (total + length (partsBytes (drop i (take count parts))) ≡ length (partsBytes (take count parts)))
 
 abbrev μ-loop : tie.MeasureT-loop
 μ-loop count parts total₀ i₀ total i = count - i
@@ -21,13 +24,23 @@ loop-holds c = (c .pre, c .good .0 .1 .0 .1, omega arith, omega arith, omega ari
 loop-again : tie.Need-loop-again Inv-loop μ-loop
 loop-again c =
     let at-loop = c .before .before .before in
-    let entry = at-loop .before in
-    (at-loop .loop .inv .0, at-loop .loop .inv .1, omega arith, omega arith, parts-length-on (entry .args .t1) (entry .args .count) (at-loop .loop .i) (omega arith) (at-loop .loop .total) (at-loop .loop .inv .4) (c .before .before .loop-test .taken) (c .part-length .ensures .0))
+    let entry = at-loop .before in (
+      at-loop .loop .inv .0,
+      at-loop .loop .inv .1,
+      omega arith,
+      omega arith,
+      parts-length-on (entry .args .t1)
+          (entry .args .count) (at-loop .loop .i) (omega arith) (at-loop .loop .total) (at-loop .loop .inv .4)
+          (c .before .before .loop-test .taken) (c .part-length .ensures .0),
+    )
 
 returns : tie.Need-returns Inv-loop μ-loop
 returns c =
-    let entry = c .before .before in
-    (parts-length-end (entry .args .t1) (entry .args .count) (c .before .loop .i) (omega arith) (c .before .loop .total) (c .before .loop .inv .4) (c .loop-test .left), omega arith)
+    let entry = c .before .before in (
+      parts-length-end (entry .args .t1) (entry .args .count) (c .before .loop .i) (omega arith)
+          (c .before .loop .total) (c .before .loop .inv .4) (c .loop-test .left),
+      omega arith,
+    )
 
 pub parts-length-spec : {M : Type 1} → statement M
 parts-length-spec =

@@ -32,7 +32,15 @@ returns-7 : tie.Need-returns-7
 unfolding kindOf
 returns-7 c =
     let none = c .match .rest in
-    rw (ne-eqb _ 0 (none .0 .0 .0 .0 .0 .1), ne-eqb _ 1 (none .0 .0 .0 .0 .1), ne-eqb _ 2 (none .0 .0 .0 .1), ne-eqb _ 3 (none .0 .0 .1), ne-eqb _ 4 (none .0 .1), ne-eqb _ 5 (none .1))
+    rw (
+      ne-eqb _ 0 (none .0 .0 .0 .0 .0 .1),
+      ne-eqb _ 1 (none .0 .0 .0 .0 .1),
+      ne-eqb _ 2 (none .0 .0 .0 .1),
+      ne-eqb
+          _ 3 (none .0 .0 .1),
+      ne-eqb _ 4 (none .0 .1),
+      ne-eqb _ 5 (none .1),
+    )
 
 pub of-spec : {M : Type 1} → statement M
 of-spec =

@@ -1,4 +1,5 @@
--- `lines::text::put_digits` meets its contract: the digits of a tenth of the value, then the last digit. The measure is the value.
+-- `lines::text::put_digits` meets its contract: the digits of a tenth of the value, then the last digit. The measure is
+-- the value.
 use native.Mathlib.Omega.{arith}
 use lib.ListN.{length-set}
 use Rattle.lines.proofs.DecimalLaws.{last-small, rest-less}
@@ -68,15 +69,20 @@ put-digits-returns :
     (put-digits-below t, put-digits.Post)
     (put-digits-at t)
     put-digits.Post
-put-digits-returns t c = digit-put (c .before .before .args .value) (c .before .before .args .out .now) (c .before .before .args .at) (omega arith)
+put-digits-returns t c =
+    digit-put (c .before .before .args .value) (c .before .before .args .out .now) (c .before .before .args .at)
+    (omega arith)
 
 put-digits-put-digits-requires : (t : ℕ) → put-digits-lts.Need-put-digits-requires (
   put-digits-below t,
   put-digits.Post,
 ) (put-digits-at t) put-digits.Post
 put-digits-put-digits-requires t c κs =
-    let entry = c .before .before .before in
-    (omega (arith, rest-less (entry .args .value) (omega arith)), tenth-room (entry .args .value) (entry .args .out .now) (entry .args .at) (omega arith) (omega arith) (entry .pre .1))
+    let entry = c .before .before .before in (
+      omega (arith, rest-less (entry .args .value) (omega arith)),
+      tenth-room (entry .args .value)
+          (entry .args .out .now) (entry .args .at) (omega arith) (omega arith) (entry .pre .1),
+    )
 
 put-digits-cast-out-2 : (t : ℕ) → put-digits-lts.Need-cast-out-2 (
   put-digits-below t,
@@ -100,7 +106,8 @@ put-digits-slice-write-out-2 : (t : ℕ) → put-digits-lts.Need-slice-write-out
 ) (put-digits-at t) put-digits.Post
 put-digits-slice-write-out-2 t c =
     let entry = c .before .before .before .before .before .before in
-    last-room (entry .args .value) (entry .args .out .now) (entry .args .at) (omega arith) (omega arith) (c .before .before .put-digits .ensures) (entry .pre .1)
+    last-room (entry .args .value) (entry .args .out .now) (entry .args .at) (omega arith) (omega arith)
+    (c .before .before .put-digits .ensures) (entry .pre .1)
 
 put-digits-add-result-2 : (t : ℕ) → put-digits-lts.Need-add-result-2 (
   put-digits-below t,
@@ -108,7 +115,11 @@ put-digits-add-result-2 : (t : ℕ) → put-digits-lts.Need-add-result-2 (
 ) (put-digits-at t) put-digits.Post
 put-digits-add-result-2 t c =
     let entry = c .before .before .before .before .before .before in
-    omega (arith, last-room (entry .args .value) (entry .args .out .now) (entry .args .at) (omega arith) (omega arith) (c .before .before .put-digits .ensures) (entry .pre .1))
+    omega (
+      arith,
+      last-room (entry .args .value) (entry .args .out .now) (entry .args .at) (omega arith)
+          (omega arith) (c .before .before .put-digits .ensures) (entry .pre .1),
+    )
 
 put-digits-same-length-2 : (t : ℕ) → put-digits-lts.Need-same-length-2 (
   put-digits-below t,
@@ -122,7 +133,8 @@ put-digits-returns-2 : (t : ℕ) → put-digits-lts.Need-returns-2 (
 ) (put-digits-at t) put-digits.Post
 put-digits-returns-2 t c =
     let entry = c .before .before .before .before .before .before in
-    last-put (entry .args .value) (entry .args .out .now) (entry .args .at) (omega arith) (omega arith) (c .before .before .put-digits .ensures)
+    last-put (entry .args .value) (entry .args .out .now) (entry .args .at) (omega arith) (omega arith)
+    (c .before .before .put-digits .ensures)
 
 pub +put-digits-spec : {M : Type 1} → statement M
 +put-digits-spec = close μ-put-digits λ t. put-digits-lts.spec (

@@ -1,4 +1,5 @@
--- `lines::text::put` meets its contract: after i turns of the loop the first i bytes are put. The measure is the bytes left.
+-- `lines::text::put` meets its contract: after i turns of the loop the first i bytes are put. The measure is the bytes
+-- left.
 use mathlib.Core.Path.{_≡_, ap, _∙_}
 use Prim.Native.Nat.{_≤_, _-_}
 use native.Mathlib.Omega.{arith}
@@ -19,23 +20,33 @@ slice-write-out : tie.Need-slice-write-out Inv-loop μ-loop
 slice-write-out c =
     let at-loop = c .before .before in
     let entry = at-loop .before in
-    omega (arith, ap length (at-loop .loop .inv .1), length-sets (entry .args .out .now) (entry .args .at) (take (at-loop .loop .i) (entry .args .bytes .now)))
+    omega (
+      arith,
+      ap length (at-loop .loop .inv .1),
+      length-sets (entry .args .out .now) (entry .args .at)
+          (take (at-loop .loop .i) (entry .args .bytes .now)),
+    )
 
 loop-again : tie.Need-loop-again Inv-loop μ-loop
 loop-again c =
     let at-loop = c .before .before in
-    let entry = at-loop .before in
-    (omega arith, bytes-next (entry .args .out .now) (entry .args .at) (entry .args .bytes .now) (at-loop .loop .i) (at-loop .loop .inv .1) (omega arith))
+    let entry = at-loop .before in (
+      omega arith,
+      bytes-next (entry .args .out .now) (entry .args .at) (entry .args .bytes .now) (at-loop .loop .i)
+          (at-loop .loop .inv .1) (omega arith),
+    )
 
 same-length : tie.Need-same-length Inv-loop μ-loop
 same-length c =
     let entry = c .before .before in
-    ap length (c .before .loop .inv .1) ∙ length-sets (entry .args .out .now) (entry .args .at) (take (c .before .loop .i) (entry .args .bytes .now))
+    ap length (c .before .loop .inv .1) ∙ length-sets (entry .args .out .now) (entry .args .at)
+    (take (c .before .loop .i) (entry .args .bytes .now))
 
 returns : tie.Need-returns Inv-loop μ-loop
 returns c =
     let entry = c .before .before in
-    bytes-all (entry .args .out .now) (entry .args .at) (entry .args .bytes .now) (c .before .loop .i) (c .before .loop .inv .1) (c .before .loop .inv .0) (omega arith)
+    bytes-all (entry .args .out .now) (entry .args .at) (entry .args .bytes .now) (c .before .loop .i)
+    (c .before .loop .inv .1) (c .before .loop .inv .0) (omega arith)
 
 pub put-spec : {M : Type 1} → statement M
 put-spec =

@@ -8,14 +8,16 @@ put-number-requires-2 : tie.Need-put-number-requires-2
 put-number-requires-2 c κs =
     let at-put = c .before .before .before .before .before .before .before .before in
     let entry = at-put .before .before .before .before in
-    place-room (entry .args .refusal .number) 0 (entry .args .out .now) (entry .pre) (at-put .put .ensures) (c .before .before .before .put-number .ensures)
+    place-room (entry .args .refusal .number) 0 (entry .args .out .now) (entry .pre) (at-put .put .ensures)
+    (c .before .before .before .put-number .ensures)
 
 returns : tie.Need-returns
 returns c =
     let at-put-number = c .before .before .before .before .before .before in
     let at-put = at-put-number .before .before .before .before .before in
     let entry = at-put .before .before .before .before in
-    closing-put (entry .args .refusal .number) (entry .args .refusal .place) (entry .args .out .now) (entry .pre) (at-put .put .ensures) (at-put-number .put-number .ensures) (c .before .before .put-number2 .ensures)
+    closing-put (entry .args .refusal .number) (entry .args .refusal .place) (entry .args .out .now) (entry .pre)
+    (at-put .put .ensures) (at-put-number .put-number .ensures) (c .before .before .put-number2 .ensures)
 
 pub put-closing-spec : {M : Type 1} → statement M
 put-closing-spec =

@@ -14,17 +14,23 @@ put-digits-requires c κs =
 slice-write-out : tie.Need-slice-write-out
 slice-write-out c =
     let entry = c .before .before .before .before .before in
-    after-room (entry .args .value) (entry .args .out .now) (entry .args .at) (c .before .before .put-digits .ensures) (entry .pre)
+    after-room (entry .args .value) (entry .args .out .now) (entry .args .at)
+    (c .before .before .put-digits .ensures) (entry .pre)
 
 add-result : tie.Need-add-result
 add-result c =
     let entry = c .before .before .before .before .before in
-    omega (arith, after-room (entry .args .value) (entry .args .out .now) (entry .args .at) (c .before .before .put-digits .ensures) (entry .pre))
+    omega (
+      arith,
+      after-room (entry .args .value) (entry .args .out .now) (entry .args .at)
+          (c .before .before .put-digits .ensures) (entry .pre),
+    )
 
 returns : tie.Need-returns
 returns c =
     let entry = c .before .before .before .before .before in
-    put-after (entry .args .out .now) (entry .args .at) (decimal (entry .args .value)) (c .before .before .put-digits .ensures) (entry .args .then)
+    put-after (entry .args .out .now) (entry .args .at) (decimal (entry .args .value))
+    (c .before .before .put-digits .ensures) (entry .args .then)
 
 pub put-number-spec : {M : Type 1} → statement M
 put-number-spec =

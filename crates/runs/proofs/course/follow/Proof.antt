@@ -1,4 +1,5 @@
--- `runs::course::follow` meets its contract: of the run's loop, that what was logged goes on as the run from here; of the scan, that nothing has changed and the look from 0 is the look from this relay.
+-- `runs::course::follow` meets its contract: of the run's loop, that what was logged goes on as the run from here; of
+-- the scan, that nothing has changed and the look from 0 is the look from this relay.
 use Rattle.runs.proofs.course.follow.Statement.{statement}
 use Rattle.runs.proofs.course.follow.Tie as tie
 use borrow.Author.Needs.{needs}
@@ -10,16 +11,20 @@ use Rattle.moves.specs.Steps.{made, toldMove, stepper}
 use Rattle.runs.specs.Runs.{runOf}
 use Rattle.runs.specs.Running.{ran}
 use Rattle.runs.proofs.SeenLaws.{step-seen, motion-moves}
-use Rattle.runs.proofs.CourseLaws.{Course, ScanSoFar, course-starts, scan-starts, scan-rests, course-idle, course-undecided, course-conflict, course-spent, course-moves}
+use Rattle.runs.proofs.CourseLaws.{Course, ScanSoFar, course-starts, scan-starts, scan-rests, course-idle}
+use Rattle.runs.proofs.CourseLaws.{course-undecided, course-conflict, course-spent, course-moves}
 
 abbrev Inv-scan : tie.InvT-scan
-Inv-scan board log₀ allowance relays state₀ moves₀ near relay₀ log state moves relay = ScanSoFar (stepper board allowance) relays log₀ moves₀ state₀ log moves state relay
+Inv-scan board log₀ allowance relays state₀ moves₀ near relay₀ log state moves relay =
+    ScanSoFar (stepper board allowance) relays log₀ moves₀ state₀ log moves state relay
 
 abbrev μ-scan : tie.MeasureT-scan
 μ-scan board log₀ allowance relays state₀ moves₀ near relay₀ log state moves relay = relays - relay
 
 abbrev Inv-run : tie.InvT-run
-Inv-run board log₀ allowance relays state₀ moves₀ log state moves = Course (stepper board allowance) relays (ran (runOf (stepper board allowance) relays (length log₀) state₀) log₀) (length log₀) log moves state
+Inv-run board log₀ allowance relays state₀ moves₀ log state moves =
+    Course (stepper board allowance) relays (ran (runOf (stepper board allowance) relays (length log₀) state₀) log₀)
+    (length log₀) log moves state
 
 abbrev μ-run : tie.MeasureT-run
 μ-run board log₀ allowance relays state₀ moves₀ log state moves = length log₀ - moves
@@ -34,13 +39,22 @@ scan-again : tie.Need-scan-again Inv-scan μ-scan Inv-run μ-run
 scan-again c =
     let at-scan = c .before .before .before .before .before .before in
     let at-neighbours = at-scan .before in
-    scan-rests _ _ _ _ _ _ _ _ _ (at-scan .scan .inv) (c .before .before .before .before .before .if1 .left) (sym (ap toldMove (c .enum-told .given .1)) ∙ (step-seen _ _ _ _ _ _ _ _ (at-neighbours .neighbours .ensures) (at-scan .scan .inv .same-state) (c .before .before .before .wide .ensures .0) (c .before .before .step .ensures)))
+    scan-rests _ _ _ _ _ _ _ _ _ (at-scan .scan .inv) (c .before .before .before .before .before .if1 .left)
+    (sym (ap toldMove (c .enum-told .given .1))
+    ∙ (step-seen _ _ _ _ _ _ _ _ (at-neighbours .neighbours .ensures) (at-scan .scan .inv .same-state)
+    (c .before .before .before .wide .ensures .0) (c .before .before .step .ensures)))
 
 run-less : tie.Need-run-less Inv-scan μ-scan Inv-run μ-run
 run-less c =
     let at-scan = c .before .before .before .before .before .before .before .before .before in
     let at-run = at-scan .before .before in
-    omega (arith, at-scan .scan .inv .same-moves, ap length (at-scan .scan .inv .same-log), at-run .run .inv .long, c .before .before .before .if2 .left)
+    omega (
+      arith,
+      at-scan .scan .inv .same-moves,
+      ap length (at-scan .scan .inv .same-log),
+      at-run .run .inv .long,
+      c .before .before .before .if2 .left,
+    )
 
 run-again : tie.Need-run-again Inv-scan μ-scan Inv-run μ-run
 run-again c =
@@ -50,13 +64,25 @@ run-again c =
     let at-scan = at-if1 .before in
     let at-neighbours = at-scan .before in
     let at-run = at-neighbours .before in
-    course-moves _ _ _ _ _ _ _ _ _ (at-scan .scan .inv) _ _ (at-run .run .inv) (toldMove (at-step .step .result)) _ _ (at-if1 .if1 .left) (step-seen _ _ _ _ _ _ _ _ (at-neighbours .neighbours .ensures) (at-scan .scan .inv .same-state) (at-wide .wide .ensures .0) (at-step .step .ensures)) (motion-moves (at-step .step .result) (c .before .before .before .before .match .keys4)) (omega (arith, ap length (at-scan .scan .inv .same-log), at-run .run .inv .long, c .before .before .before .if2 .left)) (c .before .before .byte .ensures) (c .after .ensures ∙ ap (λ (q : ℕ). made (at-scan .scan .state) q (toldMove (at-step .step .result))) (c .before .wide2 .ensures .0))
+    course-moves _ _ _ _ _ _ _ _ _ (at-scan .scan .inv) _ _ (at-run .run .inv) (toldMove (at-step .step .result)) _
+    _ (at-if1 .if1 .left) (step-seen _ _ _ _ _ _ _ _ (at-neighbours .neighbours .ensures)
+    (at-scan .scan .inv .same-state) (at-wide .wide .ensures .0) (at-step .step .ensures))
+    (motion-moves (at-step .step .result) (c .before .before .before .before .match .keys4))
+    (omega (
+      arith,
+      ap length (at-scan .scan .inv .same-log),
+      at-run .run .inv .long,
+      c .before .before .before .if2 .left,
+    )) (c .before .before .byte .ensures)
+    (c .after .ensures ∙ ap (λ (q : ℕ). made (at-scan .scan .state) q (toldMove (at-step .step .result)))
+    (c .before .wide2 .ensures .0))
 
 same-length : tie.Need-same-length Inv-scan μ-scan Inv-run μ-run
 same-length c = sym (ap length (c .before .scan .inv .same-log)) ∙ c .before .before .before .run .inv .long
 
 returns : tie.Need-returns Inv-scan μ-scan Inv-run μ-run
-returns c = course-idle _ _ _ _ _ _ _ _ _ (c .before .scan .inv) _ _ (c .before .before .before .run .inv) (c .if1 .taken)
+returns c =
+    course-idle _ _ _ _ _ _ _ _ _ (c .before .scan .inv) _ _ (c .before .before .before .run .inv) (c .if1 .taken)
 
 same-length-2 : tie.Need-same-length-2 Inv-scan μ-scan Inv-run μ-run
 same-length-2 c =
@@ -69,7 +95,11 @@ returns-2 c =
     let at-scan = c .before .before .before .before .before .before in
     let at-neighbours = at-scan .before in
     let at-run = at-neighbours .before in
-    course-undecided _ _ _ _ _ _ _ _ _ (at-scan .scan .inv) _ _ (at-run .run .inv) (c .before .before .before .before .before .if1 .left) (sym (ap toldMove (c .enum-told2 .given .1)) ∙ (step-seen _ _ _ _ _ _ _ _ (at-neighbours .neighbours .ensures) (at-scan .scan .inv .same-state) (c .before .before .before .wide .ensures .0) (c .before .before .step .ensures)))
+    course-undecided _ _ _ _ _ _ _ _ _ (at-scan .scan .inv) _ _ (at-run .run .inv)
+    (c .before .before .before .before .before .if1 .left)
+    (sym (ap toldMove (c .enum-told2 .given .1))
+    ∙ (step-seen _ _ _ _ _ _ _ _ (at-neighbours .neighbours .ensures) (at-scan .scan .inv .same-state)
+    (c .before .before .before .wide .ensures .0) (c .before .before .step .ensures)))
 
 same-length-3 : tie.Need-same-length-3 Inv-scan μ-scan Inv-run μ-run
 same-length-3 c =
@@ -82,7 +112,11 @@ returns-3 c =
     let at-scan = c .before .before .before .before .before .before in
     let at-neighbours = at-scan .before in
     let at-run = at-neighbours .before in
-    course-conflict _ _ _ _ _ _ _ _ _ (at-scan .scan .inv) _ _ (at-run .run .inv) (c .before .before .before .before .before .if1 .left) (sym (ap toldMove (c .enum-told3 .given .1)) ∙ (step-seen _ _ _ _ _ _ _ _ (at-neighbours .neighbours .ensures) (at-scan .scan .inv .same-state) (c .before .before .before .wide .ensures .0) (c .before .before .step .ensures)))
+    course-conflict _ _ _ _ _ _ _ _ _ (at-scan .scan .inv) _ _ (at-run .run .inv)
+    (c .before .before .before .before .before .if1 .left)
+    (sym (ap toldMove (c .enum-told3 .given .1))
+    ∙ (step-seen _ _ _ _ _ _ _ _ (at-neighbours .neighbours .ensures) (at-scan .scan .inv .same-state)
+    (c .before .before .before .wide .ensures .0) (c .before .before .step .ensures)))
 
 same-length-4 : tie.Need-same-length-4 Inv-scan μ-scan Inv-run μ-run
 same-length-4 c =
@@ -96,7 +130,12 @@ returns-4 c =
     let at-scan = at-step .before .before .before .before in
     let at-neighbours = at-scan .before in
     let at-run = at-neighbours .before in
-    course-spent _ _ _ _ _ _ _ _ _ (at-scan .scan .inv) _ _ (at-run .run .inv) (toldMove (at-step .step .result)) (c .before .before .before .before .before .if1 .left) (step-seen _ _ _ _ _ _ _ _ (at-neighbours .neighbours .ensures) (at-scan .scan .inv .same-state) (c .before .before .before .wide .ensures .0) (at-step .step .ensures)) (motion-moves (at-step .step .result) (c .before .match .keys4)) (omega (arith, ap length (at-scan .scan .inv .same-log), at-run .run .inv .long, c .if2 .taken))
+    course-spent _ _ _ _ _ _ _ _ _ (at-scan .scan .inv) _ _ (at-run .run .inv) (toldMove (at-step .step .result))
+    (c .before .before .before .before .before .if1 .left)
+    (step-seen _ _ _ _ _ _ _ _ (at-neighbours .neighbours .ensures) (at-scan .scan .inv .same-state)
+    (c .before .before .before .wide .ensures .0) (at-step .step .ensures))
+    (motion-moves (at-step .step .result) (c .before .match .keys4))
+    (omega (arith, ap length (at-scan .scan .inv .same-log), at-run .run .inv .long, c .if2 .taken))
 
 pub follow-spec : {M : Type 1} → statement M
 follow-spec =

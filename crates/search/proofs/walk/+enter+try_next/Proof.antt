@@ -1,10 +1,15 @@
--- `search::walk::enter` and `search::walk::try_next`, which call each other, meet their contracts. The measure that falls at each call: a hundred for each terminal that the chain has still room for, then 99 where a terminal is entered, or the numbers not yet tried where a neighbour is.
+-- `search::walk::enter` and `search::walk::try_next`, which call each other, meet their contracts. The measure that
+-- falls at each call: a hundred for each terminal that the chain has still room for, then 99 where a terminal is
+-- entered, or the numbers not yet tried where a neighbour is.
 use Prim.Native.Nat.{ℕ, _+_, _-_, _*_, _<_}
 use borrow.Author.Needs.{needs}
 use native.Mathlib.Omega.{arith}
 use native.Mathlib.Nat.{pos-of-ne-zero}
 use Rattle.bits.proofs.LowestLaws.{first-after}
-use Rattle.search.proofs.WalkLaws.{next-length, next-carries, kept-below, carries-kept, entered-spent, entered-live, entered-ends, entered-full, entered-on, tried-none, tried-some, tried-on, tried-back, comes-here, comes-as, comes-after, comes-back, left-room, tries-fall, visits-fall, numbers-fall}
+use Rattle.search.proofs.WalkLaws.{next-length, next-carries, kept-below, carries-kept, entered-spent}
+use Rattle.search.proofs.WalkLaws.{entered-live, entered-ends, entered-full, entered-on, tried-none, tried-some}
+use Rattle.search.proofs.WalkLaws.{tried-on, tried-back, comes-here, comes-as, comes-after, comes-back}
+use Rattle.search.proofs.WalkLaws.{left-room, tries-fall, visits-fall, numbers-fall}
 use borrow.Fn.Kinds.{In}
 use borrow.Fn.PlainCycle.{Measures, is, falls, and}
 use Rattle.search.proofs.walk.enter.Reads as enter
@@ -40,7 +45,9 @@ try-next-below t =
 
 enter-returns :
     (t : ℕ) → enter-lts.Need-returns (try-next-below t, try-next.Post) (enter-at t) enter.Post
-enter-returns t c = comes-here (c .before .args .chain) _ _ _ _ (c .before .pre .1 .1 .short) (entered-spent _ _ _ _ _ (c .if1 .taken))
+enter-returns t c =
+    comes-here (c .before .args .chain) _ _ _ _ (c .before .pre .1 .1 .short)
+    (entered-spent _ _ _ _ _ (c .if1 .taken))
 
 enter-sub-left :
     (t : ℕ) → enter-lts.Need-sub-left (try-next-below t, try-next.Post) (enter-at t) enter.Post
@@ -48,27 +55,48 @@ enter-sub-left t c = omega (arith, c .if1 .left)
 
 enter-returns-2 :
     (t : ℕ) → enter-lts.Need-returns-2 (try-next-below t, try-next.Post) (enter-at t) enter.Post
-enter-returns-2 t c = comes-here (c .before .before .before .before .args .chain) _ _ _ _ (c .before .before .before .before .pre .1 .1 .short) (entered-live _ _ _ (c .before .before .before .before .args .chain) _ _ (c .before .before .before .before .pre .1 .1) (pos-of-ne-zero (c .before .before .before .if1 .left)) (c .before .if2 .taken) (c .if3 .taken))
+enter-returns-2 t c =
+    comes-here (c .before .before .before .before .args .chain) _ _ _ _
+    (c .before .before .before .before .pre .1 .1 .short)
+    (entered-live _ _ _ (c .before .before .before .before .args .chain) _ _
+    (c .before .before .before .before .pre .1 .1) (pos-of-ne-zero (c .before .before .before .if1 .left))
+    (c .before .if2 .taken) (c .if3 .taken))
 
 enter-returns-3 :
     (t : ℕ) → enter-lts.Need-returns-3 (try-next-below t, try-next.Post) (enter-at t) enter.Post
-enter-returns-3 t c = comes-here (c .before .before .before .before .args .chain) _ _ _ _ (c .before .before .before .before .pre .1 .1 .short) (entered-ends _ _ _ (c .before .before .before .before .args .chain) _ _ (c .before .before .before .before .pre .1 .1) (pos-of-ne-zero (c .before .before .before .if1 .left)) (c .before .if2 .taken) (c .if3 .left))
+enter-returns-3 t c =
+    comes-here (c .before .before .before .before .args .chain) _ _ _ _
+    (c .before .before .before .before .pre .1 .1 .short)
+    (entered-ends _ _ _ (c .before .before .before .before .args .chain) _ _
+    (c .before .before .before .before .pre .1 .1) (pos-of-ne-zero (c .before .before .before .if1 .left))
+    (c .before .if2 .taken) (c .if3 .left))
 
 enter-returns-4 :
     (t : ℕ) → enter-lts.Need-returns-4 (try-next-below t, try-next.Post) (enter-at t) enter.Post
-enter-returns-4 t c = comes-here (c .before .before .before .before .args .chain) _ _ _ _ (c .before .before .before .before .pre .1 .1 .short) (entered-full _ _ _ (c .before .before .before .before .args .chain) _ _ (c .before .before .before .before .pre .1 .1) (pos-of-ne-zero (c .before .before .before .if1 .left)) (c .before .if2 .left) (c .if4 .taken))
+enter-returns-4 t c =
+    comes-here (c .before .before .before .before .args .chain) _ _ _ _
+    (c .before .before .before .before .pre .1 .1 .short)
+    (entered-full _ _ _ (c .before .before .before .before .args .chain) _ _
+    (c .before .before .before .before .pre .1 .1) (pos-of-ne-zero (c .before .before .before .if1 .left))
+    (c .before .if2 .left) (c .if4 .taken))
 
 enter-try-next-requires : (t : ℕ) → enter-lts.Need-try-next-requires (
   try-next-below t,
   try-next.Post,
 ) (enter-at t) enter.Post
 enter-try-next-requires t c κs =
-    let entry = c .before .before .before .before .before in
-    (tries-fall _ _ _ (entry .pre .1 .0) (entry .pre .0), (entry .pre .1 .0, (entry .pre .1 .1, (c .before .if4 .left, omega arith))))
+    let entry = c .before .before .before .before .before in (
+      tries-fall _ _ _ (entry .pre .1 .0) (entry .pre .0),
+      (entry .pre .1 .0, (entry .pre .1 .1, (c .before .if4 .left, omega arith))),
+    )
 
 enter-returns-5 :
     (t : ℕ) → enter-lts.Need-returns-5 (try-next-below t, try-next.Post) (enter-at t) enter.Post
-enter-returns-5 t c = comes-as _ (c .before .before .before .before .before .before .args .chain) _ _ _ _ (c .try-next .ensures) (entered-on _ _ _ (c .before .before .before .before .before .before .args .chain) _ _ (c .before .before .before .before .before .before .pre .1 .1) (pos-of-ne-zero (c .before .before .before .before .before .if1 .left)) (c .before .before .before .if2 .left) (c .before .before .if4 .left))
+enter-returns-5 t c = comes-as _ (c .before .before .before .before .before .before .args .chain) _ _ _ _
+    (c .try-next .ensures) (entered-on _ _ _ (c .before .before .before .before .before .before .args .chain) _ _
+    (c .before .before .before .before .before .before .pre .1 .1)
+    (pos-of-ne-zero (c .before .before .before .before .before .if1 .left)) (c .before .before .before .if2 .left)
+    (c .before .before .if4 .left))
 
 try-next-cast-end : (t : ℕ) → try-next-lts.Need-cast-end (
   remaining-reads.Asked,
@@ -142,7 +170,10 @@ try-next-returns : (t : ℕ) → try-next-lts.Need-returns (
 ) (try-next-at t) try-next.Post
 try-next-returns t c =
     let entry = c .before .before .before .before .before in
-    comes-here (entry .args .chain) _ _ _ _ (entry .pre .1 .1 .0 .short) (tried-none _ _ _ _ (entry .args .chain) _ _ _ _ (entry .pre .1 .1 .0) (c .before .before .remaining .ensures) (entry .pre .1 .1 .1 .1) (entry .pre .1 .0) (c .before .next-member .ensures) (c .if1 .taken))
+    comes-here (entry .args .chain) _ _ _ _ (entry .pre .1 .1 .0 .short)
+    (tried-none _ _ _ _ (entry .args .chain) _ _ _ _ (entry .pre .1 .1 .0)
+    (c .before .before .remaining .ensures) (entry .pre .1 .1 .1 .1) (entry .pre .1 .0)
+    (c .before .next-member .ensures) (c .if1 .taken))
 
 try-next-element-write-places : (t : ℕ) → try-next-lts.Need-element-write-places (
   remaining-reads.Asked,
@@ -189,8 +220,16 @@ try-next-enter-requires : (t : ℕ) → try-next-lts.Need-enter-requires (
   try-next.Post,
 ) (try-next-at t) try-next.Post
 try-next-enter-requires t c κs =
-    let entry = c .before .before .before .before .before .before .before in
-    (visits-fall _ _ _ _ _ (entry .pre .1 .1 .1 .0) (next-length _ (entry .args .chain) _ _ _ (entry .pre .1 .1 .0) (c .before .on-to .ensures)) (entry .pre .0), (entry .pre .1 .0, next-carries _ (entry .args .chain) _ _ _ (entry .pre .1 .1 .0) (c .before .on-to .ensures) _ (entry .pre .1 .1 .1 .0) (entry .pre .1 .0) (c .before .before .if1 .left)))
+    let entry = c .before .before .before .before .before .before .before in (
+      visits-fall _ _ _ _ _ (entry .pre .1 .1 .1 .0)
+          (next-length _ (entry .args .chain) _ _ _ (entry .pre .1 .1 .0) (c .before .on-to .ensures))
+          (entry .pre .0),
+      (
+        entry .pre .1 .0,
+        next-carries _ (entry .args .chain) _ _ _ (entry .pre .1 .1 .0)
+            (c .before .on-to .ensures) _ (entry .pre .1 .1 .1 .0) (entry .pre .1 .0) (c .before .before .if1 .left),
+      ),
+    )
 
 try-next-add-try-next : (t : ℕ) → try-next-lts.Need-add-try-next (
   remaining-reads.Asked,
@@ -227,8 +266,21 @@ try-next-try-next-requires t c κs =
     let at-on-to = at-enter .before .before in
     let at-if1 = at-on-to .before in
     let at-next-member = at-if1 .before in
-    let entry = at-next-member .before .before .before .before in
-    (numbers-fall _ _ _ _ _ (first-after _ _ _ _ (at-next-member .next-member .ensures)) (at-if1 .if1 .left) (entry .pre .0), (entry .pre .1 .0, (carries-kept _ (entry .args .chain) _ _ (entry .pre .1 .1 .0) (left-room (entry .args .chain) (at-on-to .on-to .result) (entry .args .places .now) _ (at-next-member .next-member .result) _ _ (at-enter .enter .ensures)) (kept-below _ (entry .args .chain) _ _ _ (entry .pre .1 .1 .0) (at-on-to .on-to .ensures) _ (at-enter .enter .ensures .kept)), (entry .pre .1 .1 .1 .0, omega (arith, at-if1 .if1 .left)))))
+    let entry = at-next-member .before .before .before .before in (
+      numbers-fall _ _ _ _ _ (first-after _ _ _ _ (at-next-member .next-member .ensures)) (at-if1 .if1 .left)
+          (entry .pre .0),
+      (
+        entry .pre .1 .0,
+        (
+          carries-kept _ (entry .args .chain) _ _ (entry .pre .1 .1 .0)
+              (left-room (entry .args .chain) (at-on-to .on-to .result) (entry .args .places .now) _
+              (at-next-member .next-member .result) _ _ (at-enter .enter .ensures))
+              (kept-below _ (entry .args .chain) _ _ _ (entry .pre .1 .1 .0) (at-on-to .on-to .ensures) _
+              (at-enter .enter .ensures .kept)),
+          (entry .pre .1 .1 .1 .0, omega (arith, at-if1 .if1 .left)),
+        ),
+      ),
+    )
 
 try-next-returns-2 : (t : ℕ) → try-next-lts.Need-returns-2 (
   remaining-reads.Asked,
@@ -249,7 +301,17 @@ try-next-returns-2 t c =
     let at-next-member = at-if1 .before in
     let at-remaining = at-next-member .before in
     let entry = at-remaining .before .before .before in
-    comes-after _ (entry .args .chain) _ _ _ _ _ (c .try-next .ensures) (tried-on _ _ _ _ _ _ _ _ (at-enter .enter .result) _ _ (tried-some _ _ _ _ (entry .args .chain) _ _ _ _ _ (entry .pre .1 .1 .0) (at-remaining .remaining .ensures) (entry .pre .1 .1 .1 .1) (entry .pre .1 .0) (entry .pre .1 .1 .1 .0) (at-next-member .next-member .ensures) (at-if1 .if1 .left) (at-on-to .on-to .ensures)) (at-enter .enter .ensures .told) (c .before .before .enum-told .given .1) (kept-below _ (entry .args .chain) _ _ _ (entry .pre .1 .1 .0) (at-on-to .on-to .ensures) _ (at-enter .enter .ensures .kept))) (kept-below _ (entry .args .chain) _ _ _ (entry .pre .1 .1 .0) (at-on-to .on-to .ensures) _ (at-enter .enter .ensures .kept)) (left-room (entry .args .chain) (at-on-to .on-to .result) (entry .args .places .now) _ (at-next-member .next-member .result) _ _ (at-enter .enter .ensures))
+    comes-after _ (entry .args .chain) _ _ _ _ _ (c .try-next .ensures)
+    (tried-on _ _ _ _ _ _ _ _ (at-enter .enter .result) _ _
+    (tried-some _ _ _ _ (entry .args .chain) _ _ _ _ _ (entry .pre .1 .1 .0) (at-remaining .remaining .ensures)
+    (entry .pre .1 .1 .1 .1) (entry .pre .1 .0) (entry .pre .1 .1 .1 .0) (at-next-member .next-member .ensures)
+    (at-if1 .if1 .left) (at-on-to .on-to .ensures)) (at-enter .enter .ensures .told)
+    (c .before .before .enum-told .given .1)
+    (kept-below _ (entry .args .chain) _ _ _ (entry .pre .1 .1 .0) (at-on-to .on-to .ensures) _
+    (at-enter .enter .ensures .kept))) (kept-below _ (entry .args .chain) _ _ _ (entry .pre .1 .1 .0)
+    (at-on-to .on-to .ensures) _ (at-enter .enter .ensures .kept))
+    (left-room (entry .args .chain) (at-on-to .on-to .result) (entry .args .places .now) _
+    (at-next-member .next-member .result) _ _ (at-enter .enter .ensures))
 
 try-next-returns-3 : (t : ℕ) → try-next-lts.Need-returns-3 (
   remaining-reads.Asked,
@@ -267,7 +329,14 @@ try-next-returns-3 t c =
     let at-on-to = c .before .before .before in
     let at-remaining = at-on-to .before .before .before in
     let entry = at-remaining .before .before .before in
-    comes-back _ _ (entry .args .chain) (at-on-to .on-to .result) _ _ _ _ _ (entry .pre .1 .1 .0) (at-on-to .on-to .ensures) (c .before .enter .ensures) (tried-back _ _ _ _ _ _ _ (c .before .enter .result) _ _ (tried-some _ _ _ _ (entry .args .chain) _ _ _ _ _ (entry .pre .1 .1 .0) (at-remaining .remaining .ensures) (entry .pre .1 .1 .1 .1) (entry .pre .1 .0) (entry .pre .1 .1 .1 .0) (c .before .before .before .before .before .next-member .ensures) (c .before .before .before .before .if1 .left) (at-on-to .on-to .ensures)) (c .before .enter .ensures .told) (c .match .keys2))
+    comes-back _ _ (entry .args .chain) (at-on-to .on-to .result) _ _ _ _ _ (entry .pre .1 .1 .0)
+    (at-on-to .on-to .ensures) (c .before .enter .ensures)
+    (tried-back _ _ _ _ _ _ _ (c .before .enter .result) _ _
+    (tried-some _ _ _ _ (entry .args .chain) _ _ _ _ _ (entry .pre .1 .1 .0) (at-remaining .remaining .ensures)
+    (entry .pre .1 .1 .1 .1) (entry .pre .1 .0) (entry .pre .1 .1 .1 .0)
+    (c .before .before .before .before .before .next-member .ensures)
+    (c .before .before .before .before .if1 .left) (at-on-to .on-to .ensures)) (c .before .enter .ensures .told)
+    (c .match .keys2))
 
 pub +enter+try-next-spec : {M : Type 1} → statement M
 +enter+try-next-spec = close μ-enter μ-try-next (λ t. enter-lts.spec (

@@ -17,7 +17,8 @@ sub-t13 c =
 returns : tie.Need-returns
 returns c =
     let entry = c .before .before .before .before in
-    concluded-live (entry .args .walked) (entry .args .places) _ _ (entry .good .1 .0 .1 .0 .1) (entry .pre .0) (c .before .shown .ensures) (c .before .before .enum-told .given .1)
+    concluded-live (entry .args .walked) (entry .args .places) _ _ (entry .good .1 .0 .1 .0 .1) (entry .pre .0)
+    (c .before .shown .ensures) (c .before .before .enum-told .given .1)
 
 returns-2 : tie.Need-returns-2
 returns-2 c =

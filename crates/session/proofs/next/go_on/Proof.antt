@@ -1,4 +1,5 @@
--- `session::next::go_on` meets its contract: the line that is shown, the state after it, and the next event's number and place.
+-- `session::next::go_on` meets its contract: the line that is shown, the state after it, and the next event's number
+-- and place.
 use borrow.Author.Needs.{needs}
 use Rattle.session.proofs.next.go_on.Statement.{statement}
 use Rattle.session.proofs.next.go_on.Tie as tie

@@ -6,10 +6,14 @@ use mathlib.Core.Path.{_∙_}
 use Rattle.session.proofs.StartLaws.{opened-read, opened-unread}
 
 returns : tie.Need-returns
-returns c = opened-read _ (c .before .before .before .before .args .allowance) _ _ _ (c .before .before .allowance .given .1) (c .fresh .ensures)
+returns c =
+    opened-read _ (c .before .before .before .before .args .allowance) _ _ _
+    (c .before .before .allowance .given .1) (c .fresh .ensures)
 
 returns-2 : tie.Need-returns-2
-returns-2 c = c .refuse .ensures ∙ opened-unread _ (c .before .before .before .before .args .allowance) _ (c .before .before .allowance2 .given .1)
+returns-2 c =
+    c .refuse .ensures ∙ opened-unread _ (c .before .before .before .before .args .allowance) _
+    (c .before .before .allowance2 .given .1)
 
 pub begin-with-spec : {M : Type 1} → statement M
 begin-with-spec =

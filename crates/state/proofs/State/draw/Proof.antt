@@ -1,4 +1,5 @@
--- `state::State::draw` meets its contract: what `bits::with` gives is `including`, the one field that `withDrawn` changes.
+-- `state::State::draw` meets its contract: what `bits::with` gives is `including`, the one field that `withDrawn`
+-- changes.
 use borrow.Author.Needs.{needs}
 use Rattle.state.proofs.State.draw.Statement.{statement}
 use Rattle.state.proofs.State.draw.Tie as tie

@@ -1,4 +1,5 @@
--- `state::State::drop` meets its contract: what `bits::without` gives is `excluding`, the one field that `withDropped` changes.
+-- `state::State::drop` meets its contract: what `bits::without` gives is `excluding`, the one field that `withDropped`
+-- changes.
 use borrow.Author.Needs.{needs}
 use Rattle.state.proofs.State.drop.Statement.{statement}
 use Rattle.state.proofs.State.drop.Tie as tie

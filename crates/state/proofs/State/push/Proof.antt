@@ -1,4 +1,5 @@
--- `state::State::push` meets its contract: what `bits::with` gives is `including`, the one field that `withPushed` changes.
+-- `state::State::push` meets its contract: what `bits::with` gives is `including`, the one field that `withPushed`
+-- changes.
 use borrow.Author.Needs.{needs}
 use Rattle.state.proofs.State.push.Statement.{statement}
 use Rattle.state.proofs.State.push.Tie as tie

@@ -1,4 +1,5 @@
--- `state::State::release` meets its contract: what `bits::without` gives is `excluding`, the one field that `withReleased` changes.
+-- `state::State::release` meets its contract: what `bits::without` gives is `excluding`, the one field that
+-- `withReleased` changes.
 use borrow.Author.Needs.{needs}
 use Rattle.state.proofs.State.release.Statement.{statement}
 use Rattle.state.proofs.State.release.Tie as tie

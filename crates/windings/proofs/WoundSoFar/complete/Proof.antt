@@ -24,13 +24,19 @@ unfolding complete
 returns c =
     let at-loop = c .before .before .before in
     let entry = at-loop .before .before in
-    let off : wound (entry .args .self) (at-loop .loop .relay) ≡ false = sym (c .before .wound .ensures) ∙ not-true _ (c .if1 .taken) in
+    let off : wound (entry .args .self) (at-loop .loop .relay) ≡ false =
+    sym (c .before .wound .ensures) ∙ not-true _ (c .if1 .taken) in
     sym (every-fails (wound (entry .args .self)) (entry .args .relays) (at-loop .loop .relay) (omega arith) off)
 
 loop-again : tie.Need-loop-again Inv-loop μ-loop
 loop-again c =
-    let at-loop = c .before .before .before in
-    (at-loop .loop .inv .0, at-loop .loop .inv .1, omega arith, every-more _ _ (at-loop .loop .inv .3) (sym (c .before .wound .ensures) ∙ not-false _ (c .if1 .left)))
+    let at-loop = c .before .before .before in (
+      at-loop .loop .inv .0,
+      at-loop .loop .inv .1,
+      omega arith,
+      every-more _ _ (at-loop .loop .inv .3)
+          (sym (c .before .wound .ensures) ∙ not-false _ (c .if1 .left)),
+    )
 
 returns-2 : tie.Need-returns-2 Inv-loop μ-loop
 unfolding complete

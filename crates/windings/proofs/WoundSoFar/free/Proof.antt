@@ -1,14 +1,28 @@
--- `windings::WoundSoFar::free` meets its contract: in each arm the kind is known, and each call is a test of `windingFree`.
+-- `windings::WoundSoFar::free` meets its contract: in each arm the kind is known, and each call is a test of
+-- `windingFree`.
 use borrow.Author.Needs.{needs}
 use Rattle.windings.proofs.WoundSoFar.free.Statement.{statement}
 use Rattle.windings.proofs.WoundSoFar.free.Tie as tie
 use mathlib.Core.Path.{sym, _∙_}
 
 returns : tie.Need-returns
-returns c = simp (c .before .before .before .before .kind .given .1, ← c .before .before .wide .ensures .0, sym (c .before .has .ensures) ∙ c .if1 .taken)
+returns c =
+    simp (
+      c .before .before .before .before .kind .given .1,
+      ← c .before .before .wide .ensures .0,
+      sym
+          (c .before .has .ensures) ∙ c .if1 .taken,
+    )
 
 returns-2 : tie.Need-returns-2
-returns-2 c = simp (c .in-neither .ensures, c .before .before .before .before .before .kind .given .1, ← c .before .before .before .wide .ensures .0, sym (c .before .before .has .ensures) ∙ c .before .if1 .left)
+returns-2 c =
+    simp (
+      c .in-neither .ensures,
+      c .before .before .before .before .before .kind .given .1,
+      ←
+          c .before .before .before .wide .ensures .0,
+      sym (c .before .before .has .ensures) ∙ c .before .if1 .left,
+    )
 
 returns-3 : tie.Need-returns-3
 returns-3 c = simp (c .in-neither2 .ensures, c .before .before .kind2 .given .1)

@@ -1,4 +1,5 @@
--- `windings::WoundSoFar::with` meets its contract: in each arm the kind is known, and the set that gains the relay is what `bits::with` gives.
+-- `windings::WoundSoFar::with` meets its contract: in each arm the kind is known, and the set that gains the relay is
+-- what `bits::with` gives.
 use borrow.Author.Needs.{needs}
 use Rattle.windings.proofs.WoundSoFar.with.Statement.{statement}
 use Rattle.windings.proofs.WoundSoFar.with.Tie as tie

@@ -11,4 +11,5 @@ returns-2 c = simp length-set (omega arith)
 pub with-digit-spec : {M : Type 1} → statement M
 with-digit-spec =
     tie.close
-    (tie.spec (λ c. search needs) (λ c κs. search needs) (λ c. search needs) (λ c. search needs) (λ c. search needs) returns-2 (λ c. search needs))
+    (tie.spec (λ c. search needs) (λ c κs. search needs) (λ c. search needs) (λ c. search needs) (λ c. search needs)
+    returns-2 (λ c. search needs))
