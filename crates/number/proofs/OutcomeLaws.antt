@@ -2,7 +2,7 @@
 -- of the definitions apart. Also, when two refusals are one.
 use Prim.Native.Nat.{ℕ}
 use native.Mathlib.Omega.{arith}
-use mathlib.Core.Path.{_≡_, refl}
+use mathlib.Core.Path.{_≡_, refl, sym, ap, _∙_}
 use mathlib.Core.Bool.{Bool, true, false}
 use Rattle.number.specs.declared.Refusal.{Refusal}
 use Rattle.number.specs.Outcomes.{Outcome, given, refused, _>>=_, _>>_, unless}
@@ -15,6 +15,11 @@ given-injective a b h = cc
 
 pub refusal-equal : (r q : Refusal) → r .number ≡ q .number → r .place ≡ q .place → r ≡ q
 refusal-equal r q e f = λ i. record { number = e i; place = f i }
+
+-- what can be told back is known by what it tells
+pub inverse-injective : {A B : Type 0} (told : A → B) (untold : B → A) → ((x : A) → untold (told x) ≡ x)
+    → (x y : A) → told x ≡ told y → x ≡ y
+inverse-injective told untold back x y e = sym (back x) ∙ ap untold e ∙ back y
 
 -- what was handed on, that it was given, and what came of it
 pub record HandedOn {A B : Type 0} (o : Outcome A) (f : A → Outcome B) (b : B) : Type 0 where
