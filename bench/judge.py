@@ -1,7 +1,7 @@
 """Prints how many chains a second `judge` goes through on ladders of 8 to 64 terminals, beside the same search in plain Rust
 (bench/ladder.rs), both in one run, and checks that both count the same effort. Each time is the least of several, less that
 of a run with no search; on the small ladders reading the boards is much of what is left of `judge`. Run from anywhere:
-python3 bench/judge.py. Needs target/bin/board_cases, which `rt check board_cases` builds, and rustc; takes about a minute.
+python3 bench/judge.py. Needs target/bin/current_cases, which `rt check current_cases` builds, and rustc; takes about a minute.
 The program is for x86-64: on another machine it runs under the kit's emulator, and only the efforts are compared."""
 import os
 import platform
@@ -63,7 +63,7 @@ def compare(rust, terminals):
     """The line of one search by the plain search, how many times the proved program did it, and whether all lines are the same."""
     (line,), _ = timed([rust], rust_text(terminals, 1))
     times = max(1, min(CHAINS // int(line.split()[1]), program.TEXT_ROOM // len(case(terminals))))
-    told, _ = timed(program.command("board_cases"), case(terminals) * times)
+    told, _ = timed(program.command("current_cases"), case(terminals) * times)
     return line, times, told == ["judged " + line] * times
 
 
@@ -71,7 +71,7 @@ def speeds(rust, terminals, effort, times):
     """Chains a second of the proved program and of the plain search."""
     rust_times = CHAINS // effort
     return (
-        speed(program.command("board_cases"), case(terminals) * times, "", times * effort),
+        speed(program.command("current_cases"), case(terminals) * times, "", times * effort),
         speed([rust], rust_text(terminals, rust_times), rust_text(terminals, 0), rust_times * effort),
     )
 

@@ -1,7 +1,7 @@
-"""Compares the proved program `board_cases` with the model of the rule book in tests/lib/board_model.py on thousands of
-generated cases: good files, damaged files, cut files, random bytes, boards handed in with and without a fault. Seeded, so
-each run tries the same cases; `python3 tests/board_files.py SEED BATCHES` tries others. Needs target/bin/board_cases, which
-`rt check board_cases` builds."""
+"""Compares the proved program `file_cases` with the model of the rule book in tests/lib/board_model.py on thousands of
+generated cases: good files, damaged files, cut files, random bytes, boards handed in with and without a fault. Those are
+moved and run as well, by `run_cases`. Seeded, so each run tries the same cases; `python3 tests/board_files.py SEED BATCHES`
+tries others. Needs target/bin/file_cases and target/bin/run_cases, which `rt check file_cases run_cases` builds."""
 import os
 import random
 import sys
@@ -13,6 +13,7 @@ import repository
 
 ODD_VALUES = [0, 1, 2, 3, 4, 5, 6, 7, 32, 33, 64, 65, 127, 128, 255, 256, 257, 16383, 16384, 2097151]
 LONG_FORMS = [[0], [128, 0], [255, 127], [128, 128, 0]]
+ASKED = {"^": [0, 0, 0, 0], "=": [0, 0, 0, 4]}  # a move of relay 0 and a run with a log of 4, both fresh and with no allowance
 
 
 def board(dice):
@@ -118,11 +119,20 @@ def batch(dice):
         lines.append(answer(ending, data))
 
 
+def answers(text):
+    """What the programs print for each case: for a board handed in the lines of both, one after the other."""
+    told, cases = program.answers("file_cases", text), text.split("\n")
+    handed = [case[:-1] for case in cases if case.endswith("!")]
+    runs = [program.answers("run_cases", "".join(program.numbers(ASKED[ending]) + case + ending + "\n" for case in handed)) for ending in "^="]
+    own = zip(*runs)
+    return [" ".join([line, *next(own, [])]) if case.endswith("!") else line for case, line in zip(cases, told)]
+
+
 def compare(seed, batches):
     dice, checks, words = random.Random(seed), [], set()
     for _ in range(batches):
         text, wanted = batch(dice)
-        told = program.answers(text)
+        told = answers(text)
         told += [None] * (len(wanted) - len(told))
         for case, want, got in zip(text.split("\n"), wanted, told):
             checks.append((f"{case}: wanted {want}, got {got}", want == got))

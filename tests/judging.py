@@ -1,8 +1,8 @@
-"""Compares the proved program `board_cases` with the model of judging in tests/lib/judge_model.py on generated judgements:
+"""Compares the proved program `current_cases` with the model of judging in tests/lib/judge_model.py on generated judgements:
 random boards of 2 to 10 terminals, rings, ladders, paths through all 64 terminals, each with allowances around the effort,
 states within and beyond the board, relays that are there and that are not; and searches that nest deeply, with 2 MiB of
 stack. Seeded, so each run tries the same cases; `python3 tests/judging.py SEED BOARDS` tries others, or more (it is 1 and
-600 else). Needs target/bin/board_cases, which `rt check board_cases` builds."""
+600 else). Needs target/bin/current_cases, which `rt check current_cases` builds."""
 import os
 import random
 import sys
@@ -155,7 +155,7 @@ def compared(found, stack=None):
     """A check for each judgement: that the program prints its line."""
     checks = []
     for own in batches(found):
-        told = program.answers("".join(text for text, _ in own), stack)
+        told = program.answers("current_cases", "".join(text for text, _ in own), stack)
         checks.append((f"a text of {len(own)} cases has {len(told)} answers", len(told) == len(own)))
         told += [None] * (len(own) - len(told))
         checks += [(f"{text.strip()}: wanted {want}, got {got}", want == got) for (text, want), got in zip(own, told)]

@@ -1,18 +1,17 @@
-"""Compares the proved program `board_cases` with the model of moving and running in tests/lib/run_model.py on generated
+"""Compares the proved program `run_cases` with the model of moving and running in tests/lib/run_model.py on generated
 single moves and runs: relays that feed each other by their contacts, in sequence and in rings, relays that hold themselves,
 steel relays fed by buttons and contacts, and the boards of tests/judging.py; states within and beyond the board, relays
 that are there and that are not, allowances around the efforts, logs around the number of moves. Of the program's own
 answers it compares any two runs from one board and state: the one with no shorter log and no less allowance starts with
 every move of the other, and is the same if that one ended idle or in conflict. Seeded, so each run tries the same cases;
-`python3 tests/running.py SEED BOARDS` tries others, or more (it is 1 and 130 else). Needs target/bin/board_cases, which
-`rt check board_cases` builds."""
+`python3 tests/running.py SEED BOARDS` tries others, or more (it is 1 and 130 else). Needs target/bin/run_cases, which
+`rt check run_cases` builds."""
 import itertools
 import os
 import random
 import sys
 
 sys.path.insert(0, os.path.join(os.path.dirname(os.path.abspath(__file__)), "lib"))
-import board_model
 import judging
 import program
 import repository
@@ -109,9 +108,10 @@ def total(names):
 
 
 def case(own, numbers, ending):
-    """The text of a case."""
-    data = board_model.file_of(own.counts, own.parts) + bytes(byte for number in numbers for byte in board_model.number_bytes(number))
-    return data.hex() + ending + "\n"
+    """The text of a case: the numbers, then the board handed in."""
+    count = len(own.parts)
+    data = own.counts + [count % 256, count // 256] + [byte for part in own.parts for byte in (part + [0])[:4]]
+    return program.numbers(numbers) + bytes(data).hex() + ending + "\n"
 
 
 def move_case(own, drawn, pushed, relay, allowance):
@@ -173,7 +173,7 @@ def answers(found):
     """What the program prints for each case; None for those of a text that it answers with more lines or fewer."""
     told = []
     for own in judging.batches(found):
-        lines = program.answers("".join(text for text, _ in own))
+        lines = program.answers("run_cases", "".join(text for text, _ in own))
         told += lines if len(lines) == len(own) else [None] * len(own)
     return told
 

@@ -1,4 +1,4 @@
-"""The rule book's board files once more, in plain Python, after ../shared/documents/01-scope.md: reading with its refusals
+"""The rule book's board files once more, in plain Python, after the rule book (docs/RULES.md): reading with its refusals
 and the rules on a board. It shares no text with the crates, but those who wrote it had read the crates' public functions,
 so it is a check on slips and not the independent second program."""
 

@@ -1,5 +1,5 @@
 """The rule book's "Boards to try" as sessions, each with the lines that it must print: worked out by hand from
-../shared/documents/01-scope.md."""
+docs/RULES.md."""
 
 H1 = "03 01 01 02  03 00 02 00  04 02 01 00"
 H2 = "03 01 01 03  03 00 02 00  01 00 02 00  04 02 01 00"

@@ -1,4 +1,4 @@
-"""Judging a winding once more, in plain Python, after ../shared/documents/01-scope.md, "Parts of a board", "Chains and
+"""Judging a winding once more, in plain Python, after the rule book (docs/RULES.md), "Parts of a board", "Chains and
 current" and "Numbers for no". Its author had read the crates, so it is not the independent second program. A part is
 [kind, a, b] or [kind, a, b, relay or button]."""
 

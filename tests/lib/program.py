@@ -7,7 +7,7 @@ import subprocess
 
 import repository
 
-TEXT_ROOM = 65_400  # `board_cases` takes texts of fewer than 65,536 bytes
+TEXT_ROOM = 65_400  # a program of typed cases takes texts of fewer than 65,536 bytes
 SESSION_END = b".\n"  # of many sessions, the line after those of each
 
 
@@ -39,9 +39,14 @@ def command(name, stack=None):
     return ["sh", "-c", 'ulimit -s "$0" && exec "$@"', str(stack // 1024)] + start if stack else start
 
 
-def answers(text, stack=None):
-    """The lines that `board_cases` prints for a text of cases."""
-    told = subprocess.run(command("board_cases", stack), input=text.encode(), capture_output=True).stdout.decode()
+def numbers(values):
+    """The text of the numbers before a board that is handed to `run_cases`."""
+    return "".join(f"{value:06x}" for value in values)
+
+
+def answers(name, text, stack=None):
+    """The lines that a program of typed cases prints for a text."""
+    told = subprocess.run(command(name, stack), input=text.encode(), capture_output=True).stdout.decode()
     return told.split("\n")[:-1]
 
 

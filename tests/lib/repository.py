@@ -1,4 +1,4 @@
-"""Reading a Rattle repository: its crates, the functions that another crate can call, its laws and its must-fail edits.
+"""Reading a Rattle repository: its crates, the functions that another crate can call, and its must-fail edits.
 Used by the comparisons beside this file."""
 import os
 import re
@@ -56,17 +56,6 @@ def public_functions(crate):
                 own = [kind] if kind and line.startswith(" ") else []
                 functions.append(("::".join([crate] + module + own + [function.group(1)]), "\n".join(lines[number:end + 1])))
     return sorted(functions)
-
-
-def laws(crate):
-    """The names of the laws in the crate's proofs that other crates can cite."""
-    names = set()
-    for folder, _, files in os.walk(path("crates", crate, "proofs")):
-        for file in files:
-            if file != "Proof.antt":
-                with open(os.path.join(folder, file), encoding="utf-8") as proof:
-                    names.update(re.findall(r"^\s*(?:abbrev |unfoldable )?pub ([^\s:]+) :", proof.read(), re.M))
-    return names
 
 
 def edits(crate):

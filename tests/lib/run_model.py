@@ -1,4 +1,4 @@
-"""Moving a relay and running a board once more, in plain Python, after ../shared/documents/01-scope.md, "How a relay moves"
+"""Moving a relay and running a board once more, in plain Python, after the rule book (docs/RULES.md), "How a relay moves"
 and "Numbers for no", on top of judge_model. Its author had read the crates, so it is not the independent second program.
 Refusal 15 is left out: every board here is fine."""
 import itertools

@@ -29,7 +29,7 @@ use Rattle.demands.proofs.RefusedLaws.{left-outcome, left-refused, agai
 use Rattle.demands.proofs.RefusedLaws.{verdict-against, verdict-refused, ran-against, ran-refused}
 use Rattle.demands.proofs.RefusedLaws.{handing-against, handing-refused}
 
-in-order : InOrder
+pub in-order : InOrder
 unfolding pushing releasing judging moving running
 in-order = record {
   reads = file-refused;
@@ -61,7 +61,7 @@ in-order = record {
       ∙ handing-against (toldSession z) s out;
 }
 
-as-lent : AsLent
+pub as-lent : AsLent
 unfolding judging moving running
 as-lent = record {
   reads =

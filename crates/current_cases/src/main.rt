@@ -1,0 +1,16 @@
+// Judges windings through the proved library and prints each verdict. A case is typed as text: pairs of hex digits are
+// its bytes, `#` opens a comment up to the end of the line, white space stands between, and `@` ends the case. The
+// bytes are a board file, then five numbers in the file's form: the drawn relays and the pushed buttons, each as a set
+// (the sum of 2 to each), the relay, which of its windings (0: the first, any other: the second), and the allowance.
+mod judge_case;
+mod print;
+mod typed;
+
+use libc::STDIN_FILENO;
+
+// Of a text longer than the buffer the rest is not taken, and has no answers.
+fn main() {
+    let mut text = io::large_buffer();
+    let length = io::read_full(STDIN_FILENO, &mut text);
+    typed::take_text(&text[..length]);
+}

@@ -1,0 +1,92 @@
+// Boards handed in. The bytes are T, R, B, C (low byte, high byte), then kind, a, b and name of each part; bytes that
+// are not given are 0, so that places without a part are blank wires.
+use crate::print;
+use board::Board;
+use board::Counts;
+use board::MOST_PARTS;
+use board::Part;
+use board_writer::LONGEST_FILE;
+use kinds::Kind;
+use presses::Press;
+use presses::Pressed;
+use state::State;
+ghost use Prim.Native.Nat.{_≤_};
+
+// A button and a relay that no board has.
+const ABSENT_BUTTON: u32 = 200;
+
+const ABSENT_RELAY: u32 = 40;
+
+// The byte at a place; 0 where none is given.
+fn byte_at(bytes: &[u8], at: usize) -> u8 {
+    if at < bytes.len() { bytes[at] } else { 0 }
+}
+
+// The part whose four bytes begin at a place.
+fn handed_part(bytes: &[u8], at: usize) -> Part
+    requires { ⌜ at ≤ 1025 ⌝ }
+{
+    Part {
+        a: byte_at(bytes, at + 1),
+        b: byte_at(bytes, at + 2),
+        kind: Kind::of(bits::wide(byte_at(bytes, at)), byte_at(bytes, at + 3)),
+    }
+}
+
+// T, R, B and C.
+fn handed_counts(bytes: &[u8]) -> Counts {
+    let low = byte_at(bytes, 3) as usize;
+    let high = byte_at(bytes, 4) as usize;
+    Counts {
+        terminals: byte_at(bytes, 0),
+        relays: byte_at(bytes, 1),
+        buttons: byte_at(bytes, 2),
+        parts: low + 256 * high,
+    }
+}
+
+// The board that is handed in.
+fn handed_board(bytes: &[u8]) -> Board {
+    let counts = handed_counts(bytes);
+    let first = handed_part(bytes, 5);
+    let mut parts = [first; 256];
+    let mut i = 1;
+    while i < MOST_PARTS {
+        parts[i] = handed_part(bytes, 5 + 4 * i);
+        i += 1;
+    }
+    Board { counts, parts }
+}
+
+// Prints the name of a push or a release, and what came of it.
+fn print_pressed(name: &[u8], pressed: Pressed) {
+    print::words(name);
+    let answer = pressed.answer;
+    match answer {
+        Press::Done => print::words(b"done"),
+        Press::Refused(refused) => print::call_refusal(b"refused ", refused),
+    }
+}
+
+// Pushes and releases buttons of a board, and prints what came of each.
+fn press_buttons(board: Board) {
+    let fresh = State::fresh();
+    let pushed = presses::push(board, fresh, 0);
+    print_pressed(b" push ", pushed);
+    let after = pushed.state;
+    print_pressed(b" again ", presses::push(board, after, 0));
+    print_pressed(b" release ", presses::release(board, fresh, 0));
+    print_pressed(b" absent ", presses::push(board, fresh, ABSENT_BUTTON));
+    let beyond = fresh.draw(ABSENT_RELAY);
+    print_pressed(b" beyond ", presses::push(board, beyond, 0));
+}
+
+// Writes the board handed in, and pushes and releases its buttons.
+pub fn answer_board(bytes: &[u8]) {
+    let board = handed_board(bytes);
+    let mut out = [0u8; LONGEST_FILE];
+    let answer = board_writer::write(board, &mut out);
+    print::written_length(b"write ", answer);
+    press_buttons(board);
+    print::words(b"\n");
+}

@@ -1,0 +1,78 @@
+// Runs. What is asked is the allowance and the length of the log that is lent.
+use crate::handed_case;
+use crate::print;
+use runs::Ending;
+use runs::Ran;
+
+// More bytes than the longest log has; no longer one is lent.
+const LOG_ROOM: usize = 65_540;
+
+// What every byte of a log is before it is lent.
+const UNTOUCHED: u8 = 0xaa;
+
+// The most moves that are printed.
+const MOST_SHOWN: usize = 40;
+
+// Prints the word that a run ended with.
+fn print_word(word: Ending) {
+    match word {
+        Ending::Idle => print::words(b"ran idle"),
+        Ending::Spent => print::words(b"ran spent"),
+        Ending::Undecided => print::words(b"ran undecided"),
+        Ending::Conflict => print::words(b"ran conflict"),
+        Ending::Refused(refused) => print::call_refusal(b"ran refused ", refused),
+    }
+}
+
+// Prints one of the log's bytes: a move made, if it is one of those that are shown, or past the moves that it is
+// touched although it must not be.
+fn print_logged(byte: u8, at: usize, moves: usize) {
+    if moves <= at {
+        if byte != UNTOUCHED {
+            print::words(b" and more");
+        }
+    } else if at < MOST_SHOWN {
+        print::counted(b" ", byte as u64);
+    }
+}
+
+// Prints the log after so many moves, and ends the line.
+fn print_log(log: &[u8], moves: usize) {
+    let mut i = 0;
+    while i < log.len() {
+        print_logged(log[i], i, moves);
+        i += 1;
+    }
+    print::words(b"\n");
+}
+
+// Prints what a run answers.
+fn print_ran(ran: Ran) {
+    let word = ran.word;
+    print_word(word);
+    print::counted(b" ", ran.moves as u64);
+    let left = ran.state;
+    print::counted(b" ", left.drawn);
+    print::counted(b" ", left.pushed);
+    print::counted(b" ", ran.relay as u64);
+    print::words(b":");
+}
+
+// Runs a board over a lent log, and prints what it answers and what it logged.
+fn run_over(bytes: &[u8], log: &mut [u8]) {
+    let allowance = handed_case::three_bytes_at(bytes, 6);
+    let board = handed_case::handed_board(bytes);
+    let ran = runs::run(board, handed_case::handed_state(bytes), log, allowance);
+    print_ran(ran);
+    print_log(log, ran.moves);
+}
+
+// Runs a board over a log of the length that is asked.
+pub fn answer_run(bytes: &[u8]) {
+    let length = handed_case::three_bytes_at(bytes, 9) as usize;
+    if LOG_ROOM < length {
+        return print::words(b"bad case\n");
+    }
+    let mut buffer = [UNTOUCHED; LOG_ROOM];
+    run_over(bytes, &mut buffer[..length]);
+}
