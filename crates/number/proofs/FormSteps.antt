@@ -1,6 +1,5 @@
 -- The steps of reading and writing a form at a place, as the code takes them: the proofs of `read_form` and
 -- `write_groups` are one law of these for each way out.
--- Assumes nothing.
 use mathlib.Core.Path.{_≡_, refl, sym, ap, _∙_}
 use mathlib.Core.List.{List}
 use mathlib.Core.Logic.{_⊎_, inl, inr}
@@ -17,7 +16,7 @@ use Rattle.number.specs.declared.Form.{Form}
 use Rattle.number.specs.declared.Form.the-variants.{Got, Ends, Bad}
 use Rattle.number.proofs.Form.{the-type}
 use Rattle.number.specs.Numbers.{below, form, encode}
-use Rattle.number.proofs.FormLaws.{FormWithin, Bytes-slice, Bytes-drop, rest-small, below-got, form-last}
+use Rattle.number.proofs.FormLaws.{FormWithin, Bytes-slice, Bytes-drop, below-got, form-last}
 use Rattle.number.proofs.FormLaws.{form-more, form-read, form-within, encode-some, encode-last, encode-more}
 
 -- ---- reading
@@ -111,4 +110,4 @@ encode-rest zero v l at h r m = absurd (omega arith)
 encode-rest (suc zero) v l at h r m = absurd (omega arith)
 encode-rest (suc (suc k)) v l at h r m =
     rw (suc-sub-suc, sub-zero)
-    (omega arith, rest-small (suc k) v h, omega (arith, rw (encode-more (suc k) v m) at r))
+    (omega arith, omega arith, omega (arith, rw (encode-more (suc k) v m) at r))

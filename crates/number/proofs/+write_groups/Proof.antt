@@ -6,7 +6,6 @@ use native.Mathlib.Omega.{arith}
 use lib.ListN.{length-set}
 use borrow.Fn.Kinds.{In}
 use borrow.Fn.PlainCycle.{Measures, is, falls, and}
-use Rattle.number.proofs.FormLaws.{group-small}
 use Rattle.number.proofs.FormSteps.{encode-one, encode-further, encode-room, encode-rest}
 use Rattle.number.proofs.write_groups.Reads as write-groups
 use Rattle.number.proofs.write_groups.Kinds as write-groups-kinds
@@ -43,13 +42,13 @@ write-groups-add-out : (t : ℕ) → write-groups-lts.Need-add-out (
   write-groups-below t,
   write-groups.Post,
 ) (write-groups-at t) write-groups.Post
-write-groups-add-out t c = omega (arith, group-small (c .before .before .args .value))
+write-groups-add-out t c = omega arith
 
 write-groups-cast-out-2 : (t : ℕ) → write-groups-lts.Need-cast-out-2 (
   write-groups-below t,
   write-groups.Post,
 ) (write-groups-at t) write-groups.Post
-write-groups-cast-out-2 t c = omega (arith, group-small (c .before .before .args .value))
+write-groups-cast-out-2 t c = omega arith
 
 write-groups-slice-write-out-2 : (t : ℕ) → write-groups-lts.Need-slice-write-out-2 (
   write-groups-below t,
