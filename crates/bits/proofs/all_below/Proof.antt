@@ -1,6 +1,5 @@
--- `bits::all_below` meets its contract: every member of a word is below 64, and below that the code tests that no bit
--- is left from n on.
--- Assumes nothing.
+-- `bits::all_below` meets its contract: every member of a word is below its room, and below that the code tests that no
+-- bit is left from n on.
 use mathlib.Core.Path.{sym}
 use native.Mathlib.Omega.{arith}
 use borrow.Author.Needs.{needs}

@@ -1,5 +1,4 @@
--- `bits::with` meets its contract: from 64 on nothing changes, and below that the code's `|` sets the bit.
--- Assumes nothing.
+-- `bits::with` meets its contract: from a word's room on nothing changes, and below that the code's `|` sets the bit.
 use mathlib.Core.Path.{sym}
 use native.Mathlib.Omega.{arith}
 use borrow.Author.Needs.{needs}
