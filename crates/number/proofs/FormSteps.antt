@@ -99,15 +99,15 @@ encode-further zero v l l′ at some m e = absurd (omega arith)
 encode-further (suc k) v l l′ at some m e = rw encode-more (rw (add-one, suc-sub-suc, sub-zero) at e)
 
 -- the groups that are left have a first byte, and it has room
-pub encode-room : (left v : ℕ) (l : List ℕ) (at : ℕ) → 0 < left → at + length (encode left v) ≤ length l → at < length l
-encode-room zero v l at some h = absurd (omega arith)
-encode-room (suc k) v l at some h = omega (arith, encode-some k v)
+pub encode-room : (left v at room : ℕ) → 0 < left → at + length (encode left v) ≤ room → at < room
+encode-room zero v at room some h = absurd (omega arith)
+encode-room (suc k) v at room some h = omega (arith, encode-some k v)
 
 -- below a group that is not the last, the rest has groups and room left
-pub encode-rest : (left v : ℕ) (l : List ℕ) (at : ℕ) → v < 128 ^ left → at + length (encode left v) ≤ length l → 128 ≤ v
-    → (0 < left - 1) × (v / 128 < 128 ^ (left - 1)) × (at + 1 + length (encode (left - 1) (v / 128)) ≤ length l)
-encode-rest zero v l at h r m = absurd (omega arith)
-encode-rest (suc zero) v l at h r m = absurd (omega arith)
-encode-rest (suc (suc k)) v l at h r m =
+pub encode-rest : (left v at room : ℕ) → v < 128 ^ left → at + length (encode left v) ≤ room → 128 ≤ v
+    → (0 < left - 1) × (v / 128 < 128 ^ (left - 1)) × (at + 1 + length (encode (left - 1) (v / 128)) ≤ room)
+encode-rest zero v at room h r m = absurd (omega arith)
+encode-rest (suc zero) v at room h r m = absurd (omega arith)
+encode-rest (suc (suc k)) v at room h r m =
     rw (suc-sub-suc, sub-zero)
     (omega arith, omega arith, omega (arith, rw (encode-more (suc k) v m) at r))
