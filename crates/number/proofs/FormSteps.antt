@@ -51,23 +51,23 @@ below-other g (Got v n) (inr e) = absurd (let z : _≡_ {A = ℕ} 0 2 = e in ome
 below-other g Ends e = refl
 below-other g Bad e = refl
 
-pub form-left : (left at : ℕ) (s : List ℕ) (b : ℕ) → (left ≡ 0 → ⊥) → at < length s → b ≡ getD s at 0 → 128 ≤ b
-    → (f : Form) → f ≡ form (left - 1) (drop (at + 1) s) → below (b - 128) f ≡ f → f ≡ form left (drop at s)
-form-left left at s b some h e m f r same = sym (form-further left at s b some h e m f r ∙ same)
+-- a group that is not the last, and the form of the rest
+module _ (left at : ℕ) (s : List ℕ) (b : ℕ) (some : left ≡ 0 → ⊥) (there : at < length s) (is : b ≡ getD s at 0)
+    (more : 128 ≤ b) (f : Form) (rest : f ≡ form (left - 1) (drop (at + 1) s)) where
+  pub form-left : below (b - 128) f ≡ f → f ≡ form left (drop at s)
+  form-left same = sym (form-further left at s b some there is more f rest ∙ same)
 
-pub form-not-shortest : (left at : ℕ) (s : List ℕ) (b : ℕ) → (left ≡ 0 → ⊥) → at < length s → b ≡ getD s at 0 → 128 ≤ b
-    → (f : Form) → f ≡ form (left - 1) (drop (at + 1) s) → (v n : ℕ) → f ≡ Got v n → v ≡ 0 → Bad ≡ form left (drop at s)
-unfolding below
-form-not-shortest left at s b some h e m f r v n is none =
-    sym (form-further left at s b some h e m f r ∙ ap (below (b - 128)) (is ∙ ap (λ (x : ℕ). Got x n) none))
+  pub form-not-shortest : (v n : ℕ) → f ≡ Got v n → v ≡ 0 → Bad ≡ form left (drop at s)
+  unfolding below
+  form-not-shortest v n got none =
+      sym (form-further left at s b some there is more f rest
+      ∙ ap (below (b - 128)) (got ∙ ap (λ (x : ℕ). Got x n) none))
 
-pub form-grown : (left at : ℕ) (s : List ℕ) (b : ℕ) → (left ≡ 0 → ⊥) → at < length s → b ≡ getD s at 0 → 128 ≤ b
-    → (f : Form) → f ≡ form (left - 1) (drop (at + 1) s) → (v n : ℕ) → f ≡ Got v n → (v ≡ 0 → ⊥)
-    → Got (b - 128 + 128 * v) (n + 1) ≡ form left (drop at s)
-form-grown left at s b some h e m f r v n is more =
-    rw add-one
-    (sym (form-further left at s b some h e m f r ∙ ap (below (b - 128)) is
-    ∙ below-got (b - 128) v n (omega arith)))
+  pub form-grown : (v n : ℕ) → f ≡ Got v n → (v ≡ 0 → ⊥) → Got (b - 128 + 128 * v) (n + 1) ≡ form left (drop at s)
+  form-grown v n got above =
+      rw add-one
+      (sym (form-further left at s b some there is more f rest ∙ ap (below (b - 128)) got
+      ∙ below-got (b - 128) v n (omega arith)))
 
 -- what bounds a form of at most `most` bytes that was read at a place
 pub record FormBounds (most at : ℕ) (s : List ℕ) (v n : ℕ) : Type 0 where

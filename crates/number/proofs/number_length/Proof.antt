@@ -1,4 +1,4 @@
--- `number_length` steps at the limits at which a number's bytes become more. Assumes nothing.
+-- `number_length` steps at the limits at which a number's bytes become more.
 use native.Mathlib.Omega.{arith}
 use Rattle.number.proofs.NumberLaws.{number-length-one, number-length-two, number-length-three}
 use Rattle.number.proofs.number_length.Statement.{statement}
