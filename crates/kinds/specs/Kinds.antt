@@ -1,10 +1,11 @@
 -- What a kind of part is. Rule book, "Parts of a board": the table of kinds.
---     kindNumber k      the number of a kind in the rule book's table
---     nameOf k          the relay or button that a kind carries; 0 for a wire, which carries none
---     kindOf k n        the kind of number k that carries n; above the last kind there is none (4), and n is a dropping
---                       winding's
+--     kindNumber k                                          the number of a kind in the rule book's table
+--     nameOf k                                              the relay or button that a kind carries; 0 for a wire,
+--                                                           which carries none
+--     kindOf k n                                            the kind of number k that carries n; above the last kind
+--                                                           there is none (4), and n is a dropping winding's
 --     buttonKind, regularKind, drawingKind, droppingKind    the numbers of the kinds that rules speak of
---     lastKind          the highest kind number
+--     lastKind                                              the highest kind number
 use Prim.Native.Nat.{ℕ}
 use mathlib.Core.Bool.{cond}
 use lib.Dec.{eqb}

@@ -7,12 +7,13 @@ use Prim.Native.Nat.{_≤_, _-_}
 use mathlib.Core.Path.{_≡_, refl, sym, _∙_}
 use borrow.Author.Tests.{not-true, not-false}
 use lib.ListN.{length, take, drop}
+use Rattle.board.specs.Parts.{mostParts}
 use Rattle.board.specs.Same.{sameParts}
 use Rattle.board.proofs.SameLaws.{same-walk-off, same-walk-on, same-walk-end}
 
 abbrev Inv-loop : tie.InvT-loop
 Inv-loop count x y i₀ i =
-    (count ≤ 256) × (length x ≡ 256) × (length y ≡ 256) × (i ≤ count)
+    (count ≤ mostParts) × (length x ≡ mostParts) × (length y ≡ mostParts) × (i ≤ count)
     × (sameParts (take count x) (take count y) ≡ sameParts (drop i (take count x)) (drop i (take count y)))
 
 abbrev μ-loop : tie.MeasureT-loop
