@@ -22,6 +22,7 @@ pub padded-parts : (c : Counts) (ps : List Part) → c .parts ≡ length ps
     → partsOf (record { counts = c; parts = padded ps }) ≡ ps
 padded-parts c ps count = ap (λ (n : ℕ). take n (padded ps)) count ∙ padded-first ps
 
-pub padded-set : (ps : List Part) (p : Part) → length ps < mostParts → set (padded ps) (length ps) p ≡ padded (ps ++ (p ∷ []))
+pub padded-set : (ps : List Part) (p : Part) → length ps < mostParts
+    → set (padded ps) (length ps) p ≡ padded (ps ++ (p ∷ []))
 unfolding padded
 padded-set ps p room = filled-set mostParts blank ps p room

@@ -62,7 +62,8 @@ record MostOneSort (w : WoundSoFar) (r : ℕ) : Type 0 where
 record Gain (w : WoundSoFar) (k : Kind) (r : ℕ) : Type 0 where
   pub regular : worth (member (gained w k .regular) r) ≡ worth (member (w .regular) r) + worth (carries regularKind r k)
   pub drawing : worth (member (gained w k .drawing) r) ≡ worth (member (w .drawing) r) + worth (carries drawingKind r k)
-  pub dropping : worth (member (gained w k .dropping) r) ≡ worth (member (w .dropping) r) + worth (carries droppingKind r k)
+  pub dropping : worth (member (gained w k .dropping) r) ≡ worth (member (w .dropping) r)
+      + worth (carries droppingKind r k)
 
 -- what 8 says of a free kind's relay: it has this winding not yet, and is not of the other sort
 in-neither : (s t n : ℕ) → (not (member s n) && not (member t n)) ≡ true → (member s n ≡ false) × (member t n ≡ false)
@@ -148,7 +149,8 @@ sums-same p q r (inr (x, y, z)) = inr (sym p ∙ x, sym q ∙ y, sym r ∙ z)
 
 abbrev OneSort : WoundSoFar → ℕ → List Part → Type 0
 OneSort w r ps =
-    Sums (worth (member (w .regular) r) + windingsOf regularKind r ps) (worth (member (w .drawing) r) + windingsOf drawingKind r ps)
+    Sums (worth (member (w .regular) r) + windingsOf regularKind r ps)
+    (worth (member (w .drawing) r) + windingsOf drawingKind r ps)
     (worth (member (w .dropping) r) + windingsOf droppingKind r ps)
 
 -- a part's 1 moves from the parts to the windings
@@ -208,15 +210,14 @@ module _ (c : Counts) (w : WoundSoFar) (ps : List Part) where
   sorted-free a b (Lower n) named sorts = refl
   sorted-free a b (Button n) named sorts = refl
   sorted-free a b (Regular n) named sorts =
-      regular-sums (member (w .regular) n) (member (w .drawing) n) (member (w .dropping) n) (worth (eqb n n))
-      (windingsOf regularKind n ps) (windingsOf drawingKind n ps) (windingsOf droppingKind n ps) (ap worth (eq-eqb n n refl))
-      (sorts n (ltb-true n (c .relays) named))
+      regular-sums (member (w .regular) n) (member (w .drawing) n) (member (w .dropping) n) _ _ _ _
+      (ap worth (eq-eqb n n refl)) (sorts n (ltb-true n (c .relays) named))
   sorted-free a b (Drawing n) named sorts =
-      drawing-sums (member (w .regular) n) (member (w .drawing) n) (worth (eqb n n)) (windingsOf regularKind n ps)
-      (windingsOf drawingKind n ps) _ (ap worth (eq-eqb n n refl)) (sorts n (ltb-true n (c .relays) named))
+      drawing-sums (member (w .regular) n) (member (w .drawing) n) _ _ _ _
+      (ap worth (eq-eqb n n refl)) (sorts n (ltb-true n (c .relays) named))
   sorted-free a b (Dropping n) named sorts =
-      dropping-sums (member (w .regular) n) (member (w .dropping) n) (worth (eqb n n)) (windingsOf regularKind n ps) _
-      (windingsOf droppingKind n ps) (ap worth (eq-eqb n n refl)) (sorts n (ltb-true n (c .relays) named))
+      dropping-sums (member (w .regular) n) (member (w .dropping) n) _ _ _ _
+      (ap worth (eq-eqb n n refl)) (sorts n (ltb-true n (c .relays) named))
 
 -- ---- along the parts
 
@@ -276,9 +277,10 @@ fine-fit c w (p ∷ ps) fine =
     let both = both-true (partFine c w p) (partsFine c (gained w (p .kind)) ps) fine in
     true-both (part-splits c w p (both .0) .0) (fine-fit c (gained w (p .kind)) ps (both .1))
 
-pub fine-wound : (c : Counts) (ps : List Part) → c .relays ≤ mostRelays → partsFine c noneWound ps ≡ true → Wound (c .relays) ps
+pub fine-wound : (c : Counts) (ps : List Part) → c .relays ≤ mostRelays → partsFine c noneWound ps ≡ true
+    → Wound (c .relays) ps
 fine-wound c ps few fine r below =
-    sums-same (none-sum r (windingsOf regularKind r ps)) (none-sum r (windingsOf drawingKind r ps)) (none-sum r (windingsOf droppingKind r ps))
+    sums-same (none-sum r _) (none-sum r _) (none-sum r _)
     (fine-sort c few r below noneWound ps
     (record { drawing = rw (member-none r) (omega arith); dropping = rw (member-none r) (omega arith) }) fine)
 
@@ -286,5 +288,4 @@ pub wound-fine : (c : Counts) (ps : List Part) → c .relays ≤ mostRelays → 
     → partsFine c noneWound ps ≡ true
 wound-fine c ps few wound fit =
     sort-fine c few noneWound ps fit
-    (λ r below. sums-same (sym (none-sum r (windingsOf regularKind r ps))) (sym (none-sum r (windingsOf drawingKind r ps)))
-    (sym (none-sum r (windingsOf droppingKind r ps))) (wound r below))
+    (λ r below. sums-same (sym (none-sum r _)) (sym (none-sum r _)) (sym (none-sum r _)) (wound r below))

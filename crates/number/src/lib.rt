@@ -6,7 +6,8 @@ ghost use Prim.Native.Nat.{ℕ, _+_, _≤_, _<_, _^_};
 ghost use lib.ListN.{length, drop};
 ghost use lib.Seq.{sets};
 ghost use Rattle.number.specs.Outcomes.{Outcome};
-ghost use Rattle.number.specs.Numbers.{longest, form, encode, numberAt, numberBytes, numberWriting, toldNumber, toldNumberWritten};
+ghost use Rattle.number.specs.Numbers.{longest, form, encode, numberAt, numberBytes, numberWriting};
+ghost use Rattle.number.specs.Numbers.{toldNumber, toldNumberWritten};
 
 // The rule book's numbers for no, one for each line of its table.
 pub const INPUT_ENDS: u32 = 1;

@@ -49,7 +49,8 @@ loop-again c =
     let inv = at-loop .loop .inv in
     let small = at-loop .before .before .fits .set .fits in
     let below = lowest-room _ _ _ small (inv .0) (c .before .loop-test .taken) in
-    (lowest-next _ _ _ (inv .0), omega (arith, below), inv .2 ∙ first-on _ _ _ below (lowest-past _ _ _ (inv .0) (c .if2 .left)))
+    let past = lowest-past _ _ _ (inv .0) (c .if2 .left) in
+    (lowest-next _ _ _ (inv .0), omega (arith, below), inv .2 ∙ first-on _ _ _ below past)
 
 returns-3 : tie.Need-returns-3 Inv-loop μ-loop
 returns-3 c =

@@ -17,7 +17,8 @@ returns-3 : tie.Need-returns-3
 unfolding countsFine inRange
 returns-3 c =
     let at-if2 = c .before .before in
-    simp (leb·zero, le-leb _ _ (at-if2 .before .before .if1 .left), le-leb _ _ (at-if2 .if2 .left), lt-leb _ _ (c .if3 .taken))
+    let at-if1 = at-if2 .before .before in
+    simp (leb·zero, le-leb _ _ (at-if1 .if1 .left), le-leb _ _ (at-if2 .if2 .left), lt-leb _ _ (c .if3 .taken))
 
 returns-4 : tie.Need-returns-4
 unfolding countsFine inRange

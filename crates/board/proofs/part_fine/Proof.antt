@@ -18,7 +18,8 @@ returns-3 : tie.Need-returns-3
 unfolding partFine partFits
 returns-3 c =
     let at-if2 = c .before .before in
-    simp (lt-ltb _ _ (at-if2 .before .before .before .if1 .left), lt-ltb _ _ (at-if2 .if2 .left), eq-eqb _ _ (c .if3 .taken))
+    let at-if1 = at-if2 .before .before .before in
+    simp (lt-ltb _ _ (at-if1 .if1 .left), lt-ltb _ _ (at-if2 .if2 .left), eq-eqb _ _ (c .if3 .taken))
 
 returns-4 : tie.Need-returns-4
 unfolding partFine partFits

@@ -16,14 +16,16 @@ returns-3 : tie.Need-returns-3
 unfolding sameCounts
 returns-3 c =
     let at-if2 = c .before .before .before in
-    simp (eq-eqb _ _ (at-if2 .before .before .before .if1 .left), eq-eqb _ _ (at-if2 .if2 .left), ne-eqb _ _ (c .if3 .taken))
+    let at-if1 = at-if2 .before .before .before in
+    simp (eq-eqb _ _ (at-if1 .if1 .left), eq-eqb _ _ (at-if2 .if2 .left), ne-eqb _ _ (c .if3 .taken))
 
 returns-4 : tie.Need-returns-4
 unfolding sameCounts
 returns-4 c =
     let at-if3 = c .before .before in
     let at-if2 = at-if3 .before .before .before in
-    rw (eq-eqb _ _ (at-if2 .before .before .before .if1 .left), eq-eqb _ _ (at-if2 .if2 .left), eq-eqb _ _ (at-if3 .if3 .left))
+    let at-if1 = at-if2 .before .before .before in
+    rw (eq-eqb _ _ (at-if1 .if1 .left), eq-eqb _ _ (at-if2 .if2 .left), eq-eqb _ _ (at-if3 .if3 .left))
 
 pub same-counts-spec : {M : Type 1} → statement M
 same-counts-spec = tie.close (tie.spec returns returns-2 returns-3 returns-4)
