@@ -8,12 +8,11 @@ use Rattle.bits.proofs.SetLaws.{member-beyond}
 use Rattle.bits.proofs.has.Statement.{statement}
 use Rattle.bits.proofs.has.Tie as tie
 
-returns : tie.Need-returns
-returns c = sym (member-beyond (c .before .args .set) room (c .before .args .n) (omega arith) (omega arith))
-
-returns-2 : tie.Need-returns-2
-unfolding member
-returns-2 c = refl
-
 pub has-spec : {M : Type 1} → statement M
-has-spec = tie.close (tie.spec returns (λ c. search needs) returns-2)
+unfolding member
+has-spec =
+    tie.close
+    (tie.spec
+    (λ c. sym (member-beyond (c .before .args .set) room (c .before .args .n) (omega arith) (omega arith)))
+    (λ c. search needs)
+    (λ c. refl))

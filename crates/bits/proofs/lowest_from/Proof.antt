@@ -16,16 +16,6 @@ Inv-loop set n rest₀ next₀ rest next =
 abbrev μ-loop : tie.MeasureT-loop
 μ-loop set n rest₀ next₀ rest next = rest
 
-returns : tie.Need-returns Inv-loop μ-loop
-returns c = lowest-beyond _ _ (c .if1 .taken)
-
-shr-rest : tie.Need-shr-rest Inv-loop μ-loop
-shr-rest c = omega (arith, c .if1 .left)
-
-loop-holds : tie.Need-loop-holds Inv-loop μ-loop
-unfolding lowestFrom
-loop-holds c = (refl, omega (arith, c .if1 .left), refl)
-
 returns-2 : tie.Need-returns-2 Inv-loop μ-loop
 returns-2 c =
     let at-loop = c .before .before in
@@ -39,9 +29,6 @@ add-next c =
     let at-loop = c .before .before in
     let small = at-loop .before .before .fits .set .fits in
     record { fits = omega (arith, lowest-room _ _ _ small (at-loop .loop .inv .0) (c .before .loop-test .taken)) }
-
-loop-less : tie.Need-loop-less Inv-loop μ-loop
-loop-less c = omega (arith, c .before .loop-test .taken)
 
 loop-again : tie.Need-loop-again Inv-loop μ-loop
 loop-again c =
@@ -58,16 +45,17 @@ returns-3 c =
     lowest-none _ _ _ _ (inv .1) (inv .0) (c .loop-test .left) (inv .2)
 
 pub lowest-from-spec : {M : Type 1} → statement M
+unfolding lowestFrom
 lowest-from-spec =
     tie.close
     (tie.spec
     Inv-loop
     μ-loop
-    returns
-    shr-rest
-    loop-holds
+    (λ c. lowest-beyond _ _ (c .if1 .taken))
+    (λ c. omega (arith, c .if1 .left))
+    (λ c. (refl, omega (arith, c .if1 .left), refl))
     returns-2
     add-next
-    loop-less
+    (λ c. omega (arith, c .before .loop-test .taken))
     loop-again
     returns-3)

@@ -7,10 +7,6 @@ use borrow.Author.Tests.{not-true, not-false}
 use Rattle.board.specs.Rules.{boardFine}
 use Rattle.board.proofs.RuleLaws.{counts-in-range}
 
-returns : tie.Need-returns
-unfolding boardFine
-returns c = simp (sym (c .before .counts-fine .ensures) ∙ not-true _ (c .if1 .taken))
-
 parts-fine-requires : tie.Need-parts-fine-requires
 parts-fine-requires c κs =
     counts-in-range _ (sym (c .before .before .counts-fine .ensures) ∙ not-false _ (c .before .if1 .left)) .most-parts
@@ -22,4 +18,11 @@ returns-2 c =
     simp (c .parts-fine .ensures, sym (at-if1 .before .counts-fine .ensures) ∙ not-false _ (at-if1 .if1 .left))
 
 pub check-spec : {M : Type 1} → statement M
-check-spec = tie.close (tie.spec (λ c κs. search needs) returns parts-fine-requires returns-2)
+unfolding boardFine
+check-spec =
+    tie.close
+    (tie.spec
+    (λ c κs. search needs)
+    (λ c. simp (sym (c .before .counts-fine .ensures) ∙ not-true _ (c .if1 .taken)))
+    parts-fine-requires
+    returns-2)

@@ -5,14 +5,6 @@ use borrow.Author.Tests.{le-leb, lt-leb}
 use lib.Dec.{leb·zero}
 use Rattle.board.specs.Rules.{countsFine, inRange}
 
-returns : tie.Need-returns
-unfolding countsFine inRange
-returns c = simp (lt-leb _ _ (c .if1 .taken))
-
-returns-2 : tie.Need-returns-2
-unfolding countsFine inRange
-returns-2 c = simp (le-leb _ _ (c .before .before .if1 .left), lt-leb _ _ (c .if2 .taken))
-
 returns-3 : tie.Need-returns-3
 unfolding countsFine inRange
 returns-3 c =
@@ -51,4 +43,12 @@ returns-5 c =
     )
 
 pub counts-fine-spec : {M : Type 1} → statement M
-counts-fine-spec = tie.close (tie.spec returns returns-2 returns-3 returns-4 returns-5)
+unfolding countsFine inRange
+counts-fine-spec =
+    tie.close
+    (tie.spec
+    (λ c. simp (lt-leb _ _ (c .if1 .taken)))
+    (λ c. simp (le-leb _ _ (c .before .before .if1 .left), lt-leb _ _ (c .if2 .taken)))
+    returns-3
+    returns-4
+    returns-5)

@@ -6,14 +6,6 @@ use mathlib.Core.Path.{sym, _∙_}
 use borrow.Author.Tests.{lt-ltb, le-ltb, eq-eqb, ne-eqb}
 use Rattle.board.specs.Rules.{partFine, partFits}
 
-returns : tie.Need-returns
-unfolding partFine partFits
-returns c = simp (le-ltb _ _ (c .if1 .taken))
-
-returns-2 : tie.Need-returns-2
-unfolding partFine partFits
-returns-2 c = simp (lt-ltb _ _ (c .before .before .before .if1 .left), le-ltb _ _ (c .if2 .taken))
-
 returns-3 : tie.Need-returns-3
 unfolding partFine partFits
 returns-3 c =
@@ -47,6 +39,14 @@ returns-5 c =
     )
 
 pub part-fine-spec : {M : Type 1} → statement M
+unfolding partFine partFits
 part-fine-spec =
     tie.close
-    (tie.spec returns returns-2 returns-3 (λ c κs. search needs) (λ c κs. search needs) returns-4 returns-5)
+    (tie.spec
+    (λ c. simp (le-ltb _ _ (c .if1 .taken)))
+    (λ c. simp (lt-ltb _ _ (c .before .before .before .if1 .left), le-ltb _ _ (c .if2 .taken)))
+    returns-3
+    (λ c κs. search needs)
+    (λ c κs. search needs)
+    returns-4
+    returns-5)

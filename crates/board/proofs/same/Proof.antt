@@ -7,9 +7,6 @@ use borrow.Author.Tests.{not-true, not-false}
 use Rattle.board.proofs.SameLaws.{board-counts-differ, board-same-last, board-same-all}
 use lib.ListN.{length-map}
 
-returns : tie.Need-returns
-returns c = board-counts-differ _ _ (sym (c .before .same-counts .ensures) ∙ not-true _ (c .if1 .taken))
-
 returns-2 : tie.Need-returns-2
 returns-2 c =
     let at-if1 = c .before .before .before .before in
@@ -33,7 +30,7 @@ same-spec =
     tie.close
     (tie.spec
     (λ c κs. search needs)
-    returns
+    (λ c. board-counts-differ _ _ (sym (c .before .same-counts .ensures) ∙ not-true _ (c .if1 .taken)))
     (λ c κs. search needs)
     (λ c κs. search needs)
     returns-2

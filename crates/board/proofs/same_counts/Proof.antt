@@ -4,14 +4,6 @@ use Rattle.board.proofs.same_counts.Tie as tie
 use borrow.Author.Tests.{eq-eqb, ne-eqb}
 use Rattle.board.specs.Same.{sameCounts}
 
-returns : tie.Need-returns
-unfolding sameCounts
-returns c = simp (ne-eqb _ _ (c .if1 .taken))
-
-returns-2 : tie.Need-returns-2
-unfolding sameCounts
-returns-2 c = simp (eq-eqb _ _ (c .before .before .before .if1 .left), ne-eqb _ _ (c .if2 .taken))
-
 returns-3 : tie.Need-returns-3
 unfolding sameCounts
 returns-3 c =
@@ -28,4 +20,11 @@ returns-4 c =
     rw (eq-eqb _ _ (at-if1 .if1 .left), eq-eqb _ _ (at-if2 .if2 .left), eq-eqb _ _ (at-if3 .if3 .left))
 
 pub same-counts-spec : {M : Type 1} → statement M
-same-counts-spec = tie.close (tie.spec returns returns-2 returns-3 returns-4)
+unfolding sameCounts
+same-counts-spec =
+    tie.close
+    (tie.spec
+    (λ c. simp (ne-eqb _ _ (c .if1 .taken)))
+    (λ c. simp (eq-eqb _ _ (c .before .before .before .if1 .left), ne-eqb _ _ (c .if2 .taken)))
+    returns-3
+    returns-4)

@@ -6,14 +6,6 @@ use mathlib.Core.Path.{sym, _∙_}
 use borrow.Author.Tests.{eq-eqb, ne-eqb}
 use Rattle.board.specs.Same.{samePart, sameKind}
 
-returns : tie.Need-returns
-unfolding samePart
-returns c = simp (ne-eqb _ _ (c .if1 .taken))
-
-returns-2 : tie.Need-returns-2
-unfolding samePart
-returns-2 c = simp (eq-eqb _ _ (c .before .before .before .if1 .left), ne-eqb _ _ (c .if2 .taken))
-
 returns-3 : tie.Need-returns-3
 unfolding samePart sameKind
 returns-3 c =
@@ -38,11 +30,12 @@ returns-4 c =
     )
 
 pub same-part-spec : {M : Type 1} → statement M
+unfolding samePart
 same-part-spec =
     tie.close
     (tie.spec
-    returns
-    returns-2
+    (λ c. simp (ne-eqb _ _ (c .if1 .taken)))
+    (λ c. simp (eq-eqb _ _ (c .before .before .before .if1 .left), ne-eqb _ _ (c .if2 .taken)))
     (λ c κs. search needs)
     (λ c κs. search needs)
     returns-3

@@ -19,9 +19,6 @@ Inv-loop count x y i₀ i =
 abbrev μ-loop : tie.MeasureT-loop
 μ-loop count x y i₀ i = count - i
 
-loop-holds : tie.Need-loop-holds Inv-loop μ-loop
-loop-holds c = (c .pre, c .good .0 .1 .0 .1, c .good .1 .0 .1 .0 .1, omega arith, refl)
-
 returns : tie.Need-returns Inv-loop μ-loop
 returns c =
     same-walk-off _ _ _ _ _ (omega arith) (omega arith) (c .before .before .before .before .before .loop .inv .4)
@@ -40,16 +37,13 @@ loop-again c =
           (sym (c .before .same-part .ensures) ∙ not-false _ (c .if1 .left)),
     )
 
-returns-2 : tie.Need-returns-2 Inv-loop μ-loop
-returns-2 c = same-walk-end _ _ _ _ _ (omega arith) (omega arith) (c .before .loop .inv .4) (c .loop-test .left)
-
 pub same-parts-spec : {M : Type 1} → statement M
 same-parts-spec =
     tie.close
     (tie.spec
     Inv-loop
     μ-loop
-    loop-holds
+    (λ c. (c .pre, c .good .0 .1 .0 .1, c .good .1 .0 .1 .0 .1, omega arith, refl))
     (λ c. omega arith)
     (λ c. omega arith)
     (λ c. omega arith)
@@ -59,4 +53,4 @@ same-parts-spec =
     (λ c. omega arith)
     (λ c. omega arith)
     loop-again
-    returns-2)
+    (λ c. same-walk-end _ _ _ _ _ (omega arith) (omega arith) (c .before .loop .inv .4) (c .loop-test .left)))

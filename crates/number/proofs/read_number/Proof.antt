@@ -24,12 +24,6 @@ returns c =
     number-got _ _ _ _ _ (at-read-form .before .shared-slice-known .given) (at-read-form .read-form .ensures)
     (c .before .value .given .1)
 
-returns-2 : tie.Need-returns-2
-returns-2 c = number-ends _ _ _ (c .before .before .read-form .ensures) (c .enum-told .given .1)
-
-returns-3 : tie.Need-returns-3
-returns-3 c = number-bad _ _ _ (c .before .before .read-form .ensures) (c .enum-told2 .given .1)
-
 pub read-number-spec : {M : Type 1} → statement M
 read-number-spec =
     tie.close
@@ -40,5 +34,5 @@ read-number-spec =
     (λ c. search needs)
     (λ c. search needs)
     returns
-    returns-2
-    returns-3)
+    (λ c. number-ends _ _ _ (c .before .before .read-form .ensures) (c .enum-told .given .1))
+    (λ c. number-bad _ _ _ (c .before .before .read-form .ensures) (c .enum-told2 .given .1)))

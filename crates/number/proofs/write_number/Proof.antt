@@ -6,9 +6,6 @@ use Rattle.number.proofs.NumberLaws.{number-too-large, number-lacks-roo
 use Rattle.number.proofs.write_number.Statement.{statement}
 use Rattle.number.proofs.write_number.Tie as tie
 
-returns : tie.Need-returns
-returns c = sym (number-too-large _ _ _ (c .if1 .taken))
-
 returns-2 : tie.Need-returns-2
 returns-2 c =
     let entry = c .before .before .before .before in
@@ -39,7 +36,7 @@ pub write-number-spec : {M : Type 1} → statement M
 write-number-spec =
     tie.close
     (tie.spec
-    returns
+    (λ c. sym (number-too-large _ _ _ (c .if1 .taken)))
     (λ c κs. search needs)
     returns-2
     (λ c. search needs)

@@ -4,9 +4,6 @@ use Rattle.windings.proofs.WoundSoFar.wound.Statement.{statement}
 use Rattle.windings.proofs.WoundSoFar.wound.Tie as tie
 use mathlib.Core.Path.{sym, _∙_}
 
-returns : tie.Need-returns
-returns c = simp (sym (c .before .has .ensures) ∙ c .if1 .taken)
-
 returns-2 : tie.Need-returns-2
 returns-2 c =
     simp (
@@ -26,5 +23,11 @@ returns-3 c =
 
 pub wound-spec : {M : Type 1} → statement M
 wound-spec =
-    tie.close (tie.spec (λ c κs. search needs) returns (λ c κs. search needs) (λ c κs. search needs) returns-2
+    tie.close
+    (tie.spec
+    (λ c κs. search needs)
+    (λ c. simp (sym (c .before .has .ensures) ∙ c .if1 .taken))
+    (λ c κs. search needs)
+    (λ c κs. search needs)
+    returns-2
     returns-3)
