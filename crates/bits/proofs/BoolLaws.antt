@@ -1,5 +1,5 @@
 -- Laws of tests: both of two in a row hold exactly if their conjunction does, one of two exactly if their disjunction
--- does, and a test goes one way or the other.
+-- does, and a test goes one way or the other; so does the test of one number below another.
 use Prim.Native.Nat.{ℕ, _<_, _≤_}
 use mathlib.Core.Path.{_≡_, refl}
 use mathlib.Core.Logic.{_⊎_, inl, inr}

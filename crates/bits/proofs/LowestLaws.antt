@@ -6,9 +6,8 @@ use native.Mathlib.Nat.{mod-lt, div-eq-of-lt, lt-of-lt-of-le}
 use native.Mathlib.Numerals.{add-one}
 use mathlib.Core.Path.{_≡_, refl, sym, ap, _∙_}
 use mathlib.Core.Bool.{Bool, true, false}
-use lib.Dec.{ltb}
 use lib.Pow.{pow-pos, pow-mono, split, shr-shr}
-use borrow.Author.Tests.{eq-eqb, ne-eqb, ltb-true, ltb-false}
+use borrow.Author.Tests.{eq-eqb, ne-eqb}
 use Rattle.bits.specs.Sets.{room, member, firstFrom, lowestFrom}
 use Rattle.bits.proofs.BoolLaws.{by-test, by-less}
 use Rattle.bits.proofs.SetLaws.{member-beyond}

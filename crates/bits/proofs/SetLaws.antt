@@ -1,5 +1,4 @@
--- The laws of sets of small numbers: what `including`, `excluding` and `remaining` do to each member and to the width,
--- and that a set is known by its members.
+-- The laws of sets of small numbers: what `including`, `excluding` and `remaining` do to each member and to the width.
 -- Every proof that speaks of drawn relays, pushed buttons or windings cites these. The last section is for the proofs
 -- of `has`, `with`, `without` and `all_below`.
 use Prim.Native.Nat.{ℕ, zero, suc, _+_, _-_, _*_, _/_, _%_, _^_, _≤_, _<_}
@@ -9,7 +8,7 @@ use native.Mathlib.Omega.{arith}
 use native.Mathlib.Nat.{mod-lt, div-eq-of-lt, div-one, pow-suc, lt-of-lt-of-le, add-div-right, one-mul, zero-mul}
 use native.Mathlib.Nat.{add-zero, zero-div, sub-add-cancel}
 use native.Mathlib.Numerals.{one-add}
-use borrow.Author.Tests.{ltb-true, ltb-false, eqb-true, eqb-false, lt-ltb, le-ltb, eq-eqb, ne-eqb}
+use borrow.Author.Tests.{ltb-true, eqb-true, eqb-false, lt-ltb, le-ltb, eq-eqb, ne-eqb}
 use lib.Dec.{ltb, eqb}
 use lib.Arith.{bin-ind}
 use lib.Pow.{pow-pos, pow-mono, split, shr-shr, shl-exact}
@@ -88,8 +87,7 @@ taken-same s n set =
       arith,
       member-set s n set,
       add-div-right (s - 2 ^ n) (pow-pos n),
-      ap (λ (x : ℕ). x / 2 ^ n)
-          (sub-add-cancel (member-worth s n set)),
+      ap (λ (x : ℕ). x / 2 ^ n) (sub-add-cancel (member-worth s n set)),
     ))
 
 taken-other : (s n m : ℕ) → member s n ≡ true → (m ≡ n → ⊥) → member (s - 2 ^ n) m ≡ member s m
@@ -158,7 +156,7 @@ member-excluding-other s n m other =
     (λ set. ap (λ (x : ℕ). member x m) (excluding-member s n set) ∙ taken-other s n m set other)
     (λ clear. ap (λ (x : ℕ). member x m) (excluding-absent s n clear))
 
--- ---- a set is known by its members
+-- ---- the set without members
 
 pub member-none : (n : ℕ) → member 0 n ≡ false
 member-none n = clear-member 0 n (omega (arith, zero-div (2 ^ n)))
@@ -168,22 +166,6 @@ no-members =
     bin-ind (λ (s : ℕ). ((n : ℕ) → member s n ≡ false) → s ≡ 0)
     (λ none. refl)
     (λ s half none. omega (arith, half (λ n. sym (member-next s n) ∙ none (suc n)), member-clear s 0 (none 0)))
-
-lowest-same : (s t : ℕ) → member s 0 ≡ member t 0 → s % 2 ≡ t % 2
-lowest-same s t e =
-    by-test (member t 0)
-    (λ set. omega (arith, member-set s 0 (e ∙ set), member-set t 0 set))
-    (λ clear. omega (arith, member-clear s 0 (e ∙ clear), member-clear t 0 clear))
-
-pub members-same : (s t : ℕ) → ((n : ℕ) → member s n ≡ member t n) → s ≡ t
-members-same =
-    bin-ind (λ (s : ℕ). (t : ℕ) → ((n : ℕ) → member s n ≡ member t n) → s ≡ t)
-    (λ t same. sym (no-members t (λ n. sym (same n) ∙ member-none n)))
-    (λ s half t same. omega (
-      arith,
-      half (t / 2) (λ n. sym (member-next s n) ∙ same (suc n) ∙ member-next t n),
-      lowest-same s t (same 0),
-    ))
 
 -- ---- the width: every member is below k exactly if the number is below 2 ^ k
 
@@ -210,21 +192,24 @@ pub member-within : (s k : ℕ) → ((n : ℕ) → member s n ≡ true → n < k
 unfolding within
 member-within s k low = lt-ltb s (2 ^ k) (below-member s k low)
 
-member-including-below : (s k n m : ℕ) → s < 2 ^ k → n < k → member (including s n) m ≡ true → m < k
-member-including-below s k n m small fits set =
-    by-test (eqb m n)
-    (λ e. omega (arith, eqb-true m n e))
-    (λ e. member-below s k m small (sym (member-including-other s n m (eqb-false m n e)) ∙ set))
+pub within-none : (k : ℕ) → within 0 k ≡ true
+unfolding within
+within-none k = lt-ltb 0 (2 ^ k) (pow-pos k)
 
-pub including-below : (s k n : ℕ) → s < 2 ^ k → n < k → including s n < 2 ^ k
-including-below s k n small fits =
-    below-member (including s n) k (λ m set. member-including-below s k n m small fits set)
+pub within-including : (s k n : ℕ) → within s k ≡ true → n < k → within (including s n) k ≡ true
+within-including s k n all fits =
+    member-within (including s n) k
+    (λ m set. by-test (eqb m n)
+    (λ same. omega (arith, eqb-true m n same))
+    (λ other. within-member s k m all (sym (member-including-other s n m (eqb-false m n other)) ∙ set)))
 
-pub excluding-below : (s k n : ℕ) → s < 2 ^ k → excluding s n < 2 ^ k
-excluding-below s k n small =
+pub within-excluding : (s k n : ℕ) → within s k ≡ true → within (excluding s n) k ≡ true
+unfolding within
+within-excluding s k n all =
+    let small = ltb-true s (2 ^ k) all in
     by-test (member s n)
-    (λ set. omega (arith, excluding-member s n set))
-    (λ clear. omega (arith, excluding-absent s n clear))
+    (λ set. lt-ltb _ (2 ^ k) (omega (arith, excluding-member s n set, small)))
+    (λ clear. rw (excluding-absent s n clear) all)
 
 -- ---- the members of a set that are not in another
 

@@ -4,6 +4,7 @@ use Prim.Native.Nat.{ℕ, _+_, _<_, _≤_}
 use mathlib.Core.Path.{_≡_, refl, sym, ap, ap₂, _∙_}
 use mathlib.Core.Bool.{Bool, true, false, false≢true}
 use mathlib.Core.List.{List, [], _∷_}
+use lib.Dec.{eqb}
 use lib.ListN.{length, getD, take, drop}
 use lib.Seq.{take-all}
 use native.Mathlib.Omega.{arith}
@@ -116,27 +117,16 @@ lists-equal (p ∷ ps) (q ∷ qs) same =
     let both = both-true (samePart p q) (sameParts ps qs) same in
     ap₂ _∷_ (parts-equal p q (both .0)) (lists-equal ps qs (both .1))
 
+eqb-self : (n : ℕ) → eqb n n ≡ true
+eqb-self n = eq-eqb n n refl
+
 counts-self : (c : Counts) → sameCounts c c ≡ true
 unfolding sameCounts
-counts-self c =
-    simp (
-      eq-eqb (c .terminals) (c .terminals) refl,
-      eq-eqb (c .relays) (c .relays) refl,
-      eq-eqb (c .buttons)
-          (c .buttons) refl,
-      eq-eqb (c .parts) (c .parts) refl,
-    )
+counts-self c = simp eqb-self
 
 part-self : (p : Part) → samePart p p ≡ true
 unfolding samePart sameKind
-part-self p =
-    simp (
-      eq-eqb (p .a) (p .a) refl,
-      eq-eqb (p .b) (p .b) refl,
-      eq-eqb (kindNumber (p .kind)) (kindNumber (p .kind))
-          refl,
-      eq-eqb (nameOf (p .kind)) (nameOf (p .kind)) refl,
-    )
+part-self p = simp eqb-self
 
 list-self : (ps : List Part) → sameParts ps ps ≡ true
 unfolding sameParts

@@ -1,5 +1,5 @@
 -- Laws of the calls that push and release a button: what a refused call gives back, that an answer is known by what it
--- tells, and one law for each way out of `pressable`, `settle`, `push` and `release`. Assumes nothing.
+-- tells, and one law for each way out of `pressable`, `leave`, `push` and `release`.
 use Prim.Native.Nat.{ℕ, _≤_, _<_}
 use mathlib.Core.Path.{_≡_, refl, sym, ap}
 use mathlib.Core.Bool.{Bool, true, false, not}
@@ -74,7 +74,7 @@ pub told-pressed-injective : (x y : Pressed) → toldPressed x ≡ toldPressed y
 told-pressed-injective x y e =
     λ i. record { state = e i .0; answer = told-press-injective (x .answer) (y .answer) (λ j. e j .1) i }
 
--- ---- one law for each way out of `pressable`, `settle`, `push` and `release`
+-- ---- one law for each way out of `pressable`, `leave`, `push` and `release`
 
 module _ (b : Board) (s : State) (n : ℕ) (already : Bool) where
   pub press-unusable : (k p : ℕ) → usable b s ≡ refused k p → refused k p ≡ pressable b s n already
@@ -97,14 +97,14 @@ module _ (b : Board) (s : State) (n : ℕ) (already : Bool) where
 
 -- an answer a with the state that it leaves: the state t if it is done, else the state s as given
 module _ (s t : State) (a : Press) where
-  pub settle-done : a ≡ Done → toldPressed (record { state = t; answer = a }) ≡ left s (λ u. t) (toldPress a)
+  pub leave-done : a ≡ Done → toldPressed (record { state = t; answer = a }) ≡ left s (λ u. t) (toldPress a)
   unfolding left
-  settle-done done = rw done
+  leave-done done = rw done
 
-  pub settle-refused : (r : Refusal) → a ≡ Refused r → toldPressed (record { state = s; answer = a }) ≡ left s
+  pub leave-refused : (r : Refusal) → a ≡ Refused r → toldPressed (record { state = s; answer = a }) ≡ left s
       (λ u. t) (toldPress a)
   unfolding left
-  settle-refused r is = rw is
+  leave-refused r is = rw is
 
 -- an outcome o that was asked for with the test p and the state u that was made, where the definition has the test q
 -- and the state t

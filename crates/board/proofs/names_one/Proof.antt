@@ -14,8 +14,7 @@ returns-2 c =
       c .before .name .ensures,
       c .limit .ensures,
       at-number .number .ensures,
-      ne-eqb _ 0
-          (λ e. c .before .before .if1 .left (at-number .number .ensures ∙ e)),
+      ne-eqb _ 0 (λ e. c .before .before .if1 .left (at-number .number .ensures ∙ e)),
     )
 
 pub names-one-spec : {M : Type 1} → statement M

@@ -2,7 +2,7 @@
 use borrow.Author.Needs.{needs}
 use Rattle.presses.proofs.leave.Statement.{statement}
 use Rattle.presses.proofs.leave.Tie as tie
-use Rattle.presses.proofs.PressLaws.{settle-done, settle-refused}
+use Rattle.presses.proofs.PressLaws.{leave-done, leave-refused}
 
 pub leave-spec : {M : Type 1} → statement M
 leave-spec =
@@ -10,5 +10,5 @@ leave-spec =
     (tie.spec
     (λ c. search needs)
     (λ c. search needs)
-    (λ c. settle-done _ _ _ (c .enum-told .given .1))
-    (λ c. settle-refused _ _ _ _ (c .enum-told2 .given .1)))
+    (λ c. leave-done _ _ _ (c .enum-told .given .1))
+    (λ c. leave-refused _ _ _ _ (c .enum-told2 .given .1)))

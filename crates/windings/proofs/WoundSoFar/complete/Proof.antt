@@ -31,8 +31,7 @@ loop-again c =
       at-loop .loop .inv .0,
       at-loop .loop .inv .1,
       omega arith,
-      every-more _ _ (at-loop .loop .inv .3)
-          (sym (c .before .wound .ensures) ∙ not-false _ (c .if1 .left)),
+      every-more _ _ (at-loop .loop .inv .3) (sym (c .before .wound .ensures) ∙ not-false _ (c .if1 .left)),
     )
 
 pub complete-spec : {M : Type 1} → statement M

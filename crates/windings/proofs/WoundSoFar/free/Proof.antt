@@ -10,8 +10,7 @@ returns c =
     simp (
       c .before .before .before .before .kind .given .1,
       ← c .before .before .wide .ensures .0,
-      sym
-          (c .before .has .ensures) ∙ c .if1 .taken,
+      sym (c .before .has .ensures) ∙ c .if1 .taken,
     )
 
 returns-2 : tie.Need-returns-2
@@ -19,8 +18,7 @@ returns-2 c =
     simp (
       c .in-neither .ensures,
       c .before .before .before .before .before .kind .given .1,
-      ←
-          c .before .before .before .wide .ensures .0,
+      ← c .before .before .before .wide .ensures .0,
       sym (c .before .before .has .ensures) ∙ c .before .if1 .left,
     )
 

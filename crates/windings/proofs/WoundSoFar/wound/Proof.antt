@@ -8,8 +8,7 @@ returns-2 : tie.Need-returns-2
 returns-2 c =
     simp (
       c .has3 .ensures,
-      sym (c .before .before .before .before .has .ensures)
-          ∙ c .before .before .before .if1 .left,
+      sym (c .before .before .before .before .has .ensures) ∙ c .before .before .before .if1 .left,
       sym (c .before .before .has2 .ensures) ∙ c .before .if2 .taken,
     )
 
@@ -17,8 +16,7 @@ returns-3 : tie.Need-returns-3
 returns-3 c =
     simp (
       sym (c .before .before .before .has .ensures) ∙ c .before .before .if1 .left,
-      sym
-          (c .before .has2 .ensures) ∙ c .if2 .left,
+      sym (c .before .has2 .ensures) ∙ c .if2 .left,
     )
 
 pub wound-spec : {M : Type 1} → statement M
