@@ -142,7 +142,8 @@ fn write_groups(value: u32, left: usize, out: &mut [u8], at: usize)
 
 // Writes a number in its shortest form at a place: 2 if it is too large for a number, then 16 if it has no room there.
 pub fn write_number(value: u32, out: &mut [u8], at: usize) -> NumberWritten
-    ensures { λ r. ⌜ _≡_ {A = Outcome ℕ × List ℕ} (toldNumberWritten r, now (out .exit)) (numberWriting value (now (out .entry)) at) ⌝ }
+    ensures { λ r. ⌜ _≡_ {A = Outcome ℕ × List ℕ} (toldNumberWritten r, now (out .exit))
+        (numberWriting value (now (out .entry)) at) ⌝ }
 {
     if LARGEST < value {
         return NumberWritten::Refused(Refusal {
