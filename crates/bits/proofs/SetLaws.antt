@@ -125,17 +125,13 @@ member-including-same s n fits =
     (λ set. ap (λ (x : ℕ). member x n) (including-member s n set) ∙ set)
     (λ clear. ap (λ (x : ℕ). member x n) (including-new s n fits clear) ∙ added-same s n clear)
 
-member-fitting-other : (s n m : ℕ) → n < room → (m ≡ n → ⊥) → member (including s n) m ≡ member s m
-member-fitting-other s n m fits other =
-    by-test (member s n)
-    (λ set. ap (λ (x : ℕ). member x m) (including-member s n set))
-    (λ clear. ap (λ (x : ℕ). member x m) (including-new s n fits clear) ∙ added-other s n m clear other)
-
 pub member-including-other : (s n m : ℕ) → (m ≡ n → ⊥) → member (including s n) m ≡ member s m
 member-including-other s n m other =
-    by-less n room
-    (λ fits. member-fitting-other s n m fits other)
-    (λ beyond. ap (λ (x : ℕ). member x m) (including-beyond s n beyond))
+    by-test (member s n)
+    (λ set. ap (λ (x : ℕ). member x m) (including-member s n set))
+    (λ clear. by-less n room
+    (λ fits. ap (λ (x : ℕ). member x m) (including-new s n fits clear) ∙ added-other s n m clear other)
+    (λ beyond. ap (λ (x : ℕ). member x m) (including-beyond s n beyond)))
 
 pub member-including : (s n m : ℕ) → m < room → member (including s n) m ≡ (member s m || eqb m n)
 member-including s n m fits =

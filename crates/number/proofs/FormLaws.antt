@@ -95,8 +95,7 @@ form-written zero v s h = rw encode-last (form-last 0 v s (omega arith))
 form-written (suc k) v s h =
     by-less v 128
     (λ l. rw encode-last (form-last (suc k) v s l))
-    (λ m. rw encode-more
-    (form-written-more (suc k) v s m (form-written k (v / 128) s (omega arith))))
+    (λ m. rw encode-more (form-written-more (suc k) v s m (form-written k (v / 128) s (omega arith))))
 
 -- ---- writing undoes reading
 
@@ -112,12 +111,7 @@ read-last k b s v n l e =
     let ev : v ≡ b = cc in
     let en : n ≡ 1 = cc in
     rw (ev, en)
-    (record {
-      bytes = rw encode-last;
-      next = rw encode-last;
-      small =
-          omega (arith, one-le-pow k 128 (omega arith));
-    })
+    (record { bytes = rw encode-last; next = rw encode-last; small = omega (arith, one-le-pow k 128 (omega arith)) })
 
 read-more : (k b : ℕ) (s : List ℕ) (v n : ℕ) → b < 256 → 128 ≤ b → (r : Below (b - 128) (form k s) v n)
     → FormRead k s (r .above) (r .bytes) → FormRead (suc k) (b ∷ s) v n
