@@ -1,8 +1,11 @@
 -- Laws of tests: both of two in a row hold exactly if their conjunction does, one of two exactly if their disjunction
--- does, and a test goes one way or the other.
+-- does, and a test goes one way or the other; so does the test of one number below another.
+use Prim.Native.Nat.{ℕ, _<_, _≤_}
 use mathlib.Core.Path.{_≡_, refl}
 use mathlib.Core.Logic.{_⊎_, inl, inr}
 use mathlib.Core.Bool.{Bool, true, false, _&&_, _||_, false≢true}
+use borrow.Author.Tests.{ltb-true, ltb-false}
+use lib.Dec.{ltb}
 
 pub both-true : (a b : Bool) → (a && b) ≡ true → (a ≡ true) × (b ≡ true)
 both-true true b h = (refl, h)
@@ -24,3 +27,6 @@ true-either false b (inr h) = h
 pub by-test : {A : Type 0} (t : Bool) → (t ≡ true → A) → (t ≡ false → A) → A
 by-test true on off = on refl
 by-test false on off = off refl
+
+pub by-less : {A : Type 0} (m n : ℕ) → (m < n → A) → (n ≤ m → A) → A
+by-less m n less more = by-test (ltb m n) (λ e. less (ltb-true m n e)) (λ e. more (ltb-false m n e))

@@ -6,11 +6,10 @@ use native.Mathlib.Nat.{mod-lt, div-eq-of-lt, lt-of-lt-of-le}
 use native.Mathlib.Numerals.{add-one}
 use mathlib.Core.Path.{_≡_, refl, sym, ap, _∙_}
 use mathlib.Core.Bool.{Bool, true, false}
-use lib.Dec.{ltb}
 use lib.Pow.{pow-pos, pow-mono, split, shr-shr}
-use borrow.Author.Tests.{eq-eqb, ne-eqb, ltb-true, ltb-false}
-use Rattle.bits.specs.Sets.{member, firstFrom, lowestFrom}
-use Rattle.bits.proofs.BoolLaws.{by-test}
+use borrow.Author.Tests.{eq-eqb, ne-eqb}
+use Rattle.bits.specs.Sets.{room, member, firstFrom, lowestFrom}
+use Rattle.bits.proofs.BoolLaws.{by-test, by-less}
 use Rattle.bits.proofs.SetLaws.{member-beyond}
 
 -- ---- the first number that passes
@@ -86,18 +85,17 @@ lowest-past s m rest e even = ne-eqb (s / 2 ^ m % 2) 1 (λ odd. even (ap (λ (x 
 pub lowest-next : (s m rest : ℕ) → rest ≡ s / 2 ^ m → rest / 2 ≡ s / 2 ^ (m + 1)
 lowest-next s m rest e = ap (λ (x : ℕ). x / 2) e ∙ shr-shr s m 1
 
-pub lowest-room : (s m rest : ℕ) → s < 2 ^ 64 → rest ≡ s / 2 ^ m → (rest ≡ 0 → ⊥) → m < 64
+pub lowest-room : (s m rest : ℕ) → s < 2 ^ room → rest ≡ s / 2 ^ m → (rest ≡ 0 → ⊥) → m < room
 lowest-room s m rest small e some =
-    by-test (ltb m 64)
-    (λ below. ltb-true m 64 below)
-    (λ above. absurd (some (e ∙ div-eq-of-lt (lt-of-lt-of-le small (pow-mono (ltb-false m 64 above))))))
+    by-less m room (λ below. below)
+    (λ above. absurd (some (e ∙ div-eq-of-lt (lt-of-lt-of-le small (pow-mono above)))))
 
-pub lowest-none : (s n m rest : ℕ) → m ≤ 64 → rest ≡ s / 2 ^ m → rest ≡ 0 → lowestFrom s n ≡ firstFrom (member s)
-    (64 - m) m → 64 ≡ lowestFrom s n
+pub lowest-none : (s n m rest : ℕ) → m ≤ room → rest ≡ s / 2 ^ m → rest ≡ 0 → lowestFrom s n ≡ firstFrom (member s)
+    (room - m) m → room ≡ lowestFrom s n
 lowest-none s n m rest most e none same =
     let small : s < 2 ^ m = omega (arith, split s m, mod-lt s (pow-pos m), ap (λ (x : ℕ). x * 2 ^ m) (sym e ∙ none)) in
-    first-none (member s) (64 - m) m 64 (omega (arith, most)) (λ k from. member-beyond s m k small from) ∙ sym same
+    first-none (member s) (room - m) m room (omega (arith, most)) (λ k from. member-beyond s m k small from) ∙ sym same
 
-pub lowest-beyond : (s n : ℕ) → 64 ≤ n → n ≡ lowestFrom s n
+pub lowest-beyond : (s n : ℕ) → room ≤ n → n ≡ lowestFrom s n
 unfolding lowestFrom
-lowest-beyond s n past = first-end (member s) 64 n past
+lowest-beyond s n past = first-end (member s) room n past

@@ -1,8 +1,6 @@
--- The laws of sets of small numbers: what `including`, `excluding` and `remaining` do to each member and to the width,
--- and that a set is known by its members.
+-- The laws of sets of small numbers: what `including`, `excluding` and `remaining` do to each member and to the width.
 -- Every proof that speaks of drawn relays, pushed buttons or windings cites these. The last section is for the proofs
 -- of `has`, `with`, `without` and `all_below`.
--- Assumes nothing.
 use Prim.Native.Nat.{ℕ, zero, suc, _+_, _-_, _*_, _/_, _%_, _^_, _≤_, _<_}
 use mathlib.Core.Path.{_≡_, refl, sym, ap, ap₂, _∙_}
 use mathlib.Core.Bool.{true, false, not, _&&_, _||_, or-true, or-false, false≢true}
@@ -10,14 +8,14 @@ use native.Mathlib.Omega.{arith}
 use native.Mathlib.Nat.{mod-lt, div-eq-of-lt, div-one, pow-suc, lt-of-lt-of-le, add-div-right, one-mul, zero-mul}
 use native.Mathlib.Nat.{add-zero, zero-div, sub-add-cancel}
 use native.Mathlib.Numerals.{one-add}
-use borrow.Author.Tests.{ltb-true, ltb-false, eqb-true, eqb-false, lt-ltb, le-ltb, eq-eqb, ne-eqb}
+use borrow.Author.Tests.{ltb-true, eqb-true, eqb-false, lt-ltb, le-ltb, eq-eqb, ne-eqb}
 use lib.Dec.{ltb, eqb}
 use lib.Arith.{bin-ind}
 use lib.Pow.{pow-pos, pow-mono, split, shr-shr, shl-exact}
 use lib.Bits.{bitAnd, bitOr, bitXor, and-block, and-mask, and-zero-r, and-zero-l, or-add-and, xor-add-and, and-shr}
 use lib.Bits.{xor-shr, and-mod, xor-mod}
-use Rattle.bits.proofs.BoolLaws.{by-test}
-use Rattle.bits.specs.Sets.{member, including, excluding, remaining, within}
+use Rattle.bits.proofs.BoolLaws.{by-test, by-less}
+use Rattle.bits.specs.Sets.{room, member, including, excluding, remaining, within}
 
 -- ---- a member by its bit, lowest first
 
@@ -78,9 +76,9 @@ added-other s (suc n) (suc m) clear other =
 
 member-worth : (s n : ℕ) → member s n ≡ true → 2 ^ n ≤ s
 member-worth s n set =
-    by-test (ltb s (2 ^ n))
-    (λ less. omega (arith, member-set s n set, div-eq-of-lt (ltb-true s (2 ^ n) less)))
-    (ltb-false s (2 ^ n))
+    by-less s (2 ^ n)
+    (λ less. omega (arith, member-set s n set, div-eq-of-lt less))
+    (λ enough. enough)
 
 taken-same : (s n : ℕ) → member s n ≡ true → member (s - 2 ^ n) n ≡ false
 taken-same s n set =
@@ -89,8 +87,7 @@ taken-same s n set =
       arith,
       member-set s n set,
       add-div-right (s - 2 ^ n) (pow-pos n),
-      ap (λ (x : ℕ). x / 2 ^ n)
-          (sub-add-cancel (member-worth s n set)),
+      ap (λ (x : ℕ). x / 2 ^ n) (sub-add-cancel (member-worth s n set)),
     ))
 
 taken-other : (s n m : ℕ) → member s n ≡ true → (m ≡ n → ⊥) → member (s - 2 ^ n) m ≡ member s m
@@ -102,15 +99,15 @@ taken-other s n m set other =
 
 including-member : (s n : ℕ) → member s n ≡ true → including s n ≡ s
 unfolding including
-including-member s n set = by-test (ltb n 64) (λ e. rw (e, set)) (λ e. rw e)
+including-member s n set = by-test (ltb n room) (λ e. rw (e, set)) (λ e. rw e)
 
-including-new : (s n : ℕ) → n < 64 → member s n ≡ false → including s n ≡ s + 2 ^ n
+including-new : (s n : ℕ) → n < room → member s n ≡ false → including s n ≡ s + 2 ^ n
 unfolding including
-including-new s n fits clear = rw (lt-ltb n 64 fits, clear)
+including-new s n fits clear = rw (lt-ltb n room fits, clear)
 
-pub including-beyond : (s n : ℕ) → 64 ≤ n → including s n ≡ s
+pub including-beyond : (s n : ℕ) → room ≤ n → including s n ≡ s
 unfolding including
-including-beyond s n beyond = rw (le-ltb n 64 beyond)
+including-beyond s n beyond = rw (le-ltb n room beyond)
 
 excluding-member : (s n : ℕ) → member s n ≡ true → excluding s n ≡ s - 2 ^ n
 unfolding excluding
@@ -122,25 +119,21 @@ excluding-absent s n clear = rw clear
 
 -- ---- the members after a change
 
-pub member-including-same : (s n : ℕ) → n < 64 → member (including s n) n ≡ true
+pub member-including-same : (s n : ℕ) → n < room → member (including s n) n ≡ true
 member-including-same s n fits =
     by-test (member s n)
     (λ set. ap (λ (x : ℕ). member x n) (including-member s n set) ∙ set)
     (λ clear. ap (λ (x : ℕ). member x n) (including-new s n fits clear) ∙ added-same s n clear)
 
-member-fitting-other : (s n m : ℕ) → n < 64 → (m ≡ n → ⊥) → member (including s n) m ≡ member s m
-member-fitting-other s n m fits other =
-    by-test (member s n)
-    (λ set. ap (λ (x : ℕ). member x m) (including-member s n set))
-    (λ clear. ap (λ (x : ℕ). member x m) (including-new s n fits clear) ∙ added-other s n m clear other)
-
 pub member-including-other : (s n m : ℕ) → (m ≡ n → ⊥) → member (including s n) m ≡ member s m
 member-including-other s n m other =
-    by-test (ltb n 64)
-    (λ fits. member-fitting-other s n m (ltb-true n 64 fits) other)
-    (λ beyond. ap (λ (x : ℕ). member x m) (including-beyond s n (ltb-false n 64 beyond)))
+    by-test (member s n)
+    (λ set. ap (λ (x : ℕ). member x m) (including-member s n set))
+    (λ clear. by-less n room
+    (λ fits. ap (λ (x : ℕ). member x m) (including-new s n fits clear) ∙ added-other s n m clear other)
+    (λ beyond. ap (λ (x : ℕ). member x m) (including-beyond s n beyond)))
 
-pub member-including : (s n m : ℕ) → m < 64 → member (including s n) m ≡ (member s m || eqb m n)
+pub member-including : (s n m : ℕ) → m < room → member (including s n) m ≡ (member s m || eqb m n)
 member-including s n m fits =
     by-test (eqb m n)
     (λ same. ap (λ (k : ℕ). member (including s k) m) (sym (eqb-true m n same)) ∙ member-including-same s m fits
@@ -159,7 +152,7 @@ member-excluding-other s n m other =
     (λ set. ap (λ (x : ℕ). member x m) (excluding-member s n set) ∙ taken-other s n m set other)
     (λ clear. ap (λ (x : ℕ). member x m) (excluding-absent s n clear))
 
--- ---- a set is known by its members
+-- ---- the set without members
 
 pub member-none : (n : ℕ) → member 0 n ≡ false
 member-none n = clear-member 0 n (omega (arith, zero-div (2 ^ n)))
@@ -170,22 +163,6 @@ no-members =
     (λ none. refl)
     (λ s half none. omega (arith, half (λ n. sym (member-next s n) ∙ none (suc n)), member-clear s 0 (none 0)))
 
-lowest-same : (s t : ℕ) → member s 0 ≡ member t 0 → s % 2 ≡ t % 2
-lowest-same s t e =
-    by-test (member t 0)
-    (λ set. omega (arith, member-set s 0 (e ∙ set), member-set t 0 set))
-    (λ clear. omega (arith, member-clear s 0 (e ∙ clear), member-clear t 0 clear))
-
-pub members-same : (s t : ℕ) → ((n : ℕ) → member s n ≡ member t n) → s ≡ t
-members-same =
-    bin-ind (λ (s : ℕ). (t : ℕ) → ((n : ℕ) → member s n ≡ member t n) → s ≡ t)
-    (λ t same. sym (no-members t (λ n. sym (same n) ∙ member-none n)))
-    (λ s half t same. omega (
-      arith,
-      half (t / 2) (λ n. sym (member-next s n) ∙ same (suc n) ∙ member-next t n),
-      lowest-same s t (same 0),
-    ))
-
 -- ---- the width: every member is below k exactly if the number is below 2 ^ k
 
 pub member-beyond : (s k n : ℕ) → s < 2 ^ k → k ≤ n → member s n ≡ false
@@ -194,8 +171,8 @@ member-beyond s k n small beyond =
 
 pub member-below : (s k n : ℕ) → s < 2 ^ k → member s n ≡ true → n < k
 member-below s k n small set =
-    by-test (ltb n k) (ltb-true n k)
-    (λ beyond. absurd (false≢true (sym (member-beyond s k n small (ltb-false n k beyond)) ∙ set)))
+    by-less n k (λ below. below)
+    (λ beyond. absurd (false≢true (sym (member-beyond s k n small beyond) ∙ set)))
 
 pub below-member : (s k : ℕ) → ((n : ℕ) → member s n ≡ true → n < k) → s < 2 ^ k
 below-member s zero low =
@@ -211,21 +188,24 @@ pub member-within : (s k : ℕ) → ((n : ℕ) → member s n ≡ true → n < k
 unfolding within
 member-within s k low = lt-ltb s (2 ^ k) (below-member s k low)
 
-member-including-below : (s k n m : ℕ) → s < 2 ^ k → n < k → member (including s n) m ≡ true → m < k
-member-including-below s k n m small fits set =
-    by-test (eqb m n)
-    (λ e. omega (arith, eqb-true m n e))
-    (λ e. member-below s k m small (sym (member-including-other s n m (eqb-false m n e)) ∙ set))
+pub within-none : (k : ℕ) → within 0 k ≡ true
+unfolding within
+within-none k = lt-ltb 0 (2 ^ k) (pow-pos k)
 
-pub including-below : (s k n : ℕ) → s < 2 ^ k → n < k → including s n < 2 ^ k
-including-below s k n small fits =
-    below-member (including s n) k (λ m set. member-including-below s k n m small fits set)
+pub within-including : (s k n : ℕ) → within s k ≡ true → n < k → within (including s n) k ≡ true
+within-including s k n all fits =
+    member-within (including s n) k
+    (λ m set. by-test (eqb m n)
+    (λ same. omega (arith, eqb-true m n same))
+    (λ other. within-member s k m all (sym (member-including-other s n m (eqb-false m n other)) ∙ set)))
 
-pub excluding-below : (s k n : ℕ) → s < 2 ^ k → excluding s n < 2 ^ k
-excluding-below s k n small =
+pub within-excluding : (s k n : ℕ) → within s k ≡ true → within (excluding s n) k ≡ true
+unfolding within
+within-excluding s k n all =
+    let small = ltb-true s (2 ^ k) all in
     by-test (member s n)
-    (λ set. omega (arith, excluding-member s n set))
-    (λ clear. omega (arith, excluding-absent s n clear))
+    (λ set. lt-ltb _ (2 ^ k) (omega (arith, excluding-member s n set, small)))
+    (λ clear. rw (excluding-absent s n clear) all)
 
 -- ---- the members of a set that are not in another
 
@@ -256,8 +236,8 @@ member-remaining s t n =
 -- ---- what the code's shifts and masks are, for the proofs of `has`, `with`, `without` and `all_below`
 
 -- `1 << n` is the worth of bit n
-shifted-one : (n : ℕ) → n < 64 → 1 * 2 ^ n % 2 ^ 64 ≡ 2 ^ n
-shifted-one n fits = shl-exact 1 n 64 (omega arith) (omega arith) ∙ one-mul (2 ^ n)
+shifted-one : (n : ℕ) → n < room → 1 * 2 ^ n % 2 ^ room ≡ 2 ^ n
+shifted-one n fits = shl-exact 1 n room (omega arith) (omega arith) ∙ one-mul (2 ^ n)
 
 and-worth : (s n : ℕ) → bitAnd s (2 ^ n) ≡ s / 2 ^ n % 2 * 2 ^ n
 and-worth s n =
@@ -272,7 +252,7 @@ and-member s n set = and-worth s n ∙ ap (λ (x : ℕ). x * 2 ^ n) (member-set 
 and-absent : (s n : ℕ) → member s n ≡ false → bitAnd s (2 ^ n) ≡ 0
 and-absent s n clear = and-worth s n ∙ ap (λ (x : ℕ). x * 2 ^ n) (member-clear s n clear) ∙ zero-mul (2 ^ n)
 
-or-including : (s n : ℕ) → n < 64 → bitOr s (2 ^ n) ≡ including s n
+or-including : (s n : ℕ) → n < room → bitOr s (2 ^ n) ≡ including s n
 or-including s n fits =
     by-test (member s n)
     (λ set. omega (arith, or-add-and s (2 ^ n), and-member s n set, including-member s n set))
@@ -282,27 +262,21 @@ xor-excluding : (s n : ℕ) → member s n ≡ true → bitXor s (2 ^ n) ≡ exc
 xor-excluding s n set =
     omega (arith, xor-add-and s (2 ^ n), and-member s n set, excluding-member s n set, member-worth s n set)
 
-pub with-shifted : (s n : ℕ) → n < 64 → bitOr s (1 * 2 ^ n % 2 ^ 64) ≡ including s n
+pub with-shifted : (s n : ℕ) → n < room → bitOr s (1 * 2 ^ n % 2 ^ room) ≡ including s n
 with-shifted s n fits = ap (bitOr s) (shifted-one n fits) ∙ or-including s n fits
 
-pub without-shifted : (s n : ℕ) → s < 2 ^ 64 → member s n ≡ true → bitXor s (1 * 2 ^ n % 2 ^ 64) ≡ excluding s n
-without-shifted s n small set = ap (bitXor s) (shifted-one n (member-below s 64 n small set)) ∙ xor-excluding s n set
+pub without-shifted : (s n : ℕ) → s < 2 ^ room → member s n ≡ true → bitXor s (1 * 2 ^ n % 2 ^ room) ≡ excluding s n
+without-shifted s n small set = ap (bitXor s) (shifted-one n (member-below s room n small set)) ∙ xor-excluding s n set
 
 pub within-shifted : (s k : ℕ) → eqb (s / 2 ^ k) 0 ≡ within s k
 unfolding within
 within-shifted s k =
-    by-test (ltb s (2 ^ k))
-    (λ small. eq-eqb (s / 2 ^ k) 0 (div-eq-of-lt (ltb-true s (2 ^ k) small)) ∙ sym small)
+    by-less s (2 ^ k)
+    (λ small. eq-eqb (s / 2 ^ k) 0 (div-eq-of-lt small) ∙ sym (lt-ltb s (2 ^ k) small))
     (λ large. ne-eqb (s / 2 ^ k) 0
-    (λ e. omega (
-      arith,
-      split s k,
-      mod-lt s (pow-pos k),
-      ltb-false s (2 ^ k) large,
-      ap (λ (x : ℕ). x * 2 ^ k)
-          e,
-    )) ∙ sym large)
+    (λ none. omega (arith, split s k, mod-lt s (pow-pos k), large, ap (λ (x : ℕ). x * 2 ^ k) none))
+    ∙ sym (le-ltb s (2 ^ k) large))
 
-pub within-room : (s k : ℕ) → s < 2 ^ 64 → 64 ≤ k → within s k ≡ true
+pub within-room : (s k : ℕ) → s < 2 ^ room → room ≤ k → within s k ≡ true
 unfolding within
-within-room s k small room = lt-ltb s (2 ^ k) (lt-of-lt-of-le small (pow-mono room))
+within-room s k small past = lt-ltb s (2 ^ k) (lt-of-lt-of-le small (pow-mono past))

@@ -1,11 +1,13 @@
 -- Sets of small numbers, each set a number: n is a member exactly if bit n, the one worth 2 ^ n, is set.
---     member s n        n is a member of s
---     including s n     s with n as a member besides; a word has room for 0 to 63 alone
---     excluding s n     s without n
---     remaining s t     the members of s that are not in t: those of s and not of both
---     firstFrom ok k n  the first of n, n + 1, … (k numbers) that passes the test `ok`; else the number after them
---     lowestFrom s n    the lowest member of s from n up; where there is none, 64, or n if that is more
---     within s n        every member of s is below n
+--     member s n          n is a member of s
+--     room                how many numbers a word has room for: 0 to 63
+--     including s n       s with n as a member besides, where a word has room for n
+--     excluding s n       s without n
+--     remaining s t       the members of s that are not in t: those of s and not of both
+--     firstFrom ok k n    the first of n, n + 1, … (k numbers) that passes the test `ok`; else the number after them
+--     lowestFrom s n      the lowest member of s from n up; where there is none, the room of a word, or n if that is
+--                         more
+--     within s n          every member of s is below n
 -- The rule book's sets are the drawn relays, the pushed buttons and the windings that each relay has; its "sum of 2 to
 -- the relay number over drawn relays" is such a set as a number.
 use Prim.Native.Nat.{ℕ, zero, suc, _+_, _-_, _/_, _%_, _^_}
@@ -16,8 +18,11 @@ use lib.Bits.{bitAnd, bitXor}
 unfoldable pub member : ℕ → ℕ → Bool
 member s n = eqb (s / 2 ^ n % 2) 1
 
+abbrev pub room : ℕ
+room = 64
+
 unfoldable pub including : ℕ → ℕ → ℕ
-including s n = cond (ltb n 64) (cond (member s n) s (s + 2 ^ n)) s
+including s n = cond (ltb n room) (cond (member s n) s (s + 2 ^ n)) s
 
 unfoldable pub excluding : ℕ → ℕ → ℕ
 excluding s n = cond (member s n) (s - 2 ^ n) s
@@ -30,7 +35,7 @@ firstFrom ok zero n = n
 firstFrom ok (suc k) n = cond (ok n) n (firstFrom ok k (suc n))
 
 unfoldable pub lowestFrom : ℕ → ℕ → ℕ
-lowestFrom s n = firstFrom (member s) (64 - n) n
+lowestFrom s n = firstFrom (member s) (room - n) n
 
 unfoldable pub within : ℕ → ℕ → Bool
 within s n = ltb s (2 ^ n)

@@ -1,14 +1,14 @@
--- Laws of boards that break no rule: being fine goes by the counts and the first C parts alone; what it says of the
--- counts, of each part and of each relay; and the empty board is fine.
-use mathlib.Core.Path.{_≡_, refl, ap₂}
+-- Laws of boards that break no rule: being fine goes by the counts and the first C parts alone, and what it
+-- says of the counts, of each part and of each relay.
+use mathlib.Core.Path.{_≡_, ap₂}
 use mathlib.Core.Bool.{true, _&&_}
-use mathlib.Core.List.{List, []}
-use Rattle.windings.specs.Windings.{noneWound, complete, every}
+use mathlib.Core.List.{List}
+use Rattle.windings.specs.Windings.{noneWound}
 use Rattle.board.specs.declared.Counts.{Counts}
 use Rattle.board.specs.declared.Part.{Part}
 use Rattle.board.specs.declared.Board.{Board}
-use Rattle.board.specs.Parts.{partsOf, emptyBoard}
-use Rattle.board.specs.Rules.{countsFine, inRange, partsFine, boardFine}
+use Rattle.board.specs.Parts.{partsOf}
+use Rattle.board.specs.Rules.{countsFine, partsFine, boardFine}
 use Rattle.board.specs.Same.{sameBoard}
 use Rattle.bits.proofs.BoolLaws.{both-true}
 use Rattle.board.specs.Sorts.{Wound, partsFit}
@@ -35,11 +35,3 @@ unfolding boardFine
 fine-relays-wound b fine =
     fine-wound (b .counts) (partsOf b) (fine-range b fine .most-relays)
     (both-true (countsFine (b .counts)) _ fine .1)
-
-pub empty-fine : boardFine emptyBoard ≡ true
-unfolding boardFine emptyBoard countsFine inRange partsFine complete every
-empty-fine = refl
-
-pub empty-parts : partsOf emptyBoard ≡ []
-unfolding emptyBoard
-empty-parts = refl

@@ -7,21 +7,22 @@ use lib.ListN.{length, take, set}
 use Rattle.lists.proofs.FilledLaws.{filled-length, filled-first, filled-set}
 use Rattle.board.specs.declared.Part.{Part}
 use Rattle.board.specs.declared.Counts.{Counts}
-use Rattle.board.specs.Parts.{blank, padded, partsOf}
+use Rattle.board.specs.Parts.{partsOf, mostParts, blank, padded}
 
-pub padded-length : (ps : List Part) → length ps ≤ 256 → length (padded ps) ≡ 256
+pub padded-length : (ps : List Part) → length ps ≤ mostParts → length (padded ps) ≡ mostParts
 unfolding padded
-padded-length ps most = filled-length 256 blank ps most
+padded-length ps most = filled-length mostParts blank ps most
 
-pub padded-first : (ps : List Part) → take (length ps) (padded ps) ≡ ps
+padded-first : (ps : List Part) → take (length ps) (padded ps) ≡ ps
 unfolding padded
-padded-first ps = filled-first 256 blank ps
+padded-first ps = filled-first mostParts blank ps
 
 -- a board whose count is right has these parts
 pub padded-parts : (c : Counts) (ps : List Part) → c .parts ≡ length ps
     → partsOf (record { counts = c; parts = padded ps }) ≡ ps
 padded-parts c ps count = ap (λ (n : ℕ). take n (padded ps)) count ∙ padded-first ps
 
-pub padded-set : (ps : List Part) (p : Part) → length ps < 256 → set (padded ps) (length ps) p ≡ padded (ps ++ (p ∷ []))
+pub padded-set : (ps : List Part) (p : Part) → length ps < mostParts
+    → set (padded ps) (length ps) p ≡ padded (ps ++ (p ∷ []))
 unfolding padded
-padded-set ps p room = filled-set 256 blank ps p room
+padded-set ps p room = filled-set mostParts blank ps p room

@@ -1,29 +1,29 @@
--- Laws of the rules behind refusals 3 to 9, over plain variables: what the tests of `board`'s functions say of
--- `countsFine` and `partsFine`.
+-- Laws of the rules behind refusals 3 to 9: what `countsFine` says as bounds, and a walk along the parts by
+-- `partsFine`.
 use Prim.Native.Nat.{ℕ, _+_, _≤_, _<_}
 use mathlib.Core.Path.{_≡_, refl, sym, ap, _∙_}
 use mathlib.Core.List.{List, [], _∷_}
 use mathlib.Core.Bool.{Bool, true, false}
-use lib.Dec.{leb, leb·zero}
+use lib.Dec.{leb}
 use lib.ListN.{length, getD, take, drop}
-use borrow.Author.Tests.{le-leb, leb-true, lt-ltb, le-ltb, eq-eqb, ne-eqb}
+use borrow.Author.Tests.{leb-true}
 use Rattle.windings.specs.declared.WoundSoFar.{WoundSoFar}
-use Rattle.windings.specs.Windings.{noneWound, windingFree, gained, complete}
+use Rattle.windings.specs.Windings.{gained, complete}
 use Rattle.board.specs.declared.Counts.{Counts}
 use Rattle.board.specs.declared.Part.{Part}
-use Rattle.board.specs.declared.Board.{Board}
-use Rattle.board.specs.Parts.{blank, partsOf}
-use Rattle.board.specs.Rules.{countsFine, inRange, partFits, partFine, partsFine, nameFine, boardFine}
+use Rattle.board.specs.Parts.{mostParts, blank}
+use Rattle.board.specs.Rules.{leastTerminals, mostTerminals, mostRelays, mostButtons, countsFine, inRange}
+use Rattle.board.specs.Rules.{partFine, partsFine}
 use Rattle.lists.proofs.FirstLaws.{first-from, first-past}
 use Rattle.bits.proofs.BoolLaws.{both-true}
 
 -- what `countsFine` says, as bounds
 pub record InRange (c : Counts) : Type 0 where
-  pub least-terminals : 2 ≤ c .terminals
-  pub most-terminals : c .terminals ≤ 64
-  pub most-relays : c .relays ≤ 32
-  pub most-buttons : c .buttons ≤ 32
-  pub most-parts : c .parts ≤ 256
+  pub least-terminals : leastTerminals ≤ c .terminals
+  pub most-terminals : c .terminals ≤ mostTerminals
+  pub most-relays : c .relays ≤ mostRelays
+  pub most-buttons : c .buttons ≤ mostButtons
+  pub most-parts : c .parts ≤ mostParts
 
 pub counts-in-range : (c : Counts) → countsFine c ≡ true → InRange c
 unfolding countsFine inRange
@@ -33,52 +33,14 @@ counts-in-range c fine =
     let relays = both-true _ _ (buttons .0) in
     let terminals = both-true _ _ (relays .0) in
     record {
-      least-terminals = leb-true 2 (c .terminals) (terminals .0);
-      most-terminals = leb-true (c .terminals) 64 (terminals .1);
-      most-relays = leb-true (c .relays) 32 (both-true (leb 0 (c .relays)) _ (relays .1) .1);
-      most-buttons = leb-true (c .buttons) 32 (both-true (leb 0 (c .buttons)) _ (buttons .1) .1);
-      most-parts = leb-true (c .parts) 256 (both-true (leb 0 (c .parts)) _ (parts .1) .1);
+      least-terminals = leb-true leastTerminals (c .terminals) (terminals .0);
+      most-terminals = leb-true (c .terminals) mostTerminals (terminals .1);
+      most-relays = leb-true (c .relays) mostRelays (both-true (leb 0 (c .relays)) _ (relays .1) .1);
+      most-buttons = leb-true (c .buttons) mostButtons (both-true (leb 0 (c .buttons)) _ (buttons .1) .1);
+      most-parts = leb-true (c .parts) mostParts (both-true (leb 0 (c .parts)) _ (parts .1) .1);
     }
 
-pub counts-fine-last : (c : Counts) → 2 ≤ c .terminals → c .terminals ≤ 64 → c .relays ≤ 32 → c .buttons ≤ 32
-    → leb (c .parts) 256 ≡ countsFine c
-unfolding countsFine inRange
-counts-fine-last c low high relays buttons =
-    simp (
-      leb·zero,
-      le-leb 2 (c .terminals) low,
-      le-leb (c .terminals) 64 high,
-      le-leb (c .relays) 32 relays,
-      le-leb
-          (c .buttons) 32 buttons,
-    )
-
--- a part's tests one after the other: the first that fails decides, and the last is the answer
 module _ (c : Counts) (w : WoundSoFar) (p : Part) where
-  pub part-a-off : c .terminals ≤ p .a → false ≡ partFine c w p
-  unfolding partFine partFits
-  part-a-off a = simp (le-ltb (p .a) (c .terminals) a)
-
-  pub part-b-off : p .a < c .terminals → c .terminals ≤ p .b → false ≡ partFine c w p
-  unfolding partFine partFits
-  part-b-off a b = simp (lt-ltb (p .a) (c .terminals) a, le-ltb (p .b) (c .terminals) b)
-
-  pub part-ends-equal : p .a < c .terminals → p .b < c .terminals → p .a ≡ p .b → false ≡ partFine c w p
-  unfolding partFine partFits
-  part-ends-equal a b e = simp (lt-ltb (p .a) (c .terminals) a, lt-ltb (p .b) (c .terminals) b, eq-eqb (p .a) (p .b) e)
-
-  pub part-name-off : p .a < c .terminals → p .b < c .terminals → (p .a ≡ p .b → ⊥) → nameFine c (p .kind) ≡ false
-      → false ≡ partFine c w p
-  unfolding partFine partFits
-  part-name-off a b e n =
-      simp (lt-ltb (p .a) (c .terminals) a, lt-ltb (p .b) (c .terminals) b, ne-eqb (p .a) (p .b) e, n)
-
-  pub part-fine-last : p .a < c .terminals → p .b < c .terminals → (p .a ≡ p .b → ⊥) → nameFine c (p .kind) ≡ true
-      → windingFree w (p .kind) ≡ partFine c w p
-  unfolding partFine partFits
-  part-fine-last a b e n =
-      simp (lt-ltb (p .a) (c .terminals) a, lt-ltb (p .b) (c .terminals) b, ne-eqb (p .a) (p .b) e, n)
-
   parts-off : (ps : List Part) → partFine c w p ≡ false → partsFine c w (p ∷ ps) ≡ false
   unfolding partsFine
   parts-off ps off = simp off
@@ -108,12 +70,3 @@ module _ (c : Counts) (w : WoundSoFar) (l : List Part) (n i : ℕ) (all : Bool) 
 
   pub parts-walk-end : n ≤ i → complete (c .relays) w ≡ all
   parts-walk-end past = sym (here ∙ ap (partsFine c w) (first-past blank l n long i past) ∙ parts-end c w)
-
-pub board-counts-off : (b : Board) → countsFine (b .counts) ≡ false → false ≡ boardFine b
-unfolding boardFine
-board-counts-off b off = simp off
-
-pub board-fine-last : (b : Board) → countsFine (b .counts) ≡ true
-    → partsFine (b .counts) noneWound (partsOf b) ≡ boardFine b
-unfolding boardFine
-board-fine-last b fine = simp fine

@@ -1,5 +1,5 @@
--- Laws of the comparison of boards: what the tests of `same_counts` and `same_part` say, and that boards compare as the
--- same exactly if their counts and first C parts are equal.
+-- Laws of the comparison of boards: a walk along their parts, and that boards compare as the same exactly if their
+-- counts and first C parts are equal.
 use Prim.Native.Nat.{ℕ, _+_, _<_, _≤_}
 use mathlib.Core.Path.{_≡_, refl, sym, ap, ap₂, _∙_}
 use mathlib.Core.Bool.{Bool, true, false, false≢true}
@@ -8,69 +8,17 @@ use lib.Dec.{eqb}
 use lib.ListN.{length, getD, take, drop}
 use lib.Seq.{take-all}
 use native.Mathlib.Omega.{arith}
-use borrow.Author.Tests.{eq-eqb, ne-eqb, eqb-true}
+use borrow.Author.Tests.{eq-eqb, eqb-true}
 use Rattle.kinds.specs.declared.Kind.{Kind}
 use Rattle.kinds.specs.Kinds.{kindNumber, nameOf, kindOf}
 use Rattle.board.specs.declared.Counts.{Counts}
 use Rattle.board.specs.declared.Part.{Part}
 use Rattle.board.specs.declared.Board.{Board}
-use Rattle.board.specs.Parts.{partsOf, blank}
+use Rattle.board.specs.Parts.{partsOf, mostParts, blank}
 use Rattle.board.specs.Same.{sameCounts, sameKind, samePart, sameParts, sameBoard}
 use Rattle.lists.proofs.FirstLaws.{first-from, first-past}
 use Rattle.bits.proofs.BoolLaws.{both-true, true-both}
 use Rattle.kinds.proofs.KindLaws.{kind-of-parts}
-
-module _ (x y : Counts) where
-  pub counts-terminals-differ : (x .terminals ≡ y .terminals → ⊥) → false ≡ sameCounts x y
-  unfolding sameCounts
-  counts-terminals-differ t = simp (ne-eqb (x .terminals) (y .terminals) t)
-
-  pub counts-relays-differ : x .terminals ≡ y .terminals → (x .relays ≡ y .relays → ⊥) → false ≡ sameCounts x y
-  unfolding sameCounts
-  counts-relays-differ t r = simp (eq-eqb (x .terminals) (y .terminals) t, ne-eqb (x .relays) (y .relays) r)
-
-  pub counts-buttons-differ : x .terminals ≡ y .terminals → x .relays ≡ y .relays → (x .buttons ≡ y .buttons → ⊥)
-      → false ≡ sameCounts x y
-  unfolding sameCounts
-  counts-buttons-differ t r b =
-      simp (
-        eq-eqb (x .terminals) (y .terminals) t,
-        eq-eqb (x .relays) (y .relays) r,
-        ne-eqb (x .buttons)
-            (y .buttons) b,
-      )
-
-  pub counts-same-last : x .terminals ≡ y .terminals → x .relays ≡ y .relays → x .buttons ≡ y .buttons
-      → eqb (x .parts) (y .parts) ≡ sameCounts x y
-  unfolding sameCounts
-  counts-same-last t r b =
-      simp (
-        eq-eqb (x .terminals) (y .terminals) t,
-        eq-eqb (x .relays) (y .relays) r,
-        eq-eqb (x .buttons)
-            (y .buttons) b,
-      )
-
-module _ (p q : Part) where
-  pub part-a-differs : (p .a ≡ q .a → ⊥) → false ≡ samePart p q
-  unfolding samePart
-  part-a-differs a = simp (ne-eqb (p .a) (q .a) a)
-
-  pub part-b-differs : p .a ≡ q .a → (p .b ≡ q .b → ⊥) → false ≡ samePart p q
-  unfolding samePart
-  part-b-differs a b = simp (eq-eqb (p .a) (q .a) a, ne-eqb (p .b) (q .b) b)
-
-  pub part-kind-differs : p .a ≡ q .a → p .b ≡ q .b → (kindNumber (p .kind) ≡ kindNumber (q .kind) → ⊥)
-      → false ≡ samePart p q
-  unfolding samePart sameKind
-  part-kind-differs a b k =
-      simp (eq-eqb (p .a) (q .a) a, eq-eqb (p .b) (q .b) b, ne-eqb (kindNumber (p .kind)) (kindNumber (q .kind)) k)
-
-  pub part-same-last : p .a ≡ q .a → p .b ≡ q .b → kindNumber (p .kind) ≡ kindNumber (q .kind)
-      → eqb (nameOf (p .kind)) (nameOf (q .kind)) ≡ samePart p q
-  unfolding samePart sameKind
-  part-same-last a b k =
-      simp (eq-eqb (p .a) (q .a) a, eq-eqb (p .b) (q .b) b, eq-eqb (kindNumber (p .kind)) (kindNumber (q .kind)) k)
 
 parts-apart : (p q : Part) (ps qs : List Part) → samePart p q ≡ false → sameParts (p ∷ ps) (q ∷ qs) ≡ false
 unfolding sameParts
@@ -133,13 +81,13 @@ module _ (x y : Board) where
       simp same (ap (λ (k : ℕ). sameParts (take (x .counts .parts) (x .parts)) (take k (y .parts))) n)
 
   -- an array has 256 places, so a count above that takes them all
-  pub board-same-all : length (x .parts) ≡ 256 → length (y .parts) ≡ 256 → 256 < x .counts .parts
-      → sameCounts (x .counts) (y .counts) ≡ true → sameParts (take 256 (x .parts))
-      (take 256 (y .parts)) ≡ sameBoard x y
+  pub board-same-all : length (x .parts) ≡ mostParts → length (y .parts) ≡ mostParts → mostParts < x .counts .parts
+      → sameCounts (x .counts) (y .counts) ≡ true → sameParts (take mostParts (x .parts))
+      (take mostParts (y .parts)) ≡ sameBoard x y
   board-same-all l m more same =
       ap₂ sameParts
-      (take-all 256 (x .parts) (omega arith) ∙ sym (take-all (x .counts .parts) (x .parts) (omega arith)))
-      (take-all 256 (y .parts) (omega arith) ∙ sym (take-all (x .counts .parts) (y .parts) (omega arith)))
+      (take-all mostParts (x .parts) (omega arith) ∙ sym (take-all (x .counts .parts) (x .parts) (omega arith)))
+      (take-all mostParts (y .parts) (omega arith) ∙ sym (take-all (x .counts .parts) (y .parts) (omega arith)))
       ∙ board-same-last same
 
 -- what compares as the same is equal, and a thing compares as the same as itself
@@ -169,27 +117,16 @@ lists-equal (p ∷ ps) (q ∷ qs) same =
     let both = both-true (samePart p q) (sameParts ps qs) same in
     ap₂ _∷_ (parts-equal p q (both .0)) (lists-equal ps qs (both .1))
 
+eqb-self : (n : ℕ) → eqb n n ≡ true
+eqb-self n = eq-eqb n n refl
+
 counts-self : (c : Counts) → sameCounts c c ≡ true
 unfolding sameCounts
-counts-self c =
-    simp (
-      eq-eqb (c .terminals) (c .terminals) refl,
-      eq-eqb (c .relays) (c .relays) refl,
-      eq-eqb (c .buttons)
-          (c .buttons) refl,
-      eq-eqb (c .parts) (c .parts) refl,
-    )
+counts-self c = simp eqb-self
 
 part-self : (p : Part) → samePart p p ≡ true
 unfolding samePart sameKind
-part-self p =
-    simp (
-      eq-eqb (p .a) (p .a) refl,
-      eq-eqb (p .b) (p .b) refl,
-      eq-eqb (kindNumber (p .kind)) (kindNumber (p .kind))
-          refl,
-      eq-eqb (nameOf (p .kind)) (nameOf (p .kind)) refl,
-    )
+part-self p = simp eqb-self
 
 list-self : (ps : List Part) → sameParts ps ps ≡ true
 unfolding sameParts

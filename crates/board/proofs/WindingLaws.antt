@@ -12,15 +12,16 @@ use mathlib.Core.List.{List, [], _∷_}
 use lib.Dec.{ltb, eqb}
 use borrow.Author.Tests.{ltb-true, eqb-true, eqb-false, eq-eqb, not-true}
 use Rattle.lists.proofs.CountedLaws.{worth}
-use Rattle.bits.specs.Sets.{member, including}
+use Rattle.bits.specs.Sets.{room, member, including}
 use Rattle.bits.proofs.SetLaws.{member-including-same, member-including-other, member-none}
+use Rattle.kinds.specs.Kinds.{regularKind, drawingKind, droppingKind}
 use Rattle.kinds.specs.declared.Kind.{Kind}
 use Rattle.kinds.specs.declared.Kind.the-variants.{Wire, Upper, Lower, Button, Regular, Drawing, Dropping}
 use Rattle.windings.specs.declared.WoundSoFar.{WoundSoFar}
 use Rattle.windings.specs.Windings.{noneWound, windingFree, gained, wound, complete}
 use Rattle.board.specs.declared.Part.{Part}
 use Rattle.board.specs.declared.Counts.{Counts}
-use Rattle.board.specs.Rules.{terminalFine, endsFine, nameFine, partFits, partFine, partsFine}
+use Rattle.board.specs.Rules.{mostRelays, terminalFine, endsFine, nameFine, partFits, partFine, partsFine}
 use Rattle.board.specs.Sorts.{carries, windingsOf, Wound, partsFit}
 use Rattle.bits.proofs.BoolLaws.{both-true, true-both, by-test}
 use Rattle.windings.proofs.EveryLaws.{every-below, below-every}
@@ -36,7 +37,7 @@ worth-most true = omega arith
 worth-most false = omega arith
 
 -- a new member n counts for r exactly if r is n
-including-worth : (s n r : ℕ) → n < 64 → member s n ≡ false → worth (member (including s n) r) ≡ worth
+including-worth : (s n r : ℕ) → n < room → member s n ≡ false → worth (member (including s n) r) ≡ worth
     (member s r) + worth (eqb n r)
 including-worth s n r fits clear =
     by-test (eqb n r)
@@ -59,9 +60,10 @@ record MostOneSort (w : WoundSoFar) (r : ℕ) : Type 0 where
 
 -- a part of kind k that is free and names a relay counts for r where it carries r, and nowhere else
 record Gain (w : WoundSoFar) (k : Kind) (r : ℕ) : Type 0 where
-  pub regular : worth (member (gained w k .regular) r) ≡ worth (member (w .regular) r) + worth (carries 4 r k)
-  pub drawing : worth (member (gained w k .drawing) r) ≡ worth (member (w .drawing) r) + worth (carries 5 r k)
-  pub dropping : worth (member (gained w k .dropping) r) ≡ worth (member (w .dropping) r) + worth (carries 6 r k)
+  pub regular : worth (member (gained w k .regular) r) ≡ worth (member (w .regular) r) + worth (carries regularKind r k)
+  pub drawing : worth (member (gained w k .drawing) r) ≡ worth (member (w .drawing) r) + worth (carries drawingKind r k)
+  pub dropping : worth (member (gained w k .dropping) r) ≡ worth (member (w .dropping) r)
+      + worth (carries droppingKind r k)
 
 -- what 8 says of a free kind's relay: it has this winding not yet, and is not of the other sort
 in-neither : (s t n : ℕ) → (not (member s n) && not (member t n)) ≡ true → (member s n ≡ false) × (member t n ≡ false)
@@ -79,10 +81,10 @@ regular-free w n free =
     (not-true _ (both .0), others .0, others .1)
 
 -- a name that 7 allows has room in a set
-named-room : (c : Counts) (n : ℕ) → c .relays ≤ 32 → ltb n (c .relays) ≡ true → n < 64
+named-room : (c : Counts) (n : ℕ) → c .relays ≤ mostRelays → ltb n (c .relays) ≡ true → n < room
 named-room c n few named = omega (arith, ltb-true n (c .relays) named)
 
-module _ (c : Counts) (few : c .relays ≤ 32) (w : WoundSoFar) (r : ℕ) where
+module _ (c : Counts) (few : c .relays ≤ mostRelays) (w : WoundSoFar) (r : ℕ) where
   gain : (k : Kind) → nameFine c k ≡ true → windingFree w k ≡ true → Gain w k r
   unfolding nameFine carries
   gain Wire named free = record { regular = omega arith; drawing = omega arith; dropping = omega arith }
@@ -147,8 +149,9 @@ sums-same p q r (inr (x, y, z)) = inr (sym p ∙ x, sym q ∙ y, sym r ∙ z)
 
 abbrev OneSort : WoundSoFar → ℕ → List Part → Type 0
 OneSort w r ps =
-    Sums (worth (member (w .regular) r) + windingsOf 4 r ps) (worth (member (w .drawing) r) + windingsOf 5 r ps)
-    (worth (member (w .dropping) r) + windingsOf 6 r ps)
+    Sums (worth (member (w .regular) r) + windingsOf regularKind r ps)
+    (worth (member (w .drawing) r) + windingsOf drawingKind r ps)
+    (worth (member (w .dropping) r) + windingsOf droppingKind r ps)
 
 -- a part's 1 moves from the parts to the windings
 sort-before : (w : WoundSoFar) (r : ℕ) (p : Part) (ps : List Part) → Gain w (p .kind) r
@@ -207,15 +210,14 @@ module _ (c : Counts) (w : WoundSoFar) (ps : List Part) where
   sorted-free a b (Lower n) named sorts = refl
   sorted-free a b (Button n) named sorts = refl
   sorted-free a b (Regular n) named sorts =
-      regular-sums (member (w .regular) n) (member (w .drawing) n) (member (w .dropping) n) (worth (eqb n n))
-      (windingsOf 4 n ps) (windingsOf 5 n ps) (windingsOf 6 n ps) (ap worth (eq-eqb n n refl))
-      (sorts n (ltb-true n (c .relays) named))
+      regular-sums (member (w .regular) n) (member (w .drawing) n) (member (w .dropping) n) _ _ _ _
+      (ap worth (eq-eqb n n refl)) (sorts n (ltb-true n (c .relays) named))
   sorted-free a b (Drawing n) named sorts =
-      drawing-sums (member (w .regular) n) (member (w .drawing) n) (worth (eqb n n)) (windingsOf 4 n ps)
-      (windingsOf 5 n ps) _ (ap worth (eq-eqb n n refl)) (sorts n (ltb-true n (c .relays) named))
+      drawing-sums (member (w .regular) n) (member (w .drawing) n) _ _ _ _
+      (ap worth (eq-eqb n n refl)) (sorts n (ltb-true n (c .relays) named))
   sorted-free a b (Dropping n) named sorts =
-      dropping-sums (member (w .regular) n) (member (w .dropping) n) (worth (eqb n n)) (windingsOf 4 n ps) _
-      (windingsOf 6 n ps) (ap worth (eq-eqb n n refl)) (sorts n (ltb-true n (c .relays) named))
+      dropping-sums (member (w .regular) n) (member (w .dropping) n) _ _ _ _
+      (ap worth (eq-eqb n n refl)) (sorts n (ltb-true n (c .relays) named))
 
 -- ---- along the parts
 
@@ -235,7 +237,7 @@ part-named c p fits =
     both-true (terminalFine c (p .a) && terminalFine c (p .b) && endsFine (p .a) (p .b)) (nameFine c (p .kind))
     fits .1
 
-fine-sort : (c : Counts) → c .relays ≤ 32 → (r : ℕ) → r < c .relays → (w : WoundSoFar) (ps : List Part)
+fine-sort : (c : Counts) → c .relays ≤ mostRelays → (r : ℕ) → r < c .relays → (w : WoundSoFar) (ps : List Part)
     → MostOneSort w r → partsFine c w ps ≡ true → OneSort w r ps
 unfolding partsFine complete windingsOf
 fine-sort c few r below w [] apart fine =
@@ -248,7 +250,7 @@ fine-sort c few r below w (p ∷ ps) apart fine =
     sort-before w r p ps more (fine-sort c few r below (gained w (p .kind)) ps
     (apart-gained w r (p .kind) (part .1) more apart) (both .1))
 
-sort-fine : (c : Counts) → c .relays ≤ 32 → (w : WoundSoFar) (ps : List Part) → partsFit c ps ≡ true
+sort-fine : (c : Counts) → c .relays ≤ mostRelays → (w : WoundSoFar) (ps : List Part) → partsFit c ps ≡ true
     → ((r : ℕ) → r < c .relays → OneSort w r ps) → partsFine c w ps ≡ true
 unfolding partsFine partsFit complete windingsOf
 sort-fine c few w [] fit sorts =
@@ -275,15 +277,15 @@ fine-fit c w (p ∷ ps) fine =
     let both = both-true (partFine c w p) (partsFine c (gained w (p .kind)) ps) fine in
     true-both (part-splits c w p (both .0) .0) (fine-fit c (gained w (p .kind)) ps (both .1))
 
-pub fine-wound : (c : Counts) (ps : List Part) → c .relays ≤ 32 → partsFine c noneWound ps ≡ true → Wound (c .relays) ps
+pub fine-wound : (c : Counts) (ps : List Part) → c .relays ≤ mostRelays → partsFine c noneWound ps ≡ true
+    → Wound (c .relays) ps
 fine-wound c ps few fine r below =
-    sums-same (none-sum r (windingsOf 4 r ps)) (none-sum r (windingsOf 5 r ps)) (none-sum r (windingsOf 6 r ps))
+    sums-same (none-sum r _) (none-sum r _) (none-sum r _)
     (fine-sort c few r below noneWound ps
     (record { drawing = rw (member-none r) (omega arith); dropping = rw (member-none r) (omega arith) }) fine)
 
-pub wound-fine : (c : Counts) (ps : List Part) → c .relays ≤ 32 → Wound (c .relays) ps → partsFit c ps ≡ true
+pub wound-fine : (c : Counts) (ps : List Part) → c .relays ≤ mostRelays → Wound (c .relays) ps → partsFit c ps ≡ true
     → partsFine c noneWound ps ≡ true
 wound-fine c ps few wound fit =
     sort-fine c few noneWound ps fit
-    (λ r below. sums-same (sym (none-sum r (windingsOf 4 r ps))) (sym (none-sum r (windingsOf 5 r ps)))
-    (sym (none-sum r (windingsOf 6 r ps))) (wound r below))
+    (λ r below. sums-same (sym (none-sum r _)) (sym (none-sum r _)) (sym (none-sum r _)) (wound r below))

@@ -1,8 +1,9 @@
 -- Parts and boards. Rule book, "Parts of a board".
---     partsOf b         a board's first C parts: nothing here or above looks at the places past them
---     blank             what fills the places past C of a board that was read
---     padded ps         parts as an array of 256 places
---     emptyBoard        "the empty board (T 2, else 0)"
+--     partsOf b     a board's first C parts: nothing here or above looks at the places past them
+--     mostParts     the most parts that a board can have
+--     blank         what fills the places past C of a board that was read
+--     padded ps     parts as an array of `mostParts` places
+--     emptyBoard    "the empty board (T 2, else 0)"
 use Prim.Native.Nat.{ℕ, _-_}
 use mathlib.Core.List.{List, [], _++_}
 use lib.ListN.{length, take, replicate}

@@ -1,14 +1,17 @@
 -- The rules behind refusals 3 to 9, one test each, and all of them together on a board. The reader of board files goes
 -- by the same tests, each where its field comes.
---     countsFine c        3: T is 2 to 64, R 0 to 32, B 0 to 32 and C 0 to 256
---     terminalFine c x    5: terminal x is below T
---     endsFine a b        6: the two ends differ
---     limitOf c k         what a name carried by a kind of number k must be below: B for a button, else R
---     nameFine c k        7: the relay or button that kind k carries is below R or B
---     partFits c p        5 to 7 of the part p, on which no other part bears
---     partFine c w p      5 to 8 of the part p after parts that gave the windings w
---     partsFine c w ps    5 to 9: the rest of the parts is fine after these windings
---     boardFine b         a board breaks no rule of refusals 3 to 9: 15 does not hold
+--     leastTerminals, mostTerminals    the range of T
+--     mostRelays, mostButtons          the most that R and B can be
+--     inRange low high x               x is from low to high, both among them
+--     countsFine c                     3: T is 2 to 64, R 0 to 32, B 0 to 32 and C 0 to 256
+--     terminalFine c x                 5: terminal x is below T
+--     endsFine a b                     6: the two ends differ
+--     limitOf c k                      what a name carried by a kind of number k must be below: B for a button, else R
+--     nameFine c k                     7: the relay or button that kind k carries is below R or B
+--     partFits c p                     5 to 7 of the part p, on which no other part bears
+--     partFine c w p                   5 to 8 of the part p after parts that gave the windings w
+--     partsFine c w ps                 5 to 9: the rest of the parts is fine after these windings
+--     boardFine b                      a board breaks no rule of refusals 3 to 9: 15 does not hold
 use Prim.Native.Nat.{ℕ}
 use mathlib.Core.Bool.{Bool, cond, not, _&&_, _||_}
 use mathlib.Core.List.{List, [], _∷_}
@@ -34,7 +37,6 @@ mostRelays = 32
 abbrev pub mostButtons : ℕ
 mostButtons = 32
 
--- from low to high, both among them
 unfoldable pub inRange : ℕ → ℕ → ℕ → Bool
 inRange low high x = leb low x && leb x high
 

@@ -1,33 +1,18 @@
 -- What a kind of part is. Rule book, "Parts of a board": the table of kinds.
---     kindNumber k      the number of a kind in the rule book's table
---     nameOf k          the relay or button that a kind carries; 0 for a wire, which carries none
---     kindOf k n        the kind of number k that carries n; above the last kind there is none (4), and n is a dropping
---                       winding's
---     buttonKind, regularKind, drawingKind, droppingKind    the numbers of the kinds that rules speak of
---     lastKind          the highest kind number
+--     buttonKind      the number of the kind that carries a button
+--     regularKind     the number of a regular relay's winding
+--     drawingKind     the number of a steel-core relay's drawing winding
+--     droppingKind    the number of a steel-core relay's dropping winding
+--     lastKind        the highest kind number
+--     kindNumber k    the number of a kind in the rule book's table
+--     nameOf k        the relay or button that a kind carries; 0 for a wire, which carries none
+--     kindOf k n      the kind of number k that carries n; above the last kind there is none (4), and n is a dropping
+--                     winding's
 use Prim.Native.Nat.{ℕ}
 use mathlib.Core.Bool.{cond}
 use lib.Dec.{eqb}
 use Rattle.kinds.specs.declared.Kind.{Kind}
 use Rattle.kinds.specs.declared.Kind.the-variants.{Wire, Upper, Lower, Button, Regular, Drawing, Dropping}
-
-abbrev pub kindNumber : Kind → ℕ
-kindNumber Wire = 0
-kindNumber (Upper r) = 1
-kindNumber (Lower r) = 2
-kindNumber (Button b) = 3
-kindNumber (Regular r) = 4
-kindNumber (Drawing r) = 5
-kindNumber (Dropping r) = 6
-
-abbrev pub nameOf : Kind → ℕ
-nameOf Wire = 0
-nameOf (Upper r) = r
-nameOf (Lower r) = r
-nameOf (Button b) = b
-nameOf (Regular r) = r
-nameOf (Drawing r) = r
-nameOf (Dropping r) = r
 
 abbrev pub buttonKind : ℕ
 buttonKind = 3
@@ -44,12 +29,30 @@ droppingKind = 6
 abbrev pub lastKind : ℕ
 lastKind = droppingKind
 
+abbrev pub kindNumber : Kind → ℕ
+kindNumber Wire = 0
+kindNumber (Upper r) = 1
+kindNumber (Lower r) = 2
+kindNumber (Button b) = buttonKind
+kindNumber (Regular r) = regularKind
+kindNumber (Drawing r) = drawingKind
+kindNumber (Dropping r) = droppingKind
+
+abbrev pub nameOf : Kind → ℕ
+nameOf Wire = 0
+nameOf (Upper r) = r
+nameOf (Lower r) = r
+nameOf (Button b) = b
+nameOf (Regular r) = r
+nameOf (Drawing r) = r
+nameOf (Dropping r) = r
+
 unfoldable pub kindOf : ℕ → ℕ → Kind
 kindOf k n =
     cond (eqb k 0) Wire
     (cond (eqb k 1) (Upper n)
     (cond (eqb k 2) (Lower n)
-    (cond (eqb k 3) (Button n)
-    (cond (eqb k 4) (Regular n)
-    (cond (eqb k 5) (Drawing n)
+    (cond (eqb k buttonKind) (Button n)
+    (cond (eqb k regularKind) (Regular n)
+    (cond (eqb k drawingKind) (Drawing n)
     (Dropping n))))))

@@ -1,7 +1,7 @@
 -- Laws of how many members of a list pass a test: a member that passes counts, and where at most one counts it is the
 -- only one. A board's windings are counted by them.
---     worth t          a test as a number
---     counted t l      how many members of l pass the test t
+--     worth t        a test as a number
+--     counted t l    how many members of l pass the test t
 use Prim.Native.Nat.{ℕ, _+_, _≤_}
 use native.Mathlib.Omega.{arith}
 use mathlib.Core.Path.{_≡_, sym, ap, _∙_}

@@ -1,7 +1,7 @@
 -- Members of a list.
---     x ∈ l         x is among the members of l
---     All P l       P holds of every member of l
---     Once l        no member stands twice in l
+--     x ∈ l      x is among the members of l
+--     All P l    P holds of every member of l
+--     Once l     no member stands twice in l
 use mathlib.Core.Path.{_≡_}
 use mathlib.Core.Logic.{_⊎_}
 use mathlib.Core.List.{List, [], _∷_}

@@ -1,33 +1,22 @@
 -- The laws of a number's form, over the longest form k: reading undoes writing, and writing undoes reading.
 -- The laws of numbers (NumberLaws) are these at the rule book's longest form; the steps of `read_form` and
 -- `write_groups` (FormSteps) cite the first section.
--- Assumes nothing.
 use mathlib.Core.Path.{_≡_, refl, sym, ap, _∙_}
-use mathlib.Core.Bool.{Bool, true, false}
 use mathlib.Core.List.{List, [], _∷_, _++_}
-use mathlib.Core.Logic.{_⊎_, inl, inr, ⊎-elim}
 use Prim.Native.Nat.{ℕ, zero, suc, _+_, _-_, _*_, _/_, _%_, _^_, _≤_, _<_}
-use native.Mathlib.Nat.{div-add-mod, mod-lt, one-le-pow}
+use native.Mathlib.Nat.{one-le-pow}
 use native.Mathlib.Omega.{arith}
-use borrow.Author.Tests.{ltb-true, ltb-false, lt-ltb, le-ltb}
-use lib.Dec.{ltb}
+use borrow.Author.Tests.{lt-ltb, le-ltb}
 use mir.Syntax.{w8}
 use mir.Val.{Fits}
-use lib.ListN.{length, getD, take, drop, length-take}
+use lib.ListN.{length, getD, drop}
 use lib.Seq.{getD-drop}
+use Rattle.bits.proofs.BoolLaws.{by-less}
 use Rattle.number.specs.declared.Form.{Form}
 use Rattle.number.specs.declared.Form.the-variants.{Got, Ends, Bad}
 use Rattle.number.specs.Numbers.{Bytes, below, form, encode}
 
 -- ---- one step of each definition
-
-tested : (t : Bool) (a b : ℕ) → ltb a b ≡ t → (a < b) ⊎ (b ≤ a)
-tested true a b e = inl (ltb-true a b e)
-tested false a b e = inr (ltb-false a b e)
-
--- a group is the last one or it is not
-last-or-more : (a : ℕ) → (a < 128) ⊎ (128 ≤ a)
-last-or-more a = tested (ltb a 128) a 128 refl
 
 pub encode-last : (k v : ℕ) → v < 128 → encode (suc k) v ≡ v ∷ []
 unfolding encode
@@ -73,27 +62,14 @@ got-below g (Got (suc u) m) v n e =
 got-below g Ends v n e = absurd (never-ends v n e)
 got-below g Bad v n e = absurd (never-bad v n e)
 
--- the lowest group and the rest of a value
-parts : (v : ℕ) → 128 * (v / 128) + v % 128 ≡ v
-parts v = div-add-mod v 128
-
-pub group-small : (v : ℕ) → v % 128 < 128
-group-small v = mod-lt v {m = 128} (omega arith)
-
-pub rest-small : (k v : ℕ) → v < 128 ^ suc k → v / 128 < 128 ^ k
-rest-small k v h = omega (arith, parts v)
-
-rest-some : (v : ℕ) → 128 ≤ v → 0 < v / 128
-rest-some v h = omega (arith, parts v, group-small v)
-
 form-written-more : (k v : ℕ) (s : List ℕ) → 128 ≤ v → form k (encode k (v / 128) ++ s) ≡ Got (v / 128)
     (length (encode k (v / 128)))
     → form (suc k) ((128 + v % 128) ∷ encode k (v / 128) ++ s) ≡ Got v (suc (length (encode k (v / 128))))
 form-written-more k v s m e =
     form-more k (128 + v % 128) (encode k (v / 128) ++ s) (omega arith)
     ∙ ap (below (128 + v % 128 - 128)) e
-    ∙ below-got (128 + v % 128 - 128) (v / 128) (length (encode k (v / 128))) (rest-some v m)
-    ∙ ap (λ (x : ℕ). Got x (suc (length (encode k (v / 128))))) (omega (arith, parts v))
+    ∙ below-got (128 + v % 128 - 128) (v / 128) (length (encode k (v / 128))) (omega arith)
+    ∙ ap (λ (x : ℕ). Got x (suc (length (encode k (v / 128))))) (omega arith)
 
 -- ---- bytes
 
@@ -117,11 +93,9 @@ pub form-written : (k v : ℕ) (s : List ℕ) → v < 128 ^ suc k → form (suc 
     (length (encode (suc k) v))
 form-written zero v s h = rw encode-last (form-last 0 v s (omega arith))
 form-written (suc k) v s h =
-    ⊎-elim
-    (λ (l : v < 128). rw encode-last (form-last (suc k) v s l))
-    (λ (m : 128 ≤ v). rw encode-more
-    (form-written-more (suc k) v s m (form-written k (v / 128) s (rest-small (suc k) v h))))
-    (last-or-more v)
+    by-less v 128
+    (λ l. rw encode-last (form-last (suc k) v s l))
+    (λ m. rw encode-more (form-written-more (suc k) v s m (form-written k (v / 128) s (omega arith))))
 
 -- ---- writing undoes reading
 
@@ -137,24 +111,19 @@ read-last k b s v n l e =
     let ev : v ≡ b = cc in
     let en : n ≡ 1 = cc in
     rw (ev, en)
-    (record {
-      bytes = rw encode-last;
-      next = rw encode-last;
-      small =
-          omega (arith, one-le-pow k 128 (omega arith));
-    })
+    (record { bytes = rw encode-last; next = rw encode-last; small = omega (arith, one-le-pow k 128 (omega arith)) })
 
 read-more : (k b : ℕ) (s : List ℕ) (v n : ℕ) → b < 256 → 128 ≤ b → (r : Below (b - 128) (form k s) v n)
     → FormRead k s (r .above) (r .bytes) → FormRead (suc k) (b ∷ s) v n
 read-more k b s v n w m r f =
-    let ed : v / 128 ≡ r .above = omega (arith, parts v, group-small v, r .value) in
-    let eg : 128 + v % 128 ≡ b = omega (arith, parts v, group-small v, r .value) in
+    let ed : v / 128 ≡ r .above = omega (arith, r .value) in
+    let eg : 128 + v % 128 ≡ b = omega (arith, r .value) in
     record {
       bytes =
           rw (encode-more k v (omega (arith, r .value, r .some)), eg, ed, r .next)
           (ap (λ (l : List ℕ). b ∷ l) (f .bytes));
       next = rw (encode-more k v (omega (arith, r .value, r .some)), ed) (r .next ∙ ap suc (f .next));
-      small = omega (arith, parts v, group-small v, f .small);
+      small = omega (arith, f .small);
     }
 
 pub form-read : (k : ℕ) (s : List ℕ) (v n : ℕ) → Bytes s → form k s ≡ Got v n → FormRead k s v n
@@ -162,12 +131,11 @@ unfolding form
 form-read zero s v n h e = absurd (never-bad v n e)
 form-read (suc k) [] v n h e = absurd (never-ends v n e)
 form-read (suc k) (b ∷ s) v n h e =
-    ⊎-elim
-    (λ (l : b < 128). read-last k b s v n l e)
-    (λ (m : 128 ≤ b).
+    by-less b 128
+    (λ l. read-last k b s v n l e)
+    (λ m.
     let r : Below (b - 128) (form k s) v n = got-below (b - 128) (form k s) v n (sym (form-more k b s m) ∙ e) in
     read-more k b s v n (h 0) m r (form-read k s (r .above) (r .bytes) (bytes-rest b s h) (r .rest)))
-    (last-or-more b)
 
 -- ---- how far reading looks
 
@@ -185,66 +153,30 @@ unfolding form
 form-within zero s v n e = absurd (never-bad v n e)
 form-within (suc k) [] v n e = absurd (never-ends v n e)
 form-within (suc k) (b ∷ s) v n e =
-    ⊎-elim
-    (λ (l : b < 128).
+    by-less b 128
+    (λ l.
     let f : Got b 1 ≡ Got v n = sym (form-last k b s l) ∙ e in
     let en : n ≡ 1 = cc in
     record { some = omega arith; few = omega arith; within = omega arith })
-    (λ (m : 128 ≤ b).
+    (λ m.
     let r : Below (b - 128) (form k s) v n = got-below (b - 128) (form k s) v n (sym (form-more k b s m) ∙ e) in
     within-more k b s n (r .bytes) (r .next) (form-within k s (r .above) (r .bytes) (r .rest)))
-    (last-or-more b)
-
-took-first : (b c n : ℕ) (s t : List ℕ) → take (suc n) (b ∷ s) ≡ take (suc n) (c ∷ t) → b ≡ c
-took-first b c n s t e = cc
-
-took-rest : (b c n : ℕ) (s t : List ℕ) → take (suc n) (b ∷ s) ≡ take (suc n) (c ∷ t) → take n s ≡ take n t
-took-rest b c n s t e = cc
-
-took-none : (b n : ℕ) (s : List ℕ) → 0 < n → take n (b ∷ s) ≡ take n [] → ⊥
-took-none b n s h e = omega (arith, simp length-take at (ap length e))
-
--- two inputs that begin with the same n bytes have the same form there, if it takes n bytes
-pub form-no-further : (k : ℕ) (s t : List ℕ) (v n : ℕ) → take n s ≡ take n t → form k s ≡ Got v n → form k t ≡ Got v n
-unfolding form
-form-no-further zero s t v n p e = e
-form-no-further (suc k) [] t v n p e = absurd (never-ends v n e)
-form-no-further (suc k) (b ∷ s) [] v n p e =
-    absurd (took-none b n s (form-within (suc k) (b ∷ s) v n e .some) p)
-form-no-further (suc k) (b ∷ s) (c ∷ t) v n p e =
-    ⊎-elim
-    (λ (l : b < 128).
-    let f : Got b 1 ≡ Got v n = sym (form-last k b s l) ∙ e in
-    let en : n ≡ 1 = cc in
-    rw (← took-first b c 0 s t (rw en at p)) (form-last k b t l ∙ f))
-    (λ (m : 128 ≤ b).
-    let r : Below (b - 128) (form k s) v n = got-below (b - 128) (form k s) v n (sym (form-more k b s m) ∙ e) in
-    let q : take (suc (r .bytes)) (b ∷ s) ≡ take (suc (r .bytes)) (c ∷ t) = rw (r .next) at p in
-    rw (← took-first b c (r .bytes) s t q)
-    (form-more k b t m
-    ∙ ap (below (b - 128)) (form-no-further k s t (r .above) (r .bytes) (took-rest b c (r .bytes) s t q) (r .rest)
-    ∙ sym (r .rest))
-    ∙ sym (form-more k b s m)
-    ∙ e))
-    (last-or-more b)
 
 -- ---- how long a written form is
 
 pub encode-some : (k v : ℕ) → 0 < length (encode (suc k) v)
 encode-some k v =
-    ⊎-elim
-    (λ (l : v < 128). rw encode-last (omega arith))
-    (λ (m : 128 ≤ v). rw encode-more (omega arith))
-    (last-or-more v)
+    by-less v 128
+    (λ l. rw encode-last (omega arith))
+    (λ m. rw encode-more (omega arith))
 
 pub encode-few : (k v : ℕ) → length (encode k v) ≤ k
 unfolding encode
 encode-few zero v = omega arith
 encode-few (suc k) v =
-    ⊎-elim
-    (λ (l : v < 128). rw (encode-last k v l) (omega arith))
-    (λ (m : 128 ≤ v). rw (encode-more k v m) (omega (arith, encode-few k (v / 128))))
-    (last-or-more v)
+    by-less v 128
+    (λ l. rw (encode-last k v l) (omega arith))
+    (λ m. rw (encode-more k v m) (omega (arith, encode-few k (v / 128))))
 
 -- a value of at most suc j groups is written in at most suc j bytes
 pub encode-short : (j k v : ℕ) → v < 128 ^ suc j → length (encode k v) ≤ suc j
@@ -252,10 +184,9 @@ unfolding encode
 encode-short j zero v h = omega arith
 encode-short zero (suc k) v h = rw (encode-last k v (omega arith)) (omega arith)
 encode-short (suc j) (suc k) v h =
-    ⊎-elim
-    (λ (l : v < 128). rw (encode-last k v l) (omega arith))
-    (λ (m : 128 ≤ v). rw (encode-more k v m) (omega (arith, encode-short j k (v / 128) (rest-small (suc j) v h))))
-    (last-or-more v)
+    by-less v 128
+    (λ l. rw (encode-last k v l) (omega arith))
+    (λ m. rw (encode-more k v m) (omega (arith, encode-short j k (v / 128) (omega arith))))
 
 -- a value that j groups do not hold is written in more than j bytes
 pub encode-long : (j k v : ℕ) → j < k → 128 ^ j ≤ v → j < length (encode k v)
@@ -264,14 +195,13 @@ encode-long zero (suc k) v l h = encode-some k v
 encode-long (suc j) (suc k) v l h =
     let m : 128 ≤ v = omega (arith, one-le-pow j 128 (omega arith)) in
     rw (encode-more k v m)
-    (omega (arith, encode-long j k (v / 128) (omega arith) (omega (arith, parts v, group-small v))))
+    (omega (arith, encode-long j k (v / 128) (omega arith) (omega arith)))
 
 pub encode-bytes : (k v : ℕ) → Bytes (encode k v)
 unfolding encode
 encode-bytes zero v = λ i. omega arith
 encode-bytes (suc k) v =
-    ⊎-elim
-    (λ (l : v < 128). rw (encode-last k v l) (bytes-more v [] (omega arith) (λ i. omega arith)))
-    (λ (m : 128 ≤ v). rw (encode-more k v m)
-    (bytes-more (128 + v % 128) (encode k (v / 128)) (omega (arith, group-small v)) (encode-bytes k (v / 128))))
-    (last-or-more v)
+    by-less v 128
+    (λ l. rw (encode-last k v l) (bytes-more v [] (omega arith) (λ i. omega arith)))
+    (λ m. rw (encode-more k v m)
+    (bytes-more (128 + v % 128) (encode k (v / 128)) (omega arith) (encode-bytes k (v / 128))))

@@ -1,6 +1,5 @@
 -- The steps of reading and writing a form at a place, as the code takes them: the proofs of `read_form` and
 -- `write_groups` are one law of these for each way out.
--- Assumes nothing.
 use mathlib.Core.Path.{_≡_, refl, sym, ap, _∙_}
 use mathlib.Core.List.{List}
 use mathlib.Core.Logic.{_⊎_, inl, inr}
@@ -17,7 +16,7 @@ use Rattle.number.specs.declared.Form.{Form}
 use Rattle.number.specs.declared.Form.the-variants.{Got, Ends, Bad}
 use Rattle.number.proofs.Form.{the-type}
 use Rattle.number.specs.Numbers.{below, form, encode}
-use Rattle.number.proofs.FormLaws.{FormWithin, Bytes-slice, Bytes-drop, rest-small, below-got, form-last}
+use Rattle.number.proofs.FormLaws.{FormWithin, Bytes-slice, Bytes-drop, below-got, form-last}
 use Rattle.number.proofs.FormLaws.{form-more, form-read, form-within, encode-some, encode-last, encode-more}
 
 -- ---- reading
@@ -52,23 +51,23 @@ below-other g (Got v n) (inr e) = absurd (let z : _≡_ {A = ℕ} 0 2 = e in ome
 below-other g Ends e = refl
 below-other g Bad e = refl
 
-pub form-left : (left at : ℕ) (s : List ℕ) (b : ℕ) → (left ≡ 0 → ⊥) → at < length s → b ≡ getD s at 0 → 128 ≤ b
-    → (f : Form) → f ≡ form (left - 1) (drop (at + 1) s) → below (b - 128) f ≡ f → f ≡ form left (drop at s)
-form-left left at s b some h e m f r same = sym (form-further left at s b some h e m f r ∙ same)
+-- a group that is not the last, and the form of the rest
+module _ (left at : ℕ) (s : List ℕ) (b : ℕ) (some : left ≡ 0 → ⊥) (there : at < length s) (is : b ≡ getD s at 0)
+    (more : 128 ≤ b) (f : Form) (rest : f ≡ form (left - 1) (drop (at + 1) s)) where
+  pub form-left : below (b - 128) f ≡ f → f ≡ form left (drop at s)
+  form-left same = sym (form-further left at s b some there is more f rest ∙ same)
 
-pub form-not-shortest : (left at : ℕ) (s : List ℕ) (b : ℕ) → (left ≡ 0 → ⊥) → at < length s → b ≡ getD s at 0 → 128 ≤ b
-    → (f : Form) → f ≡ form (left - 1) (drop (at + 1) s) → (v n : ℕ) → f ≡ Got v n → v ≡ 0 → Bad ≡ form left (drop at s)
-unfolding below
-form-not-shortest left at s b some h e m f r v n is none =
-    sym (form-further left at s b some h e m f r ∙ ap (below (b - 128)) (is ∙ ap (λ (x : ℕ). Got x n) none))
+  pub form-not-shortest : (v n : ℕ) → f ≡ Got v n → v ≡ 0 → Bad ≡ form left (drop at s)
+  unfolding below
+  form-not-shortest v n got none =
+      sym (form-further left at s b some there is more f rest
+      ∙ ap (below (b - 128)) (got ∙ ap (λ (x : ℕ). Got x n) none))
 
-pub form-grown : (left at : ℕ) (s : List ℕ) (b : ℕ) → (left ≡ 0 → ⊥) → at < length s → b ≡ getD s at 0 → 128 ≤ b
-    → (f : Form) → f ≡ form (left - 1) (drop (at + 1) s) → (v n : ℕ) → f ≡ Got v n → (v ≡ 0 → ⊥)
-    → Got (b - 128 + 128 * v) (n + 1) ≡ form left (drop at s)
-form-grown left at s b some h e m f r v n is more =
-    rw add-one
-    (sym (form-further left at s b some h e m f r ∙ ap (below (b - 128)) is
-    ∙ below-got (b - 128) v n (omega arith)))
+  pub form-grown : (v n : ℕ) → f ≡ Got v n → (v ≡ 0 → ⊥) → Got (b - 128 + 128 * v) (n + 1) ≡ form left (drop at s)
+  form-grown v n got above =
+      rw add-one
+      (sym (form-further left at s b some there is more f rest ∙ ap (below (b - 128)) got
+      ∙ below-got (b - 128) v n (omega arith)))
 
 -- what bounds a form of at most `most` bytes that was read at a place
 pub record FormBounds (most at : ℕ) (s : List ℕ) (v n : ℕ) : Type 0 where
@@ -100,15 +99,15 @@ encode-further zero v l l′ at some m e = absurd (omega arith)
 encode-further (suc k) v l l′ at some m e = rw encode-more (rw (add-one, suc-sub-suc, sub-zero) at e)
 
 -- the groups that are left have a first byte, and it has room
-pub encode-room : (left v : ℕ) (l : List ℕ) (at : ℕ) → 0 < left → at + length (encode left v) ≤ length l → at < length l
-encode-room zero v l at some h = absurd (omega arith)
-encode-room (suc k) v l at some h = omega (arith, encode-some k v)
+pub encode-room : (left v at room : ℕ) → 0 < left → at + length (encode left v) ≤ room → at < room
+encode-room zero v at room some h = absurd (omega arith)
+encode-room (suc k) v at room some h = omega (arith, encode-some k v)
 
 -- below a group that is not the last, the rest has groups and room left
-pub encode-rest : (left v : ℕ) (l : List ℕ) (at : ℕ) → v < 128 ^ left → at + length (encode left v) ≤ length l → 128 ≤ v
-    → (0 < left - 1) × (v / 128 < 128 ^ (left - 1)) × (at + 1 + length (encode (left - 1) (v / 128)) ≤ length l)
-encode-rest zero v l at h r m = absurd (omega arith)
-encode-rest (suc zero) v l at h r m = absurd (omega arith)
-encode-rest (suc (suc k)) v l at h r m =
+pub encode-rest : (left v at room : ℕ) → v < 128 ^ left → at + length (encode left v) ≤ room → 128 ≤ v
+    → (0 < left - 1) × (v / 128 < 128 ^ (left - 1)) × (at + 1 + length (encode (left - 1) (v / 128)) ≤ room)
+encode-rest zero v at room h r m = absurd (omega arith)
+encode-rest (suc zero) v at room h r m = absurd (omega arith)
+encode-rest (suc (suc k)) v at room h r m =
     rw (suc-sub-suc, sub-zero)
-    (omega arith, rest-small (suc k) v h, omega (arith, rw (encode-more (suc k) v m) at r))
+    (omega arith, omega arith, omega (arith, rw (encode-more (suc k) v m) at r))

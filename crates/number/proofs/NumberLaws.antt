@@ -1,8 +1,6 @@
--- The laws of the file's numbers: what is written is read back, what is read is what would be written, and reading
--- looks no further than the number.
+-- The laws of the file's numbers: what is written is read back, and what is read is what would be written.
 -- Every crate that reads or writes numbers cites these, and nothing of the definitions' text. They are the laws of
 -- FormLaws at the rule book's longest form.
--- Assumes nothing.
 use mathlib.Core.Path.{_≡_, refl, sym, ap, _∙_}
 use mathlib.Core.Logic.{_⊎_, inl, inr}
 use mathlib.Core.Bool.{Bool, true, false, cond}
@@ -11,7 +9,9 @@ use Prim.Native.Nat.{ℕ, _+_, _-_, _^_, _≤_, _<_}
 use native.Mathlib.Omega.{arith}
 use borrow.Author.Tests.{leb-true, le-leb, lt-leb}
 use lib.Dec.{leb}
-use lib.ListN.{length, take, drop, length-drop}
+use mir.Syntax.{w8}
+use mir.Val.{Fits}
+use lib.ListN.{length, getD, drop, length-drop}
 use lib.Seq.{sets, drop-drop}
 use Rattle.number.specs.declared.Number.{Number}
 use Rattle.number.specs.declared.Number.the-variants.{Read, Refused}
@@ -23,23 +23,19 @@ use Rattle.number.specs.Outcomes.{Outcome, given, refused, Found, found}
 use Rattle.number.specs.Refusals.{inputEnds, badForm, bufferTooShort}
 use Rattle.number.specs.Numbers.{Bytes, form, placed, numberAt, encode, numberBytes, numberWriting, toldNumber}
 use Rattle.number.specs.Numbers.{toldNumberWritten, longest, largest}
-use Rattle.number.proofs.OutcomeLaws.{given-injective, refusal-equal}
-use Rattle.number.proofs.Buffers.{take-drop}
-use Rattle.number.proofs.FormLaws.{FormRead, Bytes-drop, form-written, form-read, form-within, form-no-further}
+use Rattle.number.proofs.OutcomeLaws.{refused-never, given-injective, refusal-equal}
+use Rattle.number.proofs.FormLaws.{FormRead, Bytes-slice, Bytes-drop, form-written, form-read, form-within}
 use Rattle.number.proofs.FormLaws.{encode-last, encode-some, encode-few, encode-short, encode-long, encode-bytes}
 
 -- ---- outcomes
 
 pub found-value : {A : Type 0} (a b : A) (m n : ℕ) → found a m ≡ found b n → a ≡ b
 found-value {A} a b m n e =
-    ap (λ (x : Found A). x .value) (given-injective (record { value = a; next = m }) (record { value = b; next = n }) e)
+    ap (λ (x : Found A). x .value) (given-injective _ _ e)
 
-pub found-next : {A : Type 0} (a b : A) (m n : ℕ) → found a m ≡ found b n → m ≡ n
+found-next : {A : Type 0} (a b : A) (m n : ℕ) → found a m ≡ found b n → m ≡ n
 found-next {A} a b m n e =
-    ap (λ (x : Found A). x .next) (given-injective (record { value = a; next = m }) (record { value = b; next = n }) e)
-
-pub never-refused : {A : Type 0} (r p : ℕ) (a : A) (n : ℕ) → refused r p ≡ found a n → ⊥
-never-refused r p a n e = let z : _≡_ {A = ℕ} 0 1 = cc in omega arith
+    ap (λ (x : Found A). x .next) (given-injective _ _ e)
 
 -- what is known of a form that is placed as a number
 record PlacedForm (at : ℕ) (f : Form) (v n : ℕ) : Type 0 where
@@ -60,9 +56,9 @@ placed-found len at (Got w m) v n e = placed-got (leb w largest) at w m v n refl
       next = sym (found-next w v (at + m) n e);
       small = rw (found-value w v (at + m) n e) at (leb-true w largest h);
     }
-    placed-got false at w m v n h e = absurd (never-refused badForm at v n e)
-placed-found len at Ends v n e = absurd (never-refused inputEnds len v n e)
-placed-found len at Bad v n e = absurd (never-refused badForm at v n e)
+    placed-got false at w m v n h e = absurd (refused-never badForm at _ e)
+placed-found len at Ends v n e = absurd (refused-never inputEnds len _ e)
+placed-found len at Bad v n e = absurd (refused-never badForm at _ e)
 
 placed-as : (len at v m : ℕ) → v ≤ largest → placed len at (Got v m) ≡ found v (at + m)
 unfolding placed
@@ -76,7 +72,7 @@ placed-refused len at (Got v m) n p e = by (leb v largest) e
   where
     by : (t : Bool) → cond t (found v (at + m)) (refused badForm at) ≡ refused n p → ((n ≡ inputEnds) × (p ≡ len))
         ⊎ ((n ≡ badForm) × (p ≡ at))
-    by true e = absurd (never-refused n p v (at + m) (sym e))
+    by true e = absurd (refused-never n p _ (sym e))
     by false e = inr (cc, cc)
 placed-refused len at Ends n p e = inl (cc, cc)
 placed-refused len at Bad n p e = inr (cc, cc)
@@ -128,22 +124,11 @@ number-next-within s at v n e =
     let p : PlacedForm at (form longest (drop at s)) v n = number-placed s at v n e in
     omega (arith, form-within longest (drop at s) v (p .bytes) (p .is), length-drop at s)
 
-pub number-looks-no-further : (s t : List ℕ) (at v n : ℕ) → take n s ≡ take n t → numberAt s at ≡ found v n
-    → numberAt t at ≡ found v n
-unfolding numberAt
-number-looks-no-further s t at v n q e =
-    let p : PlacedForm at (form longest (drop at s)) v n = number-placed s at v n e in
-    let same : take (p .bytes) (drop at s) ≡ take (p .bytes) (drop at t) =
-    take-drop at (p .bytes) s ∙ ap (drop at) (rw (p .next) at q) ∙ sym (take-drop at (p .bytes) t) in
-    ap (placed (length t) at) (form-no-further longest (drop at s) (drop at t) v (p .bytes) same (p .is))
-    ∙ placed-as (length t) at v (p .bytes) (p .small)
-    ∙ ap (found v) (sym (p .next))
-
 -- ---- how long a written number is
 
-pub number-bytes-length : (v : ℕ) → (1 ≤ length (numberBytes v)) × (length (numberBytes v) ≤ 3)
+pub number-bytes-length : (v : ℕ) → (1 ≤ length (numberBytes v)) × (length (numberBytes v) ≤ longest)
 unfolding numberBytes
-number-bytes-length v = (encode-some 2 v, encode-few 3 v)
+number-bytes-length v = (encode-some 2 v, encode-few longest v)
 
 pub number-bytes-one : (v : ℕ) → v < 128 → numberBytes v ≡ v ∷ []
 unfolding numberBytes
@@ -151,11 +136,11 @@ number-bytes-one v h = encode-last 2 v h
 
 pub number-bytes-length-two : (v : ℕ) → v < 16384 → length (numberBytes v) ≤ 2
 unfolding numberBytes
-number-bytes-length-two v h = encode-short 1 3 v h
+number-bytes-length-two v h = encode-short 1 longest v h
 
 pub number-bytes-are-bytes : (v : ℕ) → Bytes (numberBytes v)
 unfolding numberBytes
-number-bytes-are-bytes v = encode-bytes 3 v
+number-bytes-are-bytes v = encode-bytes longest v
 
 -- the length, by the limits that it steps at
 pub number-length-one : (v : ℕ) → v < 128 → 1 ≡ length (numberBytes v)
@@ -163,18 +148,20 @@ number-length-one v h = sym (ap length (number-bytes-one v h))
 
 pub number-length-two : (v : ℕ) → 128 ≤ v → v < 16384 → 2 ≡ length (numberBytes v)
 unfolding numberBytes
-number-length-two v h l = omega (arith, encode-long 1 3 v (omega arith) h, encode-short 1 3 v l)
+number-length-two v h l = omega (arith, encode-long 1 longest v (omega arith) h, encode-short 1 longest v l)
 
 pub number-length-three : (v : ℕ) → 16384 ≤ v → 3 ≡ length (numberBytes v)
 unfolding numberBytes
-number-length-three v h = omega (arith, encode-long 2 3 v (omega arith) h, encode-few 3 v)
+number-length-three v h = omega (arith, encode-long 2 longest v (omega arith) h, encode-few longest v)
 
 -- ---- reading a number from its form, as `read_number` does
 
-pub number-got : (s : List ℕ) (at : ℕ) (f : Form) (v m : ℕ) → f ≡ form longest (drop at s) → f ≡ Got v m
-    → v < 128 ^ longest → found v (at + m) ≡ numberAt s at
+pub number-got : (s : List ℕ) (at : ℕ) (f : Form) (v m : ℕ) → ((i : ℕ) → Fits w8 (getD s i 0))
+    → f ≡ form longest (drop at s) → f ≡ Got v m → found v (at + m) ≡ numberAt s at
 unfolding numberAt
-number-got s at f v m r is h = sym (ap (placed (length s) at) (sym r ∙ is) ∙ placed-as (length s) at v m (omega arith))
+number-got s at f v m fit r is =
+    let read = form-read longest (drop at s) v m (Bytes-drop s at (Bytes-slice s fit)) (sym r ∙ is) in
+    sym (ap (placed (length s) at) (sym r ∙ is) ∙ placed-as (length s) at v m (omega (arith, read .small)))
 
 pub number-ends : (s : List ℕ) (at : ℕ) (f : Form) → f ≡ form longest (drop at s) → f ≡ Ends
     → refused inputEnds (length s) ≡ numberAt s at
@@ -207,11 +194,10 @@ number-written v out at h r =
     rw (le-leb v largest h, le-leb (at + length (numberBytes v)) (length out) r)
 
 -- writing a number's groups, as `write_number` does
-pub number-groups : (v : ℕ) (out : List ℕ) (at bytes : ℕ) → v ≤ largest → at ≤ length out → bytes ≤ length out - at
-    → bytes ≡ length (numberBytes v)
-    → (0 < longest) × (v < 128 ^ longest) × (at + length (encode longest v) ≤ length out)
+pub number-groups : (v at bytes room : ℕ) → v ≤ largest → at ≤ room → bytes ≤ room - at → bytes ≡ length (numberBytes v)
+    → (0 < longest) × (v < 128 ^ longest) × (at + length (encode longest v) ≤ room)
 unfolding numberBytes
-number-groups v out at bytes h a r e = omega arith
+number-groups v at bytes room h a r e = omega arith
 
 pub number-stored : (v : ℕ) (out out′ : List ℕ) (at bytes : ℕ) → v ≤ largest → at ≤ length out
     → bytes ≤ length out - at → bytes ≡ length (numberBytes v)

@@ -1,15 +1,17 @@
 -- The file's numbers. Rule book, "The board file": "A number is in groups of seven bits, lowest group first, one byte a
 -- group; the top bit is set on every byte but the last. At most three bytes (2,097,151). Only the shortest form is
 -- allowed: the last byte is 0 only if it is the only byte."
---     longest, largest     the longest form, in bytes, and the largest value
---     form k s             the number of at most k bytes that the bytes s begin with: got its value and length; ends,
---                          if s ends inside or before it; bad, if it is longer or not shortest
---     Bytes s              every element of s is a byte
---     numberAt s at        the number at place `at` of the input s, by its value and the next place, or refusal 1 or 2
---     encode k v           the shortest form of v, in at most k bytes
---     numberBytes v        the bytes that v is written as
---     numberWriting v out at     what writing v into the buffer `out` at a place answers, and the buffer afterwards
---     toldNumber, toldNumberWritten    the answers' cases in the rule book's numbers
+--     longest, largest          the longest form, in bytes, and the largest value
+--     Bytes s                   every element of s is a byte
+--     form k s                  the number of at most k bytes that the bytes s begin with: got its value and length;
+--                               ends, if s ends inside or before it; bad, if it is longer or not shortest
+--     numberAt s at             the number at place `at` of the input s, by its value and the next place, or refusal 1
+--                               or 2
+--     encode k v                the shortest form of v, in at most k bytes
+--     numberBytes v             the bytes that v is written as
+--     numberWriting v out at    what writing v into the buffer `out` at a place answers, and the buffer afterwards
+--     toldNumber r              an answer to reading in the rule book's numbers
+--     toldNumberWritten r       an answer to writing in the rule book's numbers
 use Prim.Native.Nat.{ℕ, zero, suc, _+_, _-_, _*_, _/_, _%_, _<_}
 use mathlib.Core.Bool.{cond}
 use mathlib.Core.List.{List, [], _∷_}

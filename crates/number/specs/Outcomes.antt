@@ -1,9 +1,9 @@
 -- What any reading or call comes to, in the rule book's words: what was asked for, or a refusal by number and place.
---     given a            what was asked for is a
---     refused n p        refused by number n at place p
---     found a next       a was read, and the place just after it is next
---     o >>= f            where o gives a, what f makes of a; a refusal leaves at once. A `do` block is a row of these
---     unless t n p       go on where the test t holds, else refused by n at p
+--     given a         what was asked for is a
+--     refused n p     refused by number n at place p
+--     found a next    a was read, and the place just after it is next
+--     o >>= f         where o gives a, what f makes of a; a refusal leaves at once. A `do` block is a row of these
+--     unless t n p    go on where the test t holds, else refused by n at p
 -- "Order: left to right, each number's form before its meaning" is the order of the lines of a `do` block.
 use Prim.Native.Nat.{ℕ}
 use mathlib.Core.Bool.{Bool, cond}

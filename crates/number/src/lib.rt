@@ -6,7 +6,8 @@ ghost use Prim.Native.Nat.{ℕ, _+_, _≤_, _<_, _^_};
 ghost use lib.ListN.{length, drop};
 ghost use lib.Seq.{sets};
 ghost use Rattle.number.specs.Outcomes.{Outcome};
-ghost use Rattle.number.specs.Numbers.{longest, form, encode, numberAt, numberBytes, numberWriting, toldNumber, toldNumberWritten};
+ghost use Rattle.number.specs.Numbers.{longest, form, encode, numberAt, numberBytes, numberWriting};
+ghost use Rattle.number.specs.Numbers.{toldNumber, toldNumberWritten};
 
 // The rule book's numbers for no, one for each line of its table.
 pub const INPUT_ENDS: u32 = 1;
@@ -141,7 +142,8 @@ fn write_groups(value: u32, left: usize, out: &mut [u8], at: usize)
 
 // Writes a number in its shortest form at a place: 2 if it is too large for a number, then 16 if it has no room there.
 pub fn write_number(value: u32, out: &mut [u8], at: usize) -> NumberWritten
-    ensures { λ r. ⌜ _≡_ {A = Outcome ℕ × List ℕ} (toldNumberWritten r, now (out .exit)) (numberWriting value (now (out .entry)) at) ⌝ }
+    ensures { λ r. ⌜ _≡_ {A = Outcome ℕ × List ℕ} (toldNumberWritten r, now (out .exit))
+        (numberWriting value (now (out .entry)) at) ⌝ }
 {
     if LARGEST < value {
         return NumberWritten::Refused(Refusal {

@@ -1,10 +1,9 @@
 -- Laws of the calls that push and release a button: what a refused call gives back, that an answer is known by what it
--- tells, and one law for each way out of `pressable`, `settle`, `push` and `release`. Assumes nothing.
-use Prim.Native.Nat.{ℕ, _≤_, _<_}
+-- tells, and what the proofs of `leave`, `push` and `release` need.
+use Prim.Native.Nat.{ℕ}
 use mathlib.Core.Path.{_≡_, refl, sym, ap}
 use mathlib.Core.Bool.{Bool, true, false, not}
 use lib.Dec.{ltb}
-use borrow.Author.Tests.{lt-ltb, le-ltb}
 use Rattle.number.specs.declared.Refusal.{Refusal}
 use Rattle.number.specs.Outcomes.{Outcome, given, refused, unless, _>>_}
 use Rattle.number.specs.Refusals.{noSuchName, alreadySo, stateBeyondBoard, brokenBoard}
@@ -74,37 +73,18 @@ pub told-pressed-injective : (x y : Pressed) → toldPressed x ≡ toldPressed y
 told-pressed-injective x y e =
     λ i. record { state = e i .0; answer = told-press-injective (x .answer) (y .answer) (λ j. e j .1) i }
 
--- ---- one law for each way out of `pressable`, `settle`, `push` and `release`
-
-module _ (b : Board) (s : State) (n : ℕ) (already : Bool) where
-  pub press-unusable : (k p : ℕ) → usable b s ≡ refused k p → refused k p ≡ pressable b s n already
-  unfolding pressable
-  press-unusable k p unusable = rw unusable refl
-
-  pub press-no-such-name : usable b s ≡ given tt → b .counts .buttons ≤ n
-      → refused noSuchName 0 ≡ pressable b s n already
-  unfolding pressable
-  press-no-such-name fine beyond = simp (fine, le-ltb n (b .counts .buttons) beyond)
-
-  pub press-already-so : usable b s ≡ given tt → n < b .counts .buttons → already ≡ true
-      → refused alreadySo 0 ≡ pressable b s n already
-  unfolding pressable
-  press-already-so fine below so = simp (fine, lt-ltb n (b .counts .buttons) below, so)
-
-  pub press-done : usable b s ≡ given tt → n < b .counts .buttons → already ≡ false → given tt ≡ pressable b s n already
-  unfolding pressable
-  press-done fine below so = simp (fine, lt-ltb n (b .counts .buttons) below, so)
+-- ---- one law for each way out of `leave`, and one for `push` and `release`
 
 -- an answer a with the state that it leaves: the state t if it is done, else the state s as given
 module _ (s t : State) (a : Press) where
-  pub settle-done : a ≡ Done → toldPressed (record { state = t; answer = a }) ≡ left s (λ u. t) (toldPress a)
+  pub leave-done : a ≡ Done → toldPressed (record { state = t; answer = a }) ≡ left s (λ u. t) (toldPress a)
   unfolding left
-  settle-done done = rw done
+  leave-done done = rw done
 
-  pub settle-refused : (r : Refusal) → a ≡ Refused r → toldPressed (record { state = s; answer = a }) ≡ left s
+  pub leave-refused : (r : Refusal) → a ≡ Refused r → toldPressed (record { state = s; answer = a }) ≡ left s
       (λ u. t) (toldPress a)
   unfolding left
-  settle-refused r is = rw is
+  leave-refused r is = rw is
 
 -- an outcome o that was asked for with the test p and the state u that was made, where the definition has the test q
 -- and the state t

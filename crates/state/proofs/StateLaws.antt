@@ -1,15 +1,13 @@
 -- The laws of a board's state: what each method changes and leaves, which states a board takes, and when a call can use
 -- a board and a state.
 -- The crates above cite these, and nothing of the definitions' text. The last section is for the proof of `fits`.
--- Assumes nothing.
-use Prim.Native.Nat.{ℕ, _^_, _<_}
-use mathlib.Core.Path.{_≡_, refl, sym, _∙_}
-use mathlib.Core.Bool.{true, false, false≢true}
-use borrow.Author.Tests.{ltb-true, lt-ltb}
-use Rattle.bits.specs.Sets.{including, excluding, within}
+use Prim.Native.Nat.{ℕ, _<_}
+use mathlib.Core.Path.{_≡_, refl}
+use mathlib.Core.Bool.{true, false}
+use Rattle.bits.specs.Sets.{room, within}
 use Rattle.bits.proofs.SetLaws.{member-including-same, member-including-other, member-excluding-same}
-use Rattle.bits.proofs.SetLaws.{member-excluding-other, member-none, members-same, within-member, member-within}
-use Rattle.bits.proofs.SetLaws.{including-below, excluding-below}
+use Rattle.bits.proofs.SetLaws.{member-excluding-other, within-member, member-within, within-none, within-including}
+use Rattle.bits.proofs.SetLaws.{within-excluding}
 use Rattle.number.proofs.OutcomeLaws.{passed, asked}
 use Rattle.number.specs.Outcomes.{given, refused}
 use Rattle.number.specs.Refusals.{stateBeyondBoard, brokenBoard}
@@ -24,7 +22,7 @@ use Rattle.state.specs.States.{stateFine, usable}
 -- ---- a method changes its own relay or button and nothing else
 
 module _ (s : State) (r : ℕ) where
-  pub drawn-draw : r < 64 → isDrawn (withDrawn s r) r ≡ true
+  pub drawn-draw : r < room → isDrawn (withDrawn s r) r ≡ true
   drawn-draw fits = member-including-same (s .drawn) r fits
 
   pub drawn-draw-other : (q : ℕ) → (q ≡ r → ⊥) → isDrawn (withDrawn s r) q ≡ isDrawn s q
@@ -43,7 +41,7 @@ module _ (s : State) (r : ℕ) where
   pushed-drop b = refl
 
 module _ (s : State) (b : ℕ) where
-  pub pushed-push : b < 64 → isPushed (withPushed s b) b ≡ true
+  pub pushed-push : b < room → isPushed (withPushed s b) b ≡ true
   pushed-push fits = member-including-same (s .pushed) b fits
 
   pub pushed-push-other : (q : ℕ) → (q ≡ b → ⊥) → isPushed (withPushed s b) q ≡ isPushed s q
@@ -60,25 +58,6 @@ module _ (s : State) (b : ℕ) where
 
   pub drawn-release : (r : ℕ) → isDrawn (withReleased s b) r ≡ isDrawn s r
   drawn-release r = refl
-
--- ---- a state is known by its drawn relays and its pushed buttons
-
-pub state-equal : (s t : State) → ((r : ℕ) → isDrawn s r ≡ isDrawn t r) → ((b : ℕ) → isPushed s b ≡ isPushed t b)
-    → s ≡ t
-state-equal s t drawn pushed =
-    λ i. record {
-      drawn = members-same (s .drawn) (t .drawn) drawn i;
-      pushed = members-same (s .pushed) (t .pushed)
-          pushed i;
-    }
-
--- ---- a fresh state
-
-pub fresh-drawn : (r : ℕ) → isDrawn freshState r ≡ false
-fresh-drawn r = member-none r
-
-pub fresh-pushed : (b : ℕ) → isPushed freshState b ≡ false
-fresh-pushed b = member-none b
 
 -- ---- a state fits a board exactly if every drawn relay is below R and every pushed button below B
 
@@ -110,40 +89,29 @@ members-state-fits c s below =
 
 -- ---- a state that fits still fits after each method
 
-within-including : (s k n : ℕ) → within s k ≡ true → n < k → within (including s n) k ≡ true
-unfolding within
-within-including s k n all fits = lt-ltb (including s n) (2 ^ k) (including-below s k n (ltb-true s (2 ^ k) all) fits)
-
-within-excluding : (s k n : ℕ) → within s k ≡ true → within (excluding s n) k ≡ true
-unfolding within
-within-excluding s k n all = lt-ltb (excluding s n) (2 ^ k) (excluding-below s k n (ltb-true s (2 ^ k) all))
-
-within-none : (k : ℕ) → within 0 k ≡ true
-within-none k = member-within 0 k (λ n set. absurd (false≢true (sym (member-none n) ∙ set)))
-
 pub fresh-fits : (c : Counts) → stateFine c freshState ≡ true
 fresh-fits c = within-both c freshState (within-none (c .relays)) (within-none (c .buttons))
 
 module _ (c : Counts) (s : State) (n : ℕ) (fine : stateFine c s ≡ true) where
   pub state-fits-draw : n < c .relays → stateFine c (withDrawn s n) ≡ true
   state-fits-draw fits =
-      within-both c (withDrawn s n) (within-including (s .drawn) (c .relays) n (both-within c s fine .0) fits)
-      (both-within c s fine .1)
+      let both = both-within c s fine in
+      within-both c (withDrawn s n) (within-including (s .drawn) (c .relays) n (both .0) fits) (both .1)
 
   pub state-fits-drop : stateFine c (withDropped s n) ≡ true
   state-fits-drop =
-      within-both c (withDropped s n) (within-excluding (s .drawn) (c .relays) n (both-within c s fine .0))
-      (both-within c s fine .1)
+      let both = both-within c s fine in
+      within-both c (withDropped s n) (within-excluding (s .drawn) (c .relays) n (both .0)) (both .1)
 
   pub state-fits-push : n < c .buttons → stateFine c (withPushed s n) ≡ true
   state-fits-push fits =
-      within-both c (withPushed s n) (both-within c s fine .0)
-      (within-including (s .pushed) (c .buttons) n (both-within c s fine .1) fits)
+      let both = both-within c s fine in
+      within-both c (withPushed s n) (both .0) (within-including (s .pushed) (c .buttons) n (both .1) fits)
 
   pub state-fits-release : stateFine c (withReleased s n) ≡ true
   state-fits-release =
-      within-both c (withReleased s n) (both-within c s fine .0)
-      (within-excluding (s .pushed) (c .buttons) n (both-within c s fine .1))
+      let both = both-within c s fine in
+      within-both c (withReleased s n) (both .0) (within-excluding (s .pushed) (c .buttons) n (both .1))
 
 -- ---- a board and a state that a call can use
 

@@ -1,13 +1,13 @@
 -- The state of a board. Rule book: "The state is which relays are drawn and which buttons are pushed; a fresh state has
 -- none of either."
---     freshState                         none of either
---     isDrawn s r, isPushed s b          relay r is drawn, button b is pushed
---     withDrawn, withDropped s r         s with relay r drawn, dropped: "a move changes that relay and nothing else"
---     withPushed, withReleased s b       s with button b pushed, released
---     stateFine c s                      14 does not hold: every drawn relay is below R, every pushed button below B
---     usable b s                         what every call on a board and a state asks first: refusals 15, 14
---     left s f o                         the state that a call leaves beside what it came to: f a where it gives a; "a
---                                        refused call returns the number, place 0 and the state it was given"
+--     freshState                      none of either
+--     isDrawn s r, isPushed s b       relay r is drawn, button b is pushed
+--     withDrawn, withDropped s r      s with relay r drawn, dropped: "a move changes that relay and nothing else"
+--     withPushed, withReleased s b    s with button b pushed, released
+--     stateFine c s                   14 does not hold: every drawn relay is below R, every pushed button below B
+--     usable b s                      what every call on a board and a state asks first: refusals 15, 14
+--     left s f o                      the state that a call leaves beside what it came to: f a where it gives a; "a
+--                                     refused call returns the number, place 0 and the state it was given"
 use Prim.Native.Nat.{ℕ}
 use mathlib.Core.Bool.{Bool, _&&_}
 use Rattle.bits.specs.Sets.{member, including, excluding, within}

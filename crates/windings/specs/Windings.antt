@@ -1,12 +1,12 @@
 -- Which windings the parts so far gave each relay. Rule book: "Every relay is regular, with exactly one part of kind 4,
 -- or steel-core, with exactly one of kind 5 and one of kind 6."
 --     noneWound          none yet
---     windingFree w k     8 does not hold of a part of kind k: its relay does not have this winding yet, and is not of
---                         the other sort
---     gained w k          the windings once a part of kind k has come too
---     wound w r           relay r lacks no winding
---     every n f           f holds of each number below n
---     complete n w        9 does not hold of n relays: none of them lacks a winding
+--     windingFree w k    8 does not hold of a part of kind k: its relay does not have this winding yet, and is not of
+--                        the other sort
+--     gained w k         the windings once a part of kind k has come too
+--     wound w r          relay r lacks no winding
+--     every n f          f holds of each number below n
+--     complete n w       9 does not hold of n relays: none of them lacks a winding
 use Prim.Native.Nat.{ℕ, zero, suc}
 use mathlib.Core.Bool.{Bool, true, not, _&&_, _||_}
 use Rattle.bits.specs.Sets.{member, including}

@@ -1,6 +1,5 @@
--- `bits::all_below` meets its contract: every member of a word is below 64, and below that the code tests that no bit
--- is left from n on.
--- Assumes nothing.
+-- `bits::all_below` meets its contract: every member of a word is below its room, and below that the code tests that no
+-- bit is left from n on.
 use mathlib.Core.Path.{sym}
 use native.Mathlib.Omega.{arith}
 use borrow.Author.Needs.{needs}
@@ -8,11 +7,10 @@ use Rattle.bits.proofs.SetLaws.{within-room, within-shifted}
 use Rattle.bits.proofs.all_below.Statement.{statement}
 use Rattle.bits.proofs.all_below.Tie as tie
 
-returns : tie.Need-returns
-returns c = sym (within-room (c .before .args .set) (c .before .args .n) (omega arith) (omega arith))
-
-returns-2 : tie.Need-returns-2
-returns-2 c = within-shifted (c .before .args .set) (c .before .args .n)
-
 pub all-below-spec : {M : Type 1} → statement M
-all-below-spec = tie.close (tie.spec returns (λ c. search needs) returns-2)
+all-below-spec =
+    tie.close
+    (tie.spec
+    (λ c. sym (within-room (c .before .args .set) (c .before .args .n) (omega arith) (omega arith)))
+    (λ c. search needs)
+    (λ c. within-shifted (c .before .args .set) (c .before .args .n)))

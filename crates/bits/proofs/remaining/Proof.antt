@@ -4,9 +4,6 @@ use Rattle.bits.proofs.remaining.Tie as tie
 use mathlib.Core.Path.{refl}
 use Rattle.bits.specs.Sets.{remaining}
 
-returns : tie.Need-returns
-unfolding remaining
-returns c = refl
-
 pub remaining-spec : {M : Type 1} → statement M
-remaining-spec = tie.close (tie.spec returns)
+unfolding remaining
+remaining-spec = tie.close (tie.spec (λ c. refl))

@@ -5,11 +5,12 @@ use Rattle.board.proofs.empty.Tie as tie
 use mathlib.Core.Path.{ap}
 use lib.ListN.{replicate}
 use Rattle.board.specs.declared.Part.{Part}
-use Rattle.board.specs.Parts.{emptyBoard, padded}
-
-returns : tie.Need-returns
-unfolding emptyBoard padded
-returns c = ap (λ (p : Part). record { counts = _; parts = replicate 256 p }) (c .blank .ensures)
+use Rattle.board.specs.Parts.{mostParts, emptyBoard, padded}
 
 pub empty-spec : {M : Type 1} → statement M
-empty-spec = tie.close (tie.spec (λ c κs. search needs) returns)
+unfolding emptyBoard padded
+empty-spec =
+    tie.close
+    (tie.spec
+    (λ c κs. search needs)
+    (λ c. ap (λ (p : Part). record { counts = _; parts = replicate mostParts p }) (c .blank .ensures)))

@@ -3,11 +3,5 @@ use Rattle.board.proofs.limit.Statement.{statement}
 use Rattle.board.proofs.limit.Tie as tie
 use borrow.Author.Tests.{eq-eqb, ne-eqb}
 
-returns : tie.Need-returns
-returns c = simp (eq-eqb _ _ (c .if1 .taken))
-
-returns-2 : tie.Need-returns-2
-returns-2 c = simp (ne-eqb _ _ (c .if1 .left))
-
 pub limit-spec : {M : Type 1} → statement M
-limit-spec = tie.close (tie.spec returns returns-2)
+limit-spec = tie.close (tie.spec (λ c. simp (eq-eqb _ _ (c .if1 .taken))) (λ c. simp (ne-eqb _ _ (c .if1 .left))))

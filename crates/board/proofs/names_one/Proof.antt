@@ -6,10 +6,6 @@ use borrow.Author.Tests.{eq-eqb, ne-eqb}
 use mathlib.Core.Path.{sym, _∙_}
 use Rattle.board.specs.Rules.{nameFine}
 
-returns : tie.Need-returns
-unfolding nameFine
-returns c = simp (eq-eqb _ 0 (sym (c .before .number .ensures) ∙ c .if1 .taken))
-
 returns-2 : tie.Need-returns-2
 unfolding nameFine
 returns-2 c =
@@ -18,10 +14,16 @@ returns-2 c =
       c .before .name .ensures,
       c .limit .ensures,
       at-number .number .ensures,
-      ne-eqb _ 0
-          (λ e. c .before .before .if1 .left (at-number .number .ensures ∙ e)),
+      ne-eqb _ 0 (λ e. c .before .before .if1 .left (at-number .number .ensures ∙ e)),
     )
 
 pub names-one-spec : {M : Type 1} → statement M
+unfolding nameFine
 names-one-spec =
-    tie.close (tie.spec (λ c κs. search needs) returns (λ c κs. search needs) (λ c κs. search needs) returns-2)
+    tie.close
+    (tie.spec
+    (λ c κs. search needs)
+    (λ c. simp (eq-eqb _ 0 (sym (c .before .number .ensures) ∙ c .if1 .taken)))
+    (λ c κs. search needs)
+    (λ c κs. search needs)
+    returns-2)

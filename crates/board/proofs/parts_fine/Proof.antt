@@ -9,12 +9,13 @@ use mathlib.Core.Path.{_≡_, refl, sym, ap, _∙_}
 use borrow.Author.Tests.{not-true, not-false}
 use lib.ListN.{length, take, drop}
 use Rattle.windings.specs.Windings.{noneWound}
+use Rattle.board.specs.Parts.{mostParts}
 use Rattle.board.specs.Rules.{partsFine}
 use Rattle.board.proofs.RuleLaws.{parts-walk-off, parts-walk-on, parts-walk-end}
 
 abbrev Inv-loop : tie.InvT-loop
 Inv-loop counts parts count windings₀ i₀ windings i =
-    (count ≡ counts .parts) × (count ≤ 256) × (length parts ≡ 256) × (i ≤ count)
+    (count ≡ counts .parts) × (count ≤ mostParts) × (length parts ≡ mostParts) × (i ≤ count)
     × (partsFine counts noneWound (take count parts) ≡ partsFine counts windings (drop i (take count parts)))
 
 abbrev μ-loop : tie.MeasureT-loop

@@ -1,32 +1,30 @@
 -- `board::same_counts` meets its contract: its tests are those of `sameCounts`, in that order.
 use Rattle.board.proofs.same_counts.Statement.{statement}
 use Rattle.board.proofs.same_counts.Tie as tie
-use Rattle.board.proofs.SameLaws.{counts-terminals-differ, counts-relays-differ, counts-buttons-differ}
-use Rattle.board.proofs.SameLaws.{counts-same-last}
-
-returns : tie.Need-returns
-returns c =
-    let entry = c .before .before .before in
-    counts-terminals-differ (entry .args .x) (entry .args .y) (c .if1 .taken)
-
-returns-2 : tie.Need-returns-2
-returns-2 c =
-    let entry = c .before .before .before .before .before .before in
-    counts-relays-differ (entry .args .x) (entry .args .y) (c .before .before .before .if1 .left) (c .if2 .taken)
+use borrow.Author.Tests.{eq-eqb, ne-eqb}
+use Rattle.board.specs.Same.{sameCounts}
 
 returns-3 : tie.Need-returns-3
+unfolding sameCounts
 returns-3 c =
-    let at-if1 = c .before .before .before .before .before .before in
-    let entry = at-if1 .before .before .before in
-    counts-buttons-differ (entry .args .x) (entry .args .y) (at-if1 .if1 .left)
-    (c .before .before .before .if2 .left) (c .if3 .taken)
+    let at-if2 = c .before .before .before in
+    let at-if1 = at-if2 .before .before .before in
+    simp (eq-eqb _ _ (at-if1 .if1 .left), eq-eqb _ _ (at-if2 .if2 .left), ne-eqb _ _ (c .if3 .taken))
 
 returns-4 : tie.Need-returns-4
+unfolding sameCounts
 returns-4 c =
-    let at-if1 = c .before .before .before .before .before .before .before .before in
-    let entry = at-if1 .before .before .before in
-    counts-same-last (entry .args .x) (entry .args .y) (at-if1 .if1 .left)
-    (c .before .before .before .before .before .if2 .left) (c .before .before .if3 .left)
+    let at-if3 = c .before .before in
+    let at-if2 = at-if3 .before .before .before in
+    let at-if1 = at-if2 .before .before .before in
+    rw (eq-eqb _ _ (at-if1 .if1 .left), eq-eqb _ _ (at-if2 .if2 .left), eq-eqb _ _ (at-if3 .if3 .left))
 
 pub same-counts-spec : {M : Type 1} → statement M
-same-counts-spec = tie.close (tie.spec returns returns-2 returns-3 returns-4)
+unfolding sameCounts
+same-counts-spec =
+    tie.close
+    (tie.spec
+    (λ c. simp (ne-eqb _ _ (c .if1 .taken)))
+    (λ c. simp (eq-eqb _ _ (c .before .before .before .if1 .left), ne-eqb _ _ (c .if2 .taken)))
+    returns-3
+    returns-4)

@@ -7,19 +7,17 @@ use Prim.Native.Nat.{_≤_, _-_}
 use mathlib.Core.Path.{_≡_, refl, sym, _∙_}
 use borrow.Author.Tests.{not-true, not-false}
 use lib.ListN.{length, take, drop}
+use Rattle.board.specs.Parts.{mostParts}
 use Rattle.board.specs.Same.{sameParts}
 use Rattle.board.proofs.SameLaws.{same-walk-off, same-walk-on, same-walk-end}
 
 abbrev Inv-loop : tie.InvT-loop
 Inv-loop count x y i₀ i =
-    (count ≤ 256) × (length x ≡ 256) × (length y ≡ 256) × (i ≤ count)
+    (count ≤ mostParts) × (length x ≡ mostParts) × (length y ≡ mostParts) × (i ≤ count)
     × (sameParts (take count x) (take count y) ≡ sameParts (drop i (take count x)) (drop i (take count y)))
 
 abbrev μ-loop : tie.MeasureT-loop
 μ-loop count x y i₀ i = count - i
-
-loop-holds : tie.Need-loop-holds Inv-loop μ-loop
-loop-holds c = (c .pre, c .good .0 .1 .0 .1, c .good .1 .0 .1 .0 .1, omega arith, refl)
 
 returns : tie.Need-returns Inv-loop μ-loop
 returns c =
@@ -39,16 +37,13 @@ loop-again c =
           (sym (c .before .same-part .ensures) ∙ not-false _ (c .if1 .left)),
     )
 
-returns-2 : tie.Need-returns-2 Inv-loop μ-loop
-returns-2 c = same-walk-end _ _ _ _ _ (omega arith) (omega arith) (c .before .loop .inv .4) (c .loop-test .left)
-
 pub same-parts-spec : {M : Type 1} → statement M
 same-parts-spec =
     tie.close
     (tie.spec
     Inv-loop
     μ-loop
-    loop-holds
+    (λ c. (c .pre, c .good .0 .1 .0 .1, c .good .1 .0 .1 .0 .1, omega arith, refl))
     (λ c. omega arith)
     (λ c. omega arith)
     (λ c. omega arith)
@@ -58,4 +53,4 @@ same-parts-spec =
     (λ c. omega arith)
     (λ c. omega arith)
     loop-again
-    returns-2)
+    (λ c. same-walk-end _ _ _ _ _ (omega arith) (omega arith) (c .before .loop .inv .4) (c .loop-test .left)))

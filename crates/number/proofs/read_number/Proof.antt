@@ -1,6 +1,7 @@
--- `read_number` answers the form of at most three bytes that `read_form` finds, as the rule book does. Assumes nothing.
+-- `read_number` answers the form of at most three bytes that `read_form` finds, as the rule book does.
 use native.Mathlib.Omega.{arith}
 use borrow.Author.Needs.{needs}
+use Rattle.number.specs.Numbers.{longest}
 use Rattle.number.proofs.FormSteps.{form-bounds}
 use Rattle.number.proofs.NumberLaws.{number-got, number-ends, number-bad}
 use Rattle.number.proofs.read_number.Statement.{statement}
@@ -12,36 +13,16 @@ add-t7 c =
     let entry = at-read-form .before .before in
     omega (
       arith,
-      form-bounds 3 3 (entry .args .at) (entry .args .s .now)
-          (c .before .before .before .before .shared-slice-known .given) (omega arith)
-          (at-read-form .read-form .result) (at-read-form .read-form .ensures) (c .before .value .given .0 .0)
-          (c .before .value .given .0 .1 .0) (c .before .value .given .1),
+      form-bounds longest longest (entry .args .at) (entry .args .s .now)
+          (at-read-form .before .shared-slice-known .given) (omega arith) _ (at-read-form .read-form .ensures) _ _
+          (c .before .value .given .1),
     )
 
 returns : tie.Need-returns
 returns c =
     let at-read-form = c .before .before .before in
-    let entry = at-read-form .before .before in
-    number-got (entry .args .s .now) (entry .args .at) (at-read-form .read-form .result)
-    (c .before .value .given .0 .0) (c .before .value .given .0 .1 .0) (at-read-form .read-form .ensures)
-    (c .before .value .given .1) (form-bounds 3 3 (entry .args .at) (entry .args .s .now)
-    (c .before .before .before .before .shared-slice-known .given) (omega arith)
-    (at-read-form .read-form .result) (at-read-form .read-form .ensures) (c .before .value .given .0 .0)
-    (c .before .value .given .0 .1 .0) (c .before .value .given .1) .small)
-
-returns-2 : tie.Need-returns-2
-returns-2 c =
-    let at-read-form = c .before .before in
-    let entry = at-read-form .before .before in
-    number-ends (entry .args .s .now) (entry .args .at) (at-read-form .read-form .result)
-    (at-read-form .read-form .ensures) (c .enum-told .given .1)
-
-returns-3 : tie.Need-returns-3
-returns-3 c =
-    let at-read-form = c .before .before in
-    let entry = at-read-form .before .before in
-    number-bad (entry .args .s .now) (entry .args .at) (at-read-form .read-form .result)
-    (at-read-form .read-form .ensures) (c .enum-told2 .given .1)
+    number-got _ _ _ _ _ (at-read-form .before .shared-slice-known .given) (at-read-form .read-form .ensures)
+    (c .before .value .given .1)
 
 pub read-number-spec : {M : Type 1} → statement M
 read-number-spec =
@@ -53,5 +34,5 @@ read-number-spec =
     (λ c. search needs)
     (λ c. search needs)
     returns
-    returns-2
-    returns-3)
+    (λ c. number-ends _ _ _ (c .before .before .read-form .ensures) (c .enum-told .given .1))
+    (λ c. number-bad _ _ _ (c .before .before .read-form .ensures) (c .enum-told2 .given .1)))

@@ -2,13 +2,13 @@
 use borrow.Author.Needs.{needs}
 use Rattle.presses.proofs.leave.Statement.{statement}
 use Rattle.presses.proofs.leave.Tie as tie
-use Rattle.presses.proofs.PressLaws.{settle-done, settle-refused}
-
-returns : tie.Need-returns
-returns c = settle-done _ _ _ (c .enum-told .given .1)
-
-returns-2 : tie.Need-returns-2
-returns-2 c = settle-refused _ _ _ _ (c .enum-told2 .given .1)
+use Rattle.presses.proofs.PressLaws.{leave-done, leave-refused}
 
 pub leave-spec : {M : Type 1} → statement M
-leave-spec = tie.close (tie.spec (λ c. search needs) (λ c. search needs) returns returns-2)
+leave-spec =
+    tie.close
+    (tie.spec
+    (λ c. search needs)
+    (λ c. search needs)
+    (λ c. leave-done _ _ _ (c .enum-told .given .1))
+    (λ c. leave-refused _ _ _ _ (c .enum-told2 .given .1)))

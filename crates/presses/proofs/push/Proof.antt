@@ -1,4 +1,4 @@
--- `presses::push` meets its contract: `settle` is given the answer of `pressable` and the state of `withPushed`.
+-- `presses::push` meets its contract: `leave` is given the answer of `pressable` and the state of `withPushed`.
 use borrow.Author.Needs.{needs}
 use Rattle.presses.proofs.push.Statement.{statement}
 use Rattle.presses.proofs.push.Tie as tie

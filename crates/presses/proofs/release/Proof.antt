@@ -1,4 +1,4 @@
--- `presses::release` meets its contract: `settle` is given the answer of `pressable` and the state of `withReleased`.
+-- `presses::release` meets its contract: `leave` is given the answer of `pressable` and the state of `withReleased`.
 use borrow.Author.Needs.{needs}
 use Rattle.presses.proofs.release.Statement.{statement}
 use Rattle.presses.proofs.release.Tie as tie

@@ -4,8 +4,5 @@ use borrow.Author.Needs.{needs}
 use Rattle.state.proofs.State.draw.Statement.{statement}
 use Rattle.state.proofs.State.draw.Tie as tie
 
-returns : tie.Need-returns
-returns c = rw (c .with .ensures)
-
 pub draw-spec : {M : Type 1} → statement M
-draw-spec = tie.close (tie.spec (λ c κs. search needs) returns)
+draw-spec = tie.close (tie.spec (λ c κs. search needs) (λ c. rw (c .with .ensures)))

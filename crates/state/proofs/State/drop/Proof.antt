@@ -4,8 +4,5 @@ use borrow.Author.Needs.{needs}
 use Rattle.state.proofs.State.drop.Statement.{statement}
 use Rattle.state.proofs.State.drop.Tie as tie
 
-returns : tie.Need-returns
-returns c = rw (c .without .ensures)
-
 pub drop-spec : {M : Type 1} → statement M
-drop-spec = tie.close (tie.spec (λ c κs. search needs) returns)
+drop-spec = tie.close (tie.spec (λ c κs. search needs) (λ c. rw (c .without .ensures)))

@@ -4,8 +4,5 @@ use borrow.Author.Needs.{needs}
 use Rattle.state.proofs.State.push.Statement.{statement}
 use Rattle.state.proofs.State.push.Tie as tie
 
-returns : tie.Need-returns
-returns c = rw (c .with .ensures)
-
 pub push-spec : {M : Type 1} → statement M
-push-spec = tie.close (tie.spec (λ c κs. search needs) returns)
+push-spec = tie.close (tie.spec (λ c κs. search needs) (λ c. rw (c .with .ensures)))

@@ -16,9 +16,6 @@ Inv-loop self relays end relay₀ relay = (end ≡ relays) × (end < 256) × (re
 abbrev μ-loop : tie.MeasureT-loop
 μ-loop self relays end relay₀ relay = end - relay
 
-loop-holds : tie.Need-loop-holds Inv-loop μ-loop
-loop-holds c = (c .wide .ensures .0, c .wide .ensures .1, omega arith, every-none _)
-
 returns : tie.Need-returns Inv-loop μ-loop
 unfolding complete
 returns c =
@@ -34,27 +31,21 @@ loop-again c =
       at-loop .loop .inv .0,
       at-loop .loop .inv .1,
       omega arith,
-      every-more _ _ (at-loop .loop .inv .3)
-          (sym (c .before .wound .ensures) ∙ not-false _ (c .if1 .left)),
+      every-more _ _ (at-loop .loop .inv .3) (sym (c .before .wound .ensures) ∙ not-false _ (c .if1 .left)),
     )
 
-returns-2 : tie.Need-returns-2 Inv-loop μ-loop
-unfolding complete
-returns-2 c =
-    let reached : c .before .loop .relay ≡ c .before .before .before .args .relays = omega arith in
-    cc
-
 pub complete-spec : {M : Type 1} → statement M
+unfolding complete
 complete-spec =
     tie.close
     (tie.spec
     Inv-loop
     μ-loop
     (λ c κs. search needs)
-    loop-holds
+    (λ c. (c .wide .ensures .0, c .wide .ensures .1, omega arith, every-none _))
     (λ c κs. search needs)
     returns
     (λ c. omega arith)
     (λ c. omega arith)
     loop-again
-    returns-2)
+    (λ c. let reached : c .before .loop .relay ≡ c .before .before .before .args .relays = omega arith in cc))

@@ -10,8 +10,7 @@ returns c =
     simp (
       c .before .before .before .before .kind .given .1,
       ← c .before .before .wide .ensures .0,
-      sym
-          (c .before .has .ensures) ∙ c .if1 .taken,
+      sym (c .before .has .ensures) ∙ c .if1 .taken,
     )
 
 returns-2 : tie.Need-returns-2
@@ -19,16 +18,9 @@ returns-2 c =
     simp (
       c .in-neither .ensures,
       c .before .before .before .before .before .kind .given .1,
-      ←
-          c .before .before .before .wide .ensures .0,
+      ← c .before .before .before .wide .ensures .0,
       sym (c .before .before .has .ensures) ∙ c .before .if1 .left,
     )
-
-returns-3 : tie.Need-returns-3
-returns-3 c = simp (c .in-neither2 .ensures, c .before .before .kind2 .given .1)
-
-returns-4 : tie.Need-returns-4
-returns-4 c = simp (c .in-neither3 .ensures, c .before .before .kind3 .given .1)
 
 pub free-spec : {M : Type 1} → statement M
 free-spec =
@@ -48,8 +40,8 @@ free-spec =
     (λ c. search needs)
     returns
     returns-2
-    returns-3
-    returns-4
+    (λ c. simp (c .in-neither2 .ensures, c .before .before .kind2 .given .1))
+    (λ c. simp (c .in-neither3 .ensures, c .before .before .kind3 .given .1))
     (λ c. search needs)
     (λ c. search needs)
     (λ c. search needs)

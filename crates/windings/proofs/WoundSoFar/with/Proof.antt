@@ -4,15 +4,6 @@ use borrow.Author.Needs.{needs}
 use Rattle.windings.proofs.WoundSoFar.with.Statement.{statement}
 use Rattle.windings.proofs.WoundSoFar.with.Tie as tie
 
-returns : tie.Need-returns
-returns c = simp (c .before .before .before .kind .given .1, c .with .ensures, c .before .wide .ensures .0)
-
-returns-2 : tie.Need-returns-2
-returns-2 c = simp (c .before .before .before .kind2 .given .1, c .with2 .ensures, c .before .wide2 .ensures .0)
-
-returns-3 : tie.Need-returns-3
-returns-3 c = simp (c .before .before .before .kind3 .given .1, c .with3 .ensures, c .before .wide3 .ensures .0)
-
 pub with-spec : {M : Type 1} → statement M
 with-spec =
     tie.close
@@ -30,9 +21,9 @@ with-spec =
     (λ c. search needs)
     (λ c. search needs)
     (λ c. search needs)
-    returns
-    returns-2
-    returns-3
+    (λ c. simp (c .before .before .before .kind .given .1, c .with .ensures, c .before .wide .ensures .0))
+    (λ c. simp (c .before .before .before .kind2 .given .1, c .with2 .ensures, c .before .wide2 .ensures .0))
+    (λ c. simp (c .before .before .before .kind3 .given .1, c .with3 .ensures, c .before .wide3 .ensures .0))
     (λ c. search needs)
     (λ c. search needs)
     (λ c. search needs)
