@@ -30,7 +30,7 @@ pub count-most : (low high : ℕ) (s : List ℕ) (at v next : ℕ) → wanted (i
 count-most low high s at v next h =
     range-bounds low high v (wanted-found (inRange low high) outOfRange s at v next h .0) .1
 
-abbrev countAt : ℕ → ℕ → List ℕ → ℕ → Outcome (Found ℕ)
+abbrev pub countAt : ℕ → ℕ → List ℕ → ℕ → Outcome (Found ℕ)
 countAt low high = wanted (inRange low high) outOfRange
 
 module _ (s : List ℕ) (k p : ℕ) where

@@ -31,6 +31,10 @@ module _ (ok : ℕ → Bool) (n : ℕ) (s : List ℕ) (at : ℕ) where
   unfolding wanted
   wanted-passes v next h fine = rw (h, fine)
 
+-- a number's value and the place just after it, as a `let .. else` binds them
+abbrev pub bound : ℕ × (ℕ × Unit {0}) → Outcome (Found ℕ)
+bound b = found (b .0) (b .1 .0)
+
 -- what a number's answer says of the outcome that it tells
 pub told-found : (o : Outcome (Found ℕ)) (x : Number) (v next : ℕ) → x ≡ Read v next → toldNumber x ≡ o
     → o ≡ found v next
