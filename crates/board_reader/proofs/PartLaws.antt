@@ -30,9 +30,10 @@ pub no-part-told : (a : PartRead) (b : ReadAnswer) (k p : ℕ) → a .answer ≡
     → toldPartRead a ≡ refused k p
 no-part-told a b k p e h = ap (foundAt (a .part)) (ap toldReadAnswer e ∙ h)
 
-pub place-refused : (b : ReadAnswer) (x : Number) (r : Refusal) → toldReadAnswer b ≡ placeOf (toldNumber x)
-    → x ≡ Refused r → toldReadAnswer b ≡ refused (r .number) (r .place)
-place-refused b x r h e = h ∙ ap (λ (y : Number). placeOf (toldNumber y)) e
+pub field-refused : (a : PartRead) (b : ReadAnswer) (x : Number) (r : Refusal) → a .answer ≡ b
+    → toldReadAnswer b ≡ placeOf (toldNumber x) → x ≡ Refused r → toldPartRead a ≡ refused (r .number) (r .place)
+field-refused a b x r e h is =
+    no-part-told a b (r .number) (r .place) e (h ∙ ap (λ (y : Number). placeOf (toldNumber y)) is)
 
 module _ (c : Counts) (w : WoundSoFar) (s : List ℕ) (at k p : ℕ) where
   pub kind-refused : wanted (inRange 0 6) noSuchKind s at ≡ refused k p → refused k p ≡ partAt c w s at

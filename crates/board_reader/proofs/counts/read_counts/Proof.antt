@@ -32,33 +32,33 @@ buttons c = told-found _ _ _ _ (c .buttons-read .given .1) (c .before .before .r
 
 returns : tie.Need-returns
 returns c =
-    let no = c .before .enum-told .given .1 in
-    no-counts-told (c .no-counts .result) _ _ (c .no-counts .ensures) no
-    ∙ terminals-refused _ _ _ (told-refused _ _ _ no (c .before .before .before .read-count .ensures))
+    let refusal = c .before .enum-told .given .1 in
+    no-counts-told (c .no-counts .result) _ _ (c .no-counts .ensures) refusal
+    ∙ terminals-refused _ _ _ (told-refused _ _ _ refusal (c .before .before .before .read-count .ensures))
 
 returns-2 : tie.Need-returns-2
 returns-2 c =
-    let no = c .before .enum-told2 .given .1 in
-    no-counts-told (c .no-counts2 .result) _ _ (c .no-counts2 .ensures) no
+    let refusal = c .before .enum-told2 .given .1 in
+    no-counts-told (c .no-counts2 .result) _ _ (c .no-counts2 .ensures) refusal
     ∙ relays-refused _ _ _ _ _ (terminals (c .before .before .before .before .before))
-    (told-refused _ _ _ no (c .before .before .before .read-count2 .ensures))
+    (told-refused _ _ _ refusal (c .before .before .before .read-count2 .ensures))
 
 returns-3 : tie.Need-returns-3
 returns-3 c =
-    let no = c .before .enum-told3 .given .1 in
+    let refusal = c .before .enum-told3 .given .1 in
     let r = c .before .before .before .before .before in
-    no-counts-told (c .no-counts3 .result) _ _ (c .no-counts3 .ensures) no
+    no-counts-told (c .no-counts3 .result) _ _ (c .no-counts3 .ensures) refusal
     ∙ buttons-refused _ _ _ _ _ (terminals (r .before .before .before .before)) _ _ (relays r)
-    (told-refused _ _ _ no (c .before .before .before .read-count3 .ensures))
+    (told-refused _ _ _ refusal (c .before .before .before .read-count3 .ensures))
 
 returns-4 : tie.Need-returns-4
 returns-4 c =
-    let no = c .before .enum-told4 .given .1 in
+    let refusal = c .before .enum-told4 .given .1 in
     let b = c .before .before .before .before .before in
     let r = b .before .before .before .before in
-    no-counts-told (c .no-counts4 .result) _ _ (c .no-counts4 .ensures) no
+    no-counts-told (c .no-counts4 .result) _ _ (c .no-counts4 .ensures) refusal
     ∙ parts-refused _ _ _ _ _ (terminals (r .before .before .before .before)) _ _ (relays r) _ _ (buttons b)
-    (told-refused _ _ _ no (c .before .before .before .read-count4 .ensures))
+    (told-refused _ _ _ refusal (c .before .before .before .read-count4 .ensures))
 
 cast-t17 : tie.Need-cast-t17
 cast-t17 c =
