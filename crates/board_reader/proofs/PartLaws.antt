@@ -13,7 +13,7 @@ use Rattle.number.specs.declared.Number.{Number}
 use Rattle.number.specs.declared.Number.the-variants.{Refused}
 use Rattle.number.specs.declared.Refusal.{Refusal}
 use Rattle.windings.specs.declared.WoundSoFar.{WoundSoFar}
-use Rattle.kinds.specs.Kinds.{kindOf}
+use Rattle.kinds.specs.Kinds.{buttonKind, lastKind, kindOf}
 use Rattle.windings.specs.Windings.{windingFree}
 use Rattle.board.specs.declared.Counts.{Counts}
 use Rattle.board.specs.declared.Part.{Part}
@@ -36,12 +36,12 @@ field-refused a b x r e h is =
     no-part-told a b (r .number) (r .place) e (h ∙ ap (λ (y : Number). placeOf (toldNumber y)) is)
 
 module _ (c : Counts) (w : WoundSoFar) (s : List ℕ) (at k p : ℕ) where
-  pub kind-refused : wanted (inRange 0 6) noSuchKind s at ≡ refused k p → refused k p ≡ partAt c w s at
+  pub kind-refused : wanted (inRange 0 lastKind) noSuchKind s at ≡ refused k p → refused k p ≡ partAt c w s at
   unfolding partAt
   kind-refused h = rw h
 
 module _ (c : Counts) (w : WoundSoFar) (s : List ℕ) (at kind ka : ℕ)
-    (kinds : wanted (inRange 0 6) noSuchKind s at ≡ found kind ka) where
+    (kinds : wanted (inRange 0 lastKind) noSuchKind s at ≡ found kind ka) where
   pub a-refused : (k p : ℕ) → wanted (terminalFine c) noSuchTerminal s ka ≡ refused k p → refused k p ≡ partAt c w s at
   unfolding partAt
   a-refused k p h = rw (kinds, h)
@@ -94,7 +94,7 @@ name-below c k s at v next m h relays buttons some = go (eqb k 0) h
         omega (
           arith,
           ltb-true v (limitOf c k) (wanted-found (λ n. ltb n (limitOf c k)) noSuchName s at v next e .0),
-          limit (eqb k 3),
+          limit (eqb k buttonKind),
         )
 
 -- the kind as it was made
