@@ -1,9 +1,8 @@
--- Laws of a board's file for those who write one and read it back: how long it is, that it is made of bytes, and what a
--- write answers.
-use mathlib.Core.Path.{_≡_, refl, sym, ap, ap₂, _∙_}
+-- Laws of a board's file for those who write one and read it back: how long it is, and what a write answers.
+use mathlib.Core.Path.{_≡_, refl, sym, ap, _∙_}
 use mathlib.Core.Bool.{Bool, true, false, cond, _||_}
 use mathlib.Core.List.{List, [], _∷_, _++_}
-use Prim.Native.Nat.{ℕ, zero, suc, _*_, _≤_, _<_}
+use Prim.Native.Nat.{ℕ, _*_, _≤_, _<_}
 use native.Mathlib.Omega.{arith}
 use borrow.Author.Tests.{ltb-true, leb-true, leb-false}
 use lib.Dec.{eqb, ltb, leb}
@@ -12,31 +11,27 @@ use lib.Seq.{take-all}
 use Rattle.number.proofs.OutcomeLaws.{refusal-equal}
 use Rattle.number.specs.Outcomes.{Outcome, given, refused}
 use Rattle.number.specs.Refusals.{brokenBoard, bufferTooShort}
-use Rattle.number.specs.Numbers.{Bytes, numberBytes}
-use Rattle.number.proofs.NumberLaws.{number-bytes-one, number-bytes-length-two, number-bytes-are-bytes}
+use Rattle.number.specs.Numbers.{numberBytes}
+use Rattle.number.proofs.NumberLaws.{number-bytes-one, number-bytes-length-two}
 use Rattle.kinds.specs.declared.Kind.{Kind}
-use Rattle.kinds.specs.Kinds.{kindNumber, nameOf}
+use Rattle.kinds.specs.Kinds.{kindNumber, nameOf, buttonKind}
 use Rattle.windings.specs.Windings.{noneWound}
 use Rattle.board.specs.declared.Part.{Part}
 use Rattle.board.specs.declared.Counts.{Counts}
 use Rattle.board.specs.declared.Board.{Board}
 use Rattle.board.specs.Parts.{partsOf}
-use Rattle.board.specs.Rules.{limitOf, nameFine, partFits, boardFine}
+use Rattle.board.specs.Rules.{mostRelays, limitOf, nameFine, partFits, boardFine}
 use Rattle.board.specs.Sorts.{partsFit}
-use Rattle.board.specs.Same.{sameBoard}
 use Rattle.bits.proofs.BoolLaws.{both-true, by-test}
 use Rattle.kinds.proofs.KindLaws.{kind-number-most}
 use Rattle.board.proofs.RuleLaws.{InRange, counts-in-range}
 use Rattle.board.proofs.WindingLaws.{fine-fit}
-use Rattle.board.proofs.SameLaws.{same-board-equal}
-use Rattle.board.proofs.FineLaws.{same-boards-fine}
 use Rattle.board_writer.specs.declared.Written.{Written}
-use Rattle.board_writer.specs.declared.Written.the-variants.{Bytes as Count, Refused}
+use Rattle.board_writer.specs.declared.Written.the-variants.{Bytes, Refused}
 use Rattle.board_writer.specs.File.{nameBytes, partBytes, partsBytes, countsBytes, boardBytes, longestFile}
 use Rattle.board_writer.specs.Writing.{writing, toldWritten, bytesWritten}
 use Rattle.board_writer.proofs.LengthLaws.{counts-bytes-sum, part-bytes-sum}
-use Rattle.board_writer.proofs.PieceLaws.{numbersBytes}
-use Rattle.board_writer.proofs.WriteLaws.{counts-numbers, part-numbers, namesOf, board-bytes-sum, writing-broken}
+use Rattle.board_writer.proofs.WriteLaws.{board-bytes-sum, writing-broken}
 use Rattle.board_writer.proofs.WriteLaws.{writing-short, writing-with-room}
 
 -- ---- how long a file is
@@ -58,19 +53,20 @@ counts-bytes-few c fit =
           (omega (arith, fit)),
     )
 
-limit-most : (c : Counts) (k : ℕ) → InRange c → limitOf c k ≤ 32
-limit-most c k fit = either (eqb k 3) (fit .most-buttons) (fit .most-relays)
+-- a name's limit is R or B, so what is below it is small
+pub limit-most : (c : Counts) (k : ℕ) → InRange c → limitOf c k ≤ mostRelays
+limit-most c k fit = by (eqb k buttonKind)
   where
-    either : (t : Bool) {m n : ℕ} → m ≤ 32 → n ≤ 32 → cond t m n ≤ 32
-    either true m n = m
-    either false m n = n
+    by : (t : Bool) → cond t (c .buttons) (c .relays) ≤ mostRelays
+    by true = fit .most-buttons
+    by false = fit .most-relays
 
 name-bytes-few : (c : Counts) (k : Kind) → InRange c → nameFine c k ≡ true → length (nameBytes k) ≤ 1
 unfolding nameFine nameBytes
 name-bytes-few c k fit fine =
     few (eqb (kindNumber k) 0) (nameOf k) (limitOf c (kindNumber k)) (limit-most c (kindNumber k) fit) fine
   where
-    few : (wire : Bool) (name limit : ℕ) → limit ≤ 32 → (wire || ltb name limit) ≡ true
+    few : (wire : Bool) (name limit : ℕ) → limit ≤ mostRelays → (wire || ltb name limit) ≡ true
         → length (cond wire [] (numberBytes name)) ≤ 1
     few true name limit most fine = omega arith
     few false name limit most fine = omega (arith, one-byte name (omega (arith, ltb-true name limit fine)))
@@ -85,7 +81,7 @@ part-fields c p fine =
     (ltb-true (p .a) (c .terminals) (terminals .0), ltb-true (p .b) (c .terminals) (terminals .1), names .1)
 
 -- a part of a fine board takes at most 4
-pub part-bytes-few : (c : Counts) (p : Part) → InRange c → partFits c p ≡ true → length (partBytes p) ≤ 4
+part-bytes-few : (c : Counts) (p : Part) → InRange c → partFits c p ≡ true → length (partBytes p) ≤ 4
 part-bytes-few c p fit fine =
     let fields = part-fields c p fine in
     omega (
@@ -123,38 +119,6 @@ board-file-bound b fine =
       parts-bytes-few (b .counts) (partsOf b) fit (fine-fit (b .counts) noneWound (partsOf b) (both .1)),
       length-take (b .counts .parts) (b .parts),
     )
-
--- ---- a file is made of bytes
-
-bytes-append : (xs ys : List ℕ) → Bytes xs → Bytes ys → Bytes (xs ++ ys)
-bytes-append [] ys h k i = k i
-bytes-append (x ∷ xs) ys h k zero = h 0
-bytes-append (x ∷ xs) ys h k (suc i) = bytes-append xs ys (λ j. h (suc j)) k i
-
-bytes-none : Bytes []
-bytes-none i = omega arith
-
-numbers-are-bytes : (vs : List ℕ) → Bytes (numbersBytes vs)
-unfolding numbersBytes
-numbers-are-bytes [] = bytes-none
-numbers-are-bytes (v ∷ vs) =
-    bytes-append (numberBytes v) (numbersBytes vs) (number-bytes-are-bytes v) (numbers-are-bytes vs)
-
-parts-bytes-are-bytes : (ps : List Part) → Bytes (partsBytes ps)
-unfolding partsBytes
-parts-bytes-are-bytes [] = bytes-none
-parts-bytes-are-bytes (p ∷ ps) =
-    bytes-append (partBytes p) (partsBytes ps)
-    (rw (part-numbers p) (numbers-are-bytes (kindNumber (p .kind) ∷ p .a ∷ p .b ∷ namesOf (p .kind))))
-    (parts-bytes-are-bytes ps)
-
-pub file-bytes-are-bytes : (b : Board) → Bytes (boardBytes b)
-unfolding boardBytes
-file-bytes-are-bytes b =
-    bytes-append (countsBytes (b .counts)) (partsBytes (partsOf b))
-    (rw (counts-numbers (b .counts))
-    (numbers-are-bytes (b .counts .terminals ∷ b .counts .relays ∷ b .counts .buttons ∷ b .counts .parts ∷ [])))
-    (parts-bytes-are-bytes (partsOf b))
 
 -- ---- what a write answers
 
@@ -245,25 +209,13 @@ writing-given b out n out′ is =
 -- whatever `write` answers, the bytes that it says were written begin the buffer, and the rest stays
 pub write-bytes : (b : Board) (out out′ : List ℕ) (w : Written) → _≡_ {A = Outcome ℕ × List ℕ} (toldWritten w, out′)
     (writing b out) → out′ ≡ take (bytesWritten w) (boardBytes b) ++ drop (bytesWritten w) out
-write-bytes b out out′ (Count n) wrote =
+write-bytes b out out′ (Bytes n) wrote =
     let was = writing-given b out n out′ (sym wrote) in
     was .begins ∙ ap (λ (l : List ℕ). l ++ drop n out) (sym (take-all n (boardBytes b) (omega (arith, was .count))))
 write-bytes b out out′ (Refused r) wrote = writing-refused b out (r .number) (r .place) out′ (sym wrote) .0
 
 pub told-written-injective : (x y : Written) → toldWritten x ≡ toldWritten y → x ≡ y
-told-written-injective (Count n) (Count m) e = cc
-told-written-injective (Count n) (Refused q) e = cc
-told-written-injective (Refused r) (Count m) e = cc
+told-written-injective (Bytes n) (Bytes m) e = cc
+told-written-injective (Bytes n) (Refused q) e = cc
+told-written-injective (Refused r) (Bytes m) e = cc
 told-written-injective (Refused r) (Refused q) e = ap Refused (refusal-equal r q (cc) (cc))
-
--- ---- boards that are the same are written the same
-
-pub same-boards-bytes : (x y : Board) → sameBoard x y ≡ true → boardBytes x ≡ boardBytes y
-unfolding boardBytes
-same-boards-bytes x y same =
-    let equal = same-board-equal x y same in
-    ap₂ (λ (c : Counts) (ps : List Part). countsBytes c ++ partsBytes ps) (equal .0) (equal .1)
-
-pub same-boards-written : (x y : Board) (out : List ℕ) → sameBoard x y ≡ true → writing x out ≡ writing y out
-unfolding writing
-same-boards-written x y out same = rw (same-boards-fine x y same, same-boards-bytes x y same)

@@ -19,13 +19,13 @@ abbrev size : ℕ → ℕ
 size v = length (numberBytes v)
 
 -- a wire carries no name, and every other kind one
-wire-name : (k : Kind) → kindNumber k ≡ 0 → nameBytes k ≡ []
+wire-bytes : (k : Kind) → kindNumber k ≡ 0 → nameBytes k ≡ []
 unfolding nameBytes
-wire-name k wire = rw (eq-eqb (kindNumber k) 0 wire)
+wire-bytes k wire = rw (eq-eqb (kindNumber k) 0 wire)
 
-other-name : (k : Kind) → (kindNumber k ≡ 0 → ⊥) → nameBytes k ≡ numberBytes (nameOf k)
+name-bytes : (k : Kind) → (kindNumber k ≡ 0 → ⊥) → nameBytes k ≡ numberBytes (nameOf k)
 unfolding nameBytes
-other-name k other = rw (ne-eqb (kindNumber k) 0 other)
+name-bytes k other = rw (ne-eqb (kindNumber k) 0 other)
 
 pub counts-bytes-sum : (c : Counts) → length (countsBytes c) ≡ length (numberBytes (c .terminals)) + length
     (numberBytes (c .relays)) + length (numberBytes (c .buttons)) + length (numberBytes (c .parts))
@@ -68,7 +68,7 @@ wire-length-is p {k} {a} {b} k≡ a≡ b≡ wire ek ea eb =
       number-bytes-length b,
       part-bytes-sum p,
       ap length
-          (wire-name (p .kind) (sym k≡ ∙ wire)),
+          (wire-bytes (p .kind) (sym k≡ ∙ wire)),
       ap size k≡,
       ap size a≡,
       ap size b≡,
@@ -88,7 +88,7 @@ part-length-is p {k} {a} {b} {n} k≡ a≡ b≡ n≡ other ek ea eb en =
       number-bytes-length b,
       number-bytes-length n,
       part-bytes-sum p,
-      ap length (other-name (p .kind) (λ z. other (k≡ ∙ z))),
+      ap length (name-bytes (p .kind) (λ z. other (k≡ ∙ z))),
       ap size k≡,
       ap size a≡,
       ap size

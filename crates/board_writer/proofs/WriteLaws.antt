@@ -22,7 +22,7 @@ use Rattle.kinds.specs.Kinds.{kindNumber, nameOf}
 use Rattle.board.specs.declared.Part.{Part}
 use Rattle.board.specs.declared.Counts.{Counts}
 use Rattle.board.specs.declared.Board.{Board}
-use Rattle.board.specs.Parts.{blank, partsOf}
+use Rattle.board.specs.Parts.{mostParts, blank, partsOf}
 use Rattle.board.specs.Rules.{boardFine}
 use Rattle.bits.proofs.BoolLaws.{both-true}
 use Rattle.board.proofs.RuleLaws.{InRange, counts-in-range}
@@ -59,7 +59,7 @@ module _ (v : ℕ) (out : List ℕ) (at : ℕ) {out′ : List ℕ} (x : NumberWr
 
 -- ---- counts and parts as rows of numbers
 
-pub counts-numbers : (c : Counts) → countsBytes c ≡ numbersBytes (c .terminals ∷ c .relays ∷ c .buttons ∷ c .parts ∷ [])
+counts-numbers : (c : Counts) → countsBytes c ≡ numbersBytes (c .terminals ∷ c .relays ∷ c .buttons ∷ c .parts ∷ [])
 unfolding countsBytes numbersBytes
 counts-numbers c = simp append-nil
 
@@ -75,7 +75,7 @@ names-bytes k = bytes-by (eqb (kindNumber k) 0) (nameOf k)
     bytes-by true name = refl
     bytes-by false name = sym (append-nil (numberBytes name))
 
-pub part-numbers : (p : Part) → partBytes p ≡ numbersBytes (kindNumber (p .kind) ∷ p .a ∷ p .b ∷ namesOf (p .kind))
+part-numbers : (p : Part) → partBytes p ≡ numbersBytes (kindNumber (p .kind) ∷ p .a ∷ p .b ∷ namesOf (p .kind))
 unfolding partBytes numbersBytes
 part-numbers p = rw names-bytes
 
@@ -162,12 +162,12 @@ module _ (b : Board) (out : List ℕ) {m n : ℕ} (fine : boardFine b ≡ true)
 
   module _ (room : m + n ≤ length out) where
     -- the counts have room, and then the parts behind them
-    pub counts-room : (b .counts .parts ≤ 256) × (length (countsBytes (b .counts)) ≤ length out)
+    pub counts-room : (b .counts .parts ≤ mostParts) × (length (countsBytes (b .counts)) ≤ length out)
     counts-room = (board-in-range b fine .most-parts, omega arith)
 
     module _ {at : ℕ} {out′ : List ℕ} (put : (at ≡ length (countsBytes (b .counts)))
         × (out′ ≡ sets out 0 (countsBytes (b .counts)))) where
-      pub parts-room : (b .counts .parts ≤ 256) × (at + length (partsBytes (partsOf b)) ≤ length out′)
+      pub parts-room : (b .counts .parts ≤ mostParts) × (at + length (partsBytes (partsOf b)) ≤ length out′)
       parts-room = (
         board-in-range b fine .most-parts,
         omega
