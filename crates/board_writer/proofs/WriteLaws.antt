@@ -79,14 +79,21 @@ part-numbers : (p : Part) → partBytes p ≡ numbersBytes (kindNumber (p .kind)
 unfolding partBytes numbersBytes
 part-numbers p = rw names-bytes
 
+-- of a board's counts, or of a part, the numbers vs are still to come
+abbrev pub CountsToCome : Counts → List ℕ → List ℕ → ℕ → List ℕ → Type 0
+CountsToCome c before out at vs = NumbersToCome before 0 (countsBytes c) out at vs
+
+abbrev pub PartToCome : Part → List ℕ → ℕ → List ℕ → ℕ → List ℕ → Type 0
+PartToCome p before start out at vs = NumbersToCome before start (partBytes p) out at vs
+
 -- where they have room, all of them are to come
 pub counts-to-come : (c : Counts) (out : List ℕ) → length (countsBytes c) ≤ length out
-    → NumbersToCome out 0 (countsBytes c) out 0 (c .terminals ∷ c .relays ∷ c .buttons ∷ c .parts ∷ [])
+    → CountsToCome c out out 0 (c .terminals ∷ c .relays ∷ c .buttons ∷ c .parts ∷ [])
 counts-to-come c out room =
     numbers-all (c .terminals ∷ c .relays ∷ c .buttons ∷ c .parts ∷ []) (counts-numbers c) (omega arith)
 
 pub part-to-come : (p : Part) (out : List ℕ) (at : ℕ) → at + length (partBytes p) ≤ length out
-    → NumbersToCome out at (partBytes p) out at (kindNumber (p .kind) ∷ p .a ∷ p .b ∷ namesOf (p .kind))
+    → PartToCome p out at out at (kindNumber (p .kind) ∷ p .a ∷ p .b ∷ namesOf (p .kind))
 part-to-come p out at room = numbers-all (kindNumber (p .kind) ∷ p .a ∷ p .b ∷ namesOf (p .kind)) (part-numbers p) room
 
 module _ {before all out : List ℕ} {start at : ℕ} (k : Kind) (t : NumbersToCome before start all out at (namesOf k))
