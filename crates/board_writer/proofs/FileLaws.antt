@@ -20,7 +20,7 @@ use Rattle.board.specs.declared.Part.{Part}
 use Rattle.board.specs.declared.Counts.{Counts}
 use Rattle.board.specs.declared.Board.{Board}
 use Rattle.board.specs.Parts.{partsOf}
-use Rattle.board.specs.Rules.{mostRelays, limitOf, nameFine, partFits, boardFine}
+use Rattle.board.specs.Rules.{mostRelays, terminalFine, endsFine, limitOf, nameFine, partFits, boardFine}
 use Rattle.board.specs.Sorts.{partsFit}
 use Rattle.bits.proofs.BoolLaws.{both-true, by-test}
 use Rattle.kinds.proofs.KindLaws.{kind-number-most}
@@ -71,26 +71,32 @@ name-bytes-few c k fit fine =
     few true name limit most fine = omega arith
     few false name limit most fine = omega (arith, one-byte name (omega (arith, ltb-true name limit fine)))
 
-part-fields : (c : Counts) (p : Part) → partFits c p ≡ true → (p .a < c .terminals) × (p .b < c .terminals)
-    × (nameFine c (p .kind) ≡ true)
+-- the rules of 5 to 7 that a part keeps, one by one
+pub record PartRules (c : Counts) (p : Part) : Type 0 where
+  pub a-below : terminalFine c (p .a) ≡ true
+  pub b-below : terminalFine c (p .b) ≡ true
+  pub apart : endsFine (p .a) (p .b) ≡ true
+  pub named : nameFine c (p .kind) ≡ true
+
+pub part-rules : (c : Counts) (p : Part) → partFits c p ≡ true → PartRules c p
 unfolding partFits
-part-fields c p fine =
-    let names = both-true _ _ fine in
-    let ends = both-true _ _ (names .0) in
-    let terminals = both-true _ _ (ends .0) in
-    (ltb-true (p .a) (c .terminals) (terminals .0), ltb-true (p .b) (c .terminals) (terminals .1), names .1)
+part-rules c p fits =
+    let named = both-true _ _ fits in
+    let apart = both-true _ _ (named .0) in
+    let below = both-true _ _ (apart .0) in
+    record { a-below = below .0; b-below = below .1; apart = apart .1; named = named .1 }
 
 -- a part of a fine board takes at most 4
 part-bytes-few : (c : Counts) (p : Part) → InRange c → partFits c p ≡ true → length (partBytes p) ≤ 4
 part-bytes-few c p fit fine =
-    let fields = part-fields c p fine in
+    let rules = part-rules c p fine in
     omega (
       arith,
       part-bytes-sum p,
       one-byte (kindNumber (p .kind)) (omega (arith, kind-number-most (p .kind))),
-      one-byte (p .a) (omega (arith, fit, fields)),
-      one-byte (p .b) (omega (arith, fit, fields)),
-      name-bytes-few c (p .kind) fit (fields .2),
+      one-byte (p .a) (omega (arith, fit, ltb-true (p .a) (c .terminals) (rules .a-below))),
+      one-byte (p .b) (omega (arith, fit, ltb-true (p .b) (c .terminals) (rules .b-below))),
+      name-bytes-few c (p .kind) fit (rules .named),
     )
 
 parts-bytes-few : (c : Counts) (ps : List Part) → InRange c → partsFit c ps ≡ true
@@ -204,8 +210,6 @@ writing-given b out n out′ is =
       begins = same .1 ∙ ap (λ (k : ℕ). boardBytes b ++ drop k out) (sym (same .0));
     }
 
--- ---- an answer is known by what it tells
-
 -- whatever `write` answers, the bytes that it says were written begin the buffer, and the rest stays
 pub write-bytes : (b : Board) (out out′ : List ℕ) (w : Written) → _≡_ {A = Outcome ℕ × List ℕ} (toldWritten w, out′)
     (writing b out) → out′ ≡ take (bytesWritten w) (boardBytes b) ++ drop (bytesWritten w) out
@@ -214,6 +218,7 @@ write-bytes b out out′ (Bytes n) wrote =
     was .begins ∙ ap (λ (l : List ℕ). l ++ drop n out) (sym (take-all n (boardBytes b) (omega (arith, was .count))))
 write-bytes b out out′ (Refused r) wrote = writing-refused b out (r .number) (r .place) out′ (sym wrote) .0
 
+-- an answer is known by what it tells
 pub told-written-injective : (x y : Written) → toldWritten x ≡ toldWritten y → x ≡ y
 told-written-injective (Bytes n) (Bytes m) e = cc
 told-written-injective (Bytes n) (Refused q) e = cc
