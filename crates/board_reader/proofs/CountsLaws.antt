@@ -55,7 +55,8 @@ module _ (s : List ℕ) (k p : ℕ) where
         parts-refused c = rw (terminals, relays, buttons, c)
 
 pub counts-read : (s : List ℕ) (t rt r rb b rc c next : ℕ) → countAt leastTerminals mostTerminals s 0 ≡ found t rt
-    → countAt 0 mostRelays s rt ≡ found r rb → countAt 0 mostButtons s rb ≡ found b rc → countAt 0 mostParts s rc ≡ found c next
+    → countAt 0 mostRelays s rt ≡ found r rb → countAt 0 mostButtons s rb ≡ found b rc
+    → countAt 0 mostParts s rc ≡ found c next
     → found (record { terminals = t; relays = r; buttons = b; parts = c }) next ≡ countsAt s
 unfolding countsAt
 counts-read s t rt r rb b rc c next terminals relays buttons parts = rw (terminals, relays, buttons, parts)

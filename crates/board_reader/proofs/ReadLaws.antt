@@ -23,7 +23,8 @@ module _ (s : List ℕ) where
   unfolding reading
   reading-board short = rw (le-leb (length s) longestInput short)
 
-  pub reading-stopped : (k p : ℕ) → length s ≤ longestInput → countsAt s ≡ refused k p → answered (refused k p) ≡ reading s
+  pub reading-stopped : (k p : ℕ) → length s ≤ longestInput → countsAt s ≡ refused k p
+      → answered (refused k p) ≡ reading s
   unfolding boardAt
   reading-stopped k p short h =
       let stopped : refused k p ≡ boardAt s = rw h in

@@ -100,7 +100,8 @@ fn read_part(s: &[u8], at: usize, counts: Counts, windings: WoundSoFar) -> PartR
 // The parts from a place on, and with them the board.
 pub fn read_parts(s: &[u8], start: usize, counts: Counts) -> BoardRead
     requires { ⌜ counts .parts ≤ mostParts ⌝ }
-    ensures { λ r. ⌜ toldBoardRead r ≡ answered (boardFrom counts (partsAt counts (counts .parts) noneWound (now (s .entry)) start)) ⌝ }
+    ensures { λ r. ⌜ toldBoardRead r
+        ≡ answered (boardFrom counts (partsAt counts (counts .parts) noneWound (now (s .entry)) start)) ⌝ }
 {
     let filler = board::blank();
     let mut parts = [filler; 256];

@@ -25,7 +25,7 @@ use Rattle.board_reader.specs.Reading.{wanted, nameAt, partAt}
 use Rattle.board_reader.proofs.FieldLaws.{range-within, range-bounds}
 use Rattle.board_reader.proofs.PartLaws.{part-as, part-found}
 use Rattle.board_writer.specs.File.{nameBytes, partBytes}
-use Rattle.board_writer.proofs.FileLaws.{limit-most, PartRules, part-rules}
+use Rattle.board_writer.proofs.FileLaws.{limit-most, part-rules}
 use Rattle.file_means.proofs.StandLaws.{StandsTo, stands-none, stands-append, stands-first, stands-second}
 use Rattle.file_means.proofs.StandLaws.{number-stands, wanted-reads}
 use Rattle.file_means.proofs.GivesLaws.{Gives, gives-then, gives-unless, wanted-gives, wanted-then}
@@ -58,7 +58,8 @@ name-reads c k s at next range = by (eqb (kindNumber k) 0) refl
 terminal-reads : (c : Counts) (s : List ℕ) (at next v : ℕ) → InRange c → terminalFine c v ≡ true
     → StandsTo s at next (numberBytes v) → wanted (terminalFine c) noSuchTerminal s at ≡ found v next
 terminal-reads c s at next v range below =
-    wanted-reads (terminalFine c) noSuchTerminal s at next v (omega (arith, ltb-true v (c .terminals) below, range .most-terminals)) below
+    wanted-reads (terminalFine c) noSuchTerminal s at next v
+    (omega (arith, ltb-true v (c .terminals) below, range .most-terminals)) below
 
 pub part-reads : (c : Counts) (w : WoundSoFar) (p : Part) (s : List ℕ) (at next : ℕ) → InRange c
     → partFine c w p ≡ true → StandsTo s at next (partBytes p) → partAt c w s at ≡ found p next
@@ -80,8 +81,12 @@ part-reads c w p s at next range fine here =
     let kinds =
     wanted-reads (inRange 0 lastKind) noSuchKind s at ka k (omega arith) (range-within 0 lastKind k (omega arith) most)
     (stands-first s at next (numberBytes k) after-kind here) in
-    let as-a = terminal-reads c s ka ab (p .a) range (rules .a-below) (stands-first s ka next (numberBytes (p .a)) after-a from-a) in
-    let as-b = terminal-reads c s ab bn (p .b) range (rules .b-below) (stands-first s ab next (numberBytes (p .b)) after-b from-b) in
+    let as-a =
+    terminal-reads c s ka ab (p .a) range (rules .a-below)
+    (stands-first s ka next (numberBytes (p .a)) after-a from-a) in
+    let as-b =
+    terminal-reads c s ab bn (p .b) range (rules .b-below)
+    (stands-first s ab next (numberBytes (p .b)) after-b from-b) in
     let names = name-reads c (p .kind) s bn next range (rules .named) from-name in
     let same = kind-of-parts (p .kind) in
     sym (part-found c w s at k ka kinds (p .a) ab as-a (p .b) bn as-b (eqb-false _ _ (not-true _ (rules .apart)))

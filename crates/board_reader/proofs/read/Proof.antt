@@ -13,7 +13,8 @@ use Rattle.board_reader.proofs.ReadLaws.{reading-long, reading-stopped,
 
 -- the counts that were found
 counts : (c : tie.After-answer) → let called = c .before .before in
-    countsAt (called .before .before .before .args .s .now) ≡ found (called .read-counts .result .counts) (c .answer .given .0 .0)
+    countsAt (called .before .before .before .args .s .now)
+    ≡ found (called .read-counts .result .counts) (c .answer .given .0 .0)
 counts c = answer-went _ _ _ (c .before .before .read-counts .ensures) _ (c .answer .given .1)
 
 returns : tie.Need-returns

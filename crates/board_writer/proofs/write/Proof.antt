@@ -19,7 +19,8 @@ fine e = sym (e .before .check .ensures) ∙ not-false _ (e .if1 .left)
 
 returns : tie.Need-returns
 returns c =
-    writing-broken _ _ (sym (c .before .before .check .ensures) ∙ not-true _ (c .before .if1 .taken)) (c .refuse .ensures)
+    writing-broken _ _ (sym (c .before .before .check .ensures) ∙ not-true _ (c .before .if1 .taken))
+    (c .refuse .ensures)
 
 counts-length-requires : tie.Need-counts-length-requires
 counts-length-requires c κs = board-in-range _ (fine (c .before .before)) .most-parts

@@ -7,7 +7,6 @@ use Prim.Native.Nat.{ℕ}
 use native.Mathlib.Omega.{arith}
 use mathlib.Core.List.{List}
 use mathlib.Core.Path.{_≡_, _∙_}
-use Rattle.board.specs.Parts.{mostParts}
 use Rattle.board.specs.Rules.{leastTerminals, mostTerminals, mostRelays, mostButtons}
 use Rattle.board_reader.proofs.FieldLaws.{bound, told-found, told-refused}
 use Rattle.board_reader.proofs.CountsLaws.{countAt, no-counts-told, count-most, terminals-refused}

@@ -21,7 +21,8 @@ abbrev entry : tie.After-kind-read → tie.Start
 entry k = k .before .before .before .before
 
 kind : (k : tie.After-kind-read)
-    → wanted (inRange 0 lastKind) noSuchKind (entry k .args .s .now) (entry k .args .at) ≡ bound (k .kind-read .given .0)
+    → wanted (inRange 0 lastKind) noSuchKind (entry k .args .s .now) (entry k .args .at)
+    ≡ bound (k .kind-read .given .0)
 kind k = told-found _ _ _ _ (k .kind-read .given .1) (k .before .before .read-within .ensures)
 
 first-end : (a : tie.After-a-read) → let k = a .before .before .before .before in

@@ -10,7 +10,8 @@ use borrow.Author.Tests.{not-true, not-false}
 use lib.ListN.{length, length-set}
 use Rattle.board.specs.Parts.{mostParts}
 use Rattle.board_reader.proofs.PartsLaws.{Walk, walk-start, walk-on, walk-refused, walk-lacking, walk-end}
-use Rattle.board_reader.proofs.PartsLaws.{answer-stopped, answer-went, answer-refused, board-refused, board-found}
+use Rattle.board_reader.proofs.PartsLaws.{answer-stopped, answer-went, answer-refused, board-refused}
+use Rattle.board_reader.proofs.PartsLaws.{board-found}
 use Rattle.board_reader.specs.Reading.{answered, toldReadAnswer}
 
 abbrev Inv-loop : tie.InvT-loop

@@ -12,8 +12,8 @@ use Rattle.board_writer.proofs.WriteLaws.{part-room, part-put, parts-do
 
 abbrev Inv-loop : tie.InvT-loop
 Inv-loop count out₀ start parts at₀ i₀ out at i =
-    (count ≤ mostParts) × (length parts ≡ mostParts) × (i ≤ count) × ToCome out₀ start (partsBytes (take count parts)) out at
-    (partsBytes (drop i (take count parts)))
+    (count ≤ mostParts) × (length parts ≡ mostParts) × (i ≤ count)
+    × ToCome out₀ start (partsBytes (take count parts)) out at (partsBytes (drop i (take count parts)))
 
 abbrev μ-loop : tie.MeasureT-loop
 μ-loop count out₀ start parts at₀ i₀ out at i = count - i
