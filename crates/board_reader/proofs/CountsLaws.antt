@@ -20,11 +20,6 @@ use Rattle.board_reader.specs.declared.counts.CountsRead.{CountsRead}
 use Rattle.number.proofs.OutcomeLaws.{given-injective, handed}
 use Rattle.board_reader.proofs.FieldLaws.{wanted-found, range-bounds}
 
--- a refused count as the answer on all four
-pub no-counts-told : (a : CountsRead) (x : Number) (r : Refusal) → toldReadAnswer (a .answer) ≡ placeOf
-    (toldNumber x) → x ≡ Refused r → toldCountsRead a ≡ refused (r .number) (r .place)
-no-counts-told a x r h e = ap (foundAt (a .counts)) (h ∙ ap (λ (y : Number). placeOf (toldNumber y)) e)
-
 -- a count that was found is at most its limit
 pub count-most : (low high : ℕ) (s : List ℕ) (at v next : ℕ) → wanted (inRange low high) outOfRange s at ≡ found v
     next → v ≤ high

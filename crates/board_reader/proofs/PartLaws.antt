@@ -25,15 +25,10 @@ use Rattle.board_reader.specs.declared.parts.PartRead.{PartRead}
 use Rattle.number.proofs.NumberLaws.{found-value}
 use Rattle.board_reader.proofs.FieldLaws.{wanted-found}
 
--- a refused part as the answer of its field or its rule
+-- a refused part as the answer of its rule
 pub no-part-told : (a : PartRead) (b : ReadAnswer) (k p : ℕ) → a .answer ≡ b → toldReadAnswer b ≡ refused k p
     → toldPartRead a ≡ refused k p
 no-part-told a b k p e h = ap (foundAt (a .part)) (ap toldReadAnswer e ∙ h)
-
-pub field-refused : (a : PartRead) (b : ReadAnswer) (x : Number) (r : Refusal) → a .answer ≡ b
-    → toldReadAnswer b ≡ placeOf (toldNumber x) → x ≡ Refused r → toldPartRead a ≡ refused (r .number) (r .place)
-field-refused a b x r e h is =
-    no-part-told a b (r .number) (r .place) e (h ∙ ap (λ (y : Number). placeOf (toldNumber y)) is)
 
 module _ (c : Counts) (w : WoundSoFar) (s : List ℕ) (at k p : ℕ) where
   pub kind-refused : wanted (inRange 0 lastKind) noSuchKind s at ≡ refused k p → refused k p ≡ partAt c w s at

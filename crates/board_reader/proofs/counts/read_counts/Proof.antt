@@ -8,8 +8,8 @@ use native.Mathlib.Omega.{arith}
 use mathlib.Core.List.{List}
 use mathlib.Core.Path.{_≡_, _∙_}
 use Rattle.board.specs.Rules.{leastTerminals, mostTerminals, mostRelays, mostButtons}
-use Rattle.board_reader.proofs.FieldLaws.{bound, told-found, told-refused}
-use Rattle.board_reader.proofs.CountsLaws.{countAt, no-counts-told, count-most, terminals-refused}
+use Rattle.board_reader.proofs.FieldLaws.{bound, told-found, told-refused, number-stopped}
+use Rattle.board_reader.proofs.CountsLaws.{countAt, count-most, terminals-refused}
 use Rattle.board_reader.proofs.CountsLaws.{relays-refused, buttons-refused, parts-refused, counts-read}
 
 -- the counts that were found, each where the one before it ends
@@ -32,13 +32,13 @@ buttons c = told-found _ _ _ _ (c .buttons-read .given .1) (c .before .before .r
 returns : tie.Need-returns
 returns c =
     let refusal = c .before .enum-told .given .1 in
-    no-counts-told (c .no-counts .result) _ _ (c .no-counts .ensures) refusal
+    number-stopped (c .no-counts .result .counts) (c .no-counts .result .answer) _ _ (c .no-counts .ensures) refusal
     ∙ terminals-refused _ _ _ (told-refused _ _ _ refusal (c .before .before .before .read-count .ensures))
 
 returns-2 : tie.Need-returns-2
 returns-2 c =
     let refusal = c .before .enum-told2 .given .1 in
-    no-counts-told (c .no-counts2 .result) _ _ (c .no-counts2 .ensures) refusal
+    number-stopped (c .no-counts2 .result .counts) (c .no-counts2 .result .answer) _ _ (c .no-counts2 .ensures) refusal
     ∙ relays-refused _ _ _ _ _ (terminals (c .before .before .before .before .before))
     (told-refused _ _ _ refusal (c .before .before .before .read-count2 .ensures))
 
@@ -46,7 +46,7 @@ returns-3 : tie.Need-returns-3
 returns-3 c =
     let refusal = c .before .enum-told3 .given .1 in
     let r = c .before .before .before .before .before in
-    no-counts-told (c .no-counts3 .result) _ _ (c .no-counts3 .ensures) refusal
+    number-stopped (c .no-counts3 .result .counts) (c .no-counts3 .result .answer) _ _ (c .no-counts3 .ensures) refusal
     ∙ buttons-refused _ _ _ _ _ (terminals (r .before .before .before .before)) _ _ (relays r)
     (told-refused _ _ _ refusal (c .before .before .before .read-count3 .ensures))
 
@@ -55,7 +55,7 @@ returns-4 c =
     let refusal = c .before .enum-told4 .given .1 in
     let b = c .before .before .before .before .before in
     let r = b .before .before .before .before in
-    no-counts-told (c .no-counts4 .result) _ _ (c .no-counts4 .ensures) refusal
+    number-stopped (c .no-counts4 .result .counts) (c .no-counts4 .result .answer) _ _ (c .no-counts4 .ensures) refusal
     ∙ parts-refused _ _ _ _ _ (terminals (r .before .before .before .before)) _ _ (relays r) _ _ (buttons b)
     (told-refused _ _ _ refusal (c .before .before .before .read-count4 .ensures))
 

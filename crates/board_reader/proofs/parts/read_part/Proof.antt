@@ -11,8 +11,8 @@ use Rattle.kinds.specs.Kinds.{lastKind}
 use Rattle.windings.specs.Windings.{windingFree}
 use Rattle.board.specs.Rules.{inRange, terminalFine}
 use Rattle.board_reader.specs.Reading.{wanted, nameAt}
-use Rattle.board_reader.proofs.FieldLaws.{bound, told-found, told-refused}
-use Rattle.board_reader.proofs.PartLaws.{part-as, no-part-told, field-refused, kind-refused, a-refused}
+use Rattle.board_reader.proofs.FieldLaws.{bound, told-found, told-refused, number-stopped}
+use Rattle.board_reader.proofs.PartLaws.{part-as, no-part-told, kind-refused, a-refused}
 use Rattle.board_reader.proofs.PartLaws.{b-refused, ends-equal, name-refused, winding-refused, part-found}
 use Rattle.board_reader.proofs.PartLaws.{terminal-below, name-below}
 
@@ -44,42 +44,42 @@ name n = told-found _ _ _ _ (n .name-read .given .1) (n .before .before .read-na
 
 returns : tie.Need-returns
 returns c =
-    let refusal = c .before .before .enum-told .given .1 in
-    field-refused (c .no-part .result) _ _ _ (c .no-part .ensures) (c .before .place-of .ensures) refusal
-    ∙ kind-refused _ _ _ _ _ _ (told-refused _ _ _ refusal (c .before .before .before .before .read-within .ensures))
+    let refusal = c .before .enum-told .given .1 in
+    number-stopped (c .no-field .result .part) (c .no-field .result .answer) _ _ (c .no-field .ensures) refusal
+    ∙ kind-refused _ _ _ _ _ _ (told-refused _ _ _ refusal (c .before .before .before .read-within .ensures))
 
 returns-2 : tie.Need-returns-2
 returns-2 c =
-    let refusal = c .before .before .enum-told2 .given .1 in
-    field-refused (c .no-part2 .result) _ _ _ (c .no-part2 .ensures) (c .before .place-of2 .ensures) refusal
-    ∙ a-refused _ _ _ _ _ _ (kind (c .before .before .before .before .before .before)) _ _
-    (told-refused _ _ _ refusal (c .before .before .before .before .read-terminal .ensures))
+    let refusal = c .before .enum-told2 .given .1 in
+    number-stopped (c .no-field2 .result .part) (c .no-field2 .result .answer) _ _ (c .no-field2 .ensures) refusal
+    ∙ a-refused _ _ _ _ _ _ (kind (c .before .before .before .before .before)) _ _
+    (told-refused _ _ _ refusal (c .before .before .before .read-terminal .ensures))
 
 returns-3 : tie.Need-returns-3
 returns-3 c =
-    let refusal = c .before .before .enum-told3 .given .1 in
-    let a = c .before .before .before .before .before .before in
-    field-refused (c .no-part3 .result) _ _ _ (c .no-part3 .ensures) (c .before .place-of3 .ensures) refusal
+    let refusal = c .before .enum-told3 .given .1 in
+    let a = c .before .before .before .before .before in
+    number-stopped (c .no-field3 .result .part) (c .no-field3 .result .answer) _ _ (c .no-field3 .ensures) refusal
     ∙ b-refused _ _ _ _ _ _ (kind (a .before .before .before .before)) _ _ (first-end a) _ _
-    (told-refused _ _ _ refusal (c .before .before .before .before .read-terminal2 .ensures))
+    (told-refused _ _ _ refusal (c .before .before .before .read-terminal2 .ensures))
 
 returns-4 : tie.Need-returns-4
 returns-4 c =
     let b = c .before .before .before .before in
     let a = b .before .before .before .before in
-    no-part-told (c .no-part4 .result) _ _ _ (c .no-part4 .ensures) (c .before .refuse .ensures)
+    no-part-told (c .no-part .result) _ _ _ (c .no-part .ensures) (c .before .refuse .ensures)
     ∙ ends-equal _ _ _ _ _ _ (kind (a .before .before .before .before)) _ _ (first-end a) _ _ (second-end b)
     (c .before .before .if1 .taken)
 
 returns-5 : tie.Need-returns-5
 returns-5 c =
-    let refusal = c .before .before .enum-told4 .given .1 in
-    let apart = c .before .before .before .before .before in
+    let refusal = c .before .enum-told4 .given .1 in
+    let apart = c .before .before .before .before in
     let b = apart .before .before in
     let a = b .before .before .before .before in
-    field-refused (c .no-part5 .result) _ _ _ (c .no-part5 .ensures) (c .before .place-of4 .ensures) refusal
+    number-stopped (c .no-field4 .result .part) (c .no-field4 .result .answer) _ _ (c .no-field4 .ensures) refusal
     ∙ name-refused _ _ _ _ _ _ (kind (a .before .before .before .before)) _ _ (first-end a) _ _ (second-end b)
-    (apart .if1 .left) _ _ (told-refused _ _ _ refusal (c .before .before .before .before .read-name .ensures))
+    (apart .if1 .left) _ _ (told-refused _ _ _ refusal (c .before .before .before .read-name .ensures))
 
 cast-of : tie.Need-cast-of
 cast-of c =
@@ -97,21 +97,21 @@ returns-6 c =
     let apart = n .before .before .before in
     let b = apart .before .before in
     let a = b .before .before .before .before in
-    no-part-told (c .no-part6 .result) _ _ _ (c .no-part6 .ensures) (c .before .refuse2 .ensures)
+    no-part-told (c .no-part2 .result) _ _ _ (c .no-part2 .ensures) (c .before .refuse2 .ensures)
     ∙ winding-refused _ _ _ _ _ _ (kind (a .before .before .before .before)) _ _ (first-end a) _ _ (second-end b)
     (apart .if1 .left) _ _ (name n)
     (ap (windingFree _) (sym (c .before .before .before .before .of .ensures))
     ∙ sym (c .before .before .before .free .ensures) ∙ not-true _ (c .before .before .if2 .taken))
 
-cast-t25 : tie.Need-cast-t25
-cast-t25 c =
+cast-t21 : tie.Need-cast-t21
+cast-t21 c =
     let b = c .before .before .before .before .before .before .before .before .before in
     let a = b .before .before .before .before in
     let start = entry (a .before .before .before .before) in
     omega (arith, terminal-below (start .args .counts) _ _ _ _ (first-end a), start .good .1 .1 .0 .1 .1 .0 .1)
 
-cast-t28 : tie.Need-cast-t28
-cast-t28 c =
+cast-t24 : tie.Need-cast-t24
+cast-t24 c =
     let b = c .before .before .before .before .before .before .before .before .before in
     let start = entry (b .before .before .before .before .before .before .before .before) in
     omega (arith, terminal-below (start .args .counts) _ _ _ _ (second-end b), start .good .1 .1 .0 .1 .1 .0 .1)
@@ -136,18 +136,15 @@ read-part-spec =
     (λ c. search needs)
     (λ c. search needs)
     (λ c κs. search needs)
-    (λ c κs. search needs)
     returns
     (λ c κs. search needs)
     (λ c. search needs)
     (λ c. search needs)
     (λ c κs. search needs)
-    (λ c κs. search needs)
     returns-2
     (λ c κs. search needs)
     (λ c. search needs)
     (λ c. search needs)
-    (λ c κs. search needs)
     (λ c κs. search needs)
     returns-3
     (λ c κs. search needs)
@@ -157,7 +154,6 @@ read-part-spec =
     (λ c. search needs)
     (λ c. search needs)
     (λ c κs. search needs)
-    (λ c κs. search needs)
     returns-5
     cast-of
     (λ c κs. search needs)
@@ -165,6 +161,6 @@ read-part-spec =
     (λ c κs. search needs)
     (λ c κs. search needs)
     returns-6
-    cast-t25
-    cast-t28
+    cast-t21
+    cast-t24
     returns-7)
