@@ -45,8 +45,11 @@ name n = told-found _ _ _ _ (n .name-read .given .1) (n .before .before .read-na
 returns : tie.Need-returns
 returns c =
     let refusal = c .before .enum-told .given .1 in
+    let args = c .before .before .before .before .before .args in
     number-stopped (c .no-field .result .part) (c .no-field .result .answer) _ _ (c .no-field .ensures) refusal
-    ∙ kind-refused _ _ _ _ _ _ (told-refused _ _ _ refusal (c .before .before .before .read-within .ensures))
+    ∙ kind-refused _ _ _ _ _ _
+    (told-refused (wanted (inRange 0 lastKind) noSuchKind (args .s .now) (args .at)) _ _ refusal
+    (c .before .before .before .read-within .ensures))
 
 returns-2 : tie.Need-returns-2
 returns-2 c =
