@@ -6,28 +6,22 @@ use mathlib.Core.Bool.{true}
 use mathlib.Core.List.{List}
 use Rattle.number.specs.Outcomes.{Outcome, refused, Found, found}
 use Rattle.number.specs.Refusals.{outOfRange}
-use Rattle.number.specs.Numbers.{toldNumber}
-use Rattle.number.specs.declared.Number.{Number}
-use Rattle.number.specs.declared.Number.the-variants.{Refused}
-use Rattle.number.specs.declared.Refusal.{Refusal}
 use Rattle.board.specs.declared.Counts.{Counts}
 use Rattle.board.specs.Parts.{mostParts}
 use Rattle.board.specs.Rules.{leastTerminals, mostTerminals, mostRelays, mostButtons, inRange, countsFine}
 use Rattle.bits.proofs.BoolLaws.{true-both}
-use Rattle.board_reader.specs.Reading.{wanted, countsAt, toldReadAnswer}
-use Rattle.board_reader.specs.Steps.{foundAt, placeOf, toldCountsRead}
-use Rattle.board_reader.specs.declared.counts.CountsRead.{CountsRead}
+use Rattle.board_reader.specs.Reading.{wanted, countsAt}
 use Rattle.number.proofs.OutcomeLaws.{given-injective, handed}
 use Rattle.board_reader.proofs.FieldLaws.{wanted-found, range-bounds}
 
--- a count that was found is at most its limit
-pub count-most : (low high : ℕ) (s : List ℕ) (at v next : ℕ) → wanted (inRange low high) outOfRange s at ≡ found v
-    next → v ≤ high
-count-most low high s at v next h =
-    range-bounds low high v (wanted-found (inRange low high) outOfRange s at v next h .0) .1
-
+-- a count at a place, from low to high
 abbrev pub countAt : ℕ → ℕ → List ℕ → ℕ → Outcome (Found ℕ)
 countAt low high = wanted (inRange low high) outOfRange
+
+-- a count that was found is at most its limit
+pub count-most : (low high : ℕ) (s : List ℕ) (at v next : ℕ) → countAt low high s at ≡ found v next → v ≤ high
+count-most low high s at v next h =
+    range-bounds low high v (wanted-found (inRange low high) outOfRange s at v next h .0) .1
 
 module _ (s : List ℕ) (k p : ℕ) where
   pub terminals-refused : countAt leastTerminals mostTerminals s 0 ≡ refused k p → refused k p ≡ countsAt s

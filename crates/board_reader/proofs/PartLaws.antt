@@ -8,10 +8,6 @@ use lib.Dec.{ltb, eqb}
 use borrow.Author.Tests.{eq-eqb, ne-eqb, ltb-true}
 use Rattle.number.specs.Outcomes.{refused, found}
 use Rattle.number.specs.Refusals.{noSuchKind, noSuchTerminal, endsEqual, noSuchName, windingTaken}
-use Rattle.number.specs.Numbers.{toldNumber}
-use Rattle.number.specs.declared.Number.{Number}
-use Rattle.number.specs.declared.Number.the-variants.{Refused}
-use Rattle.number.specs.declared.Refusal.{Refusal}
 use Rattle.windings.specs.declared.WoundSoFar.{WoundSoFar}
 use Rattle.kinds.specs.Kinds.{buttonKind, lastKind, kindOf}
 use Rattle.windings.specs.Windings.{windingFree}
@@ -19,7 +15,7 @@ use Rattle.board.specs.declared.Counts.{Counts}
 use Rattle.board.specs.declared.Part.{Part}
 use Rattle.board.specs.Rules.{inRange, terminalFine, limitOf}
 use Rattle.board_reader.specs.Reading.{wanted, nameAt, partAt, toldReadAnswer}
-use Rattle.board_reader.specs.Steps.{foundAt, placeOf, toldPartRead}
+use Rattle.board_reader.specs.Steps.{foundAt, toldPartRead}
 use Rattle.board_reader.specs.declared.ReadAnswer.{ReadAnswer}
 use Rattle.board_reader.specs.declared.parts.PartRead.{PartRead}
 use Rattle.number.proofs.NumberLaws.{found-value}

@@ -8,7 +8,7 @@ use borrow.Author.Tests.{ltb-true, leb-true, leb-false}
 use lib.Dec.{eqb, ltb, leb}
 use lib.ListN.{length, take, drop, length-append, length-take}
 use lib.Seq.{take-all}
-use Rattle.number.proofs.OutcomeLaws.{refusal-equal}
+use Rattle.number.proofs.OutcomeLaws.{refusal-equal, given-injective, refused-never}
 use Rattle.number.specs.Outcomes.{Outcome, given, refused}
 use Rattle.number.specs.Refusals.{brokenBoard, bufferTooShort}
 use Rattle.number.specs.Numbers.{numberBytes}
@@ -46,11 +46,9 @@ counts-bytes-few c fit =
       arith,
       counts-bytes-sum c,
       one-byte (c .terminals) (omega (arith, fit)),
-      one-byte (c .relays)
-          (omega (arith, fit)),
+      one-byte (c .relays) (omega (arith, fit)),
       one-byte (c .buttons) (omega (arith, fit)),
-      number-bytes-length-two (c .parts)
-          (omega (arith, fit)),
+      number-bytes-length-two (c .parts) (omega (arith, fit)),
     )
 
 -- a name's limit is R or B, so what is below it is small
@@ -109,8 +107,7 @@ parts-bytes-few c (p ∷ ps) fit fine =
       arith,
       length-append (partBytes p) (partsBytes ps),
       part-bytes-few c p fit (both .0),
-      parts-bytes-few c
-          ps fit (both .1),
+      parts-bytes-few c ps fit (both .1),
     )
 
 pub board-file-bound : (b : Board) → boardFine b ≡ true → length (boardBytes b) ≤ longestFile
@@ -144,14 +141,10 @@ abbrev buffer : Answered → List ℕ
 buffer x = x .1
 
 given-never-refused : (m n p : ℕ) (l l′ : List ℕ) → _≡_ {A = Answered} (given m, l) (refused n p, l′) → ⊥
-given-never-refused m n p l l′ is =
-    let same : given m ≡ refused n p = ap answer is in
-    let z : _≡_ {A = ℕ} 0 1 = cc in omega arith
+given-never-refused m n p l l′ is = refused-never n p m (sym (ap answer is))
 
 given-alike : (m n : ℕ) (l l′ : List ℕ) → _≡_ {A = Answered} (given m, l) (given n, l′) → (n ≡ m) × (l′ ≡ l)
-given-alike m n l l′ is =
-    let same : given m ≡ given n = ap answer is in
-    (cc, sym (ap buffer is))
+given-alike m n l l′ is = (sym (given-injective m n (ap answer is)), sym (ap buffer is))
 
 refused-alike : (m n p : ℕ) (l l′ : List ℕ) → _≡_ {A = Answered} (refused m 0, l) (refused n p, l′) → (l′ ≡ l) × (p ≡ 0)
 refused-alike m n p l l′ is =

@@ -48,8 +48,7 @@ counts-length-is c {t} {r} {b} t≡ r≡ b≡ et er eb ep =
       number-bytes-length t,
       number-bytes-length r,
       number-bytes-length b,
-      number-bytes-length
-          (c .parts),
+      number-bytes-length (c .parts),
       counts-bytes-sum c,
       ap size t≡,
       ap size r≡,
@@ -67,8 +66,7 @@ wire-length-is p {k} {a} {b} k≡ a≡ b≡ wire ek ea eb =
       number-bytes-length a,
       number-bytes-length b,
       part-bytes-sum p,
-      ap length
-          (wire-bytes (p .kind) (sym k≡ ∙ wire)),
+      ap length (wire-bytes (p .kind) (sym k≡ ∙ wire)),
       ap size k≡,
       ap size a≡,
       ap size b≡,
@@ -91,8 +89,7 @@ part-length-is p {k} {a} {b} {n} k≡ a≡ b≡ n≡ other ek ea eb en =
       ap length (name-bytes (p .kind) (λ z. other (k≡ ∙ z))),
       ap size k≡,
       ap size a≡,
-      ap size
-          b≡,
+      ap size b≡,
       ap size n≡,
     )
 
@@ -123,8 +120,7 @@ module _ (l : List Part) (n i : ℕ) (long : n ≤ length l) where
           arith,
           here,
           ap length (parts-from below),
-          length-append (partBytes (getD l i blank))
-              (partsBytes (drop (i + 1) (take n l))),
+          length-append (partBytes (getD l i blank)) (partsBytes (drop (i + 1) (take n l))),
         )
 
     pub parts-length-end : n ≤ i → total ≡ all

@@ -17,6 +17,7 @@ use Rattle.number.specs.Refusals.{brokenBoard, bufferTooShort}
 use Rattle.number.specs.Numbers.{numberBytes, numberWriting, toldNumberWritten, largest}
 use Rattle.number.proofs.Buffers.{sets-append, sets-at-zero}
 use Rattle.number.proofs.NumberLaws.{number-written}
+use Rattle.number.proofs.OutcomeLaws.{given-injective, refused-never}
 use Rattle.kinds.specs.declared.Kind.{Kind}
 use Rattle.kinds.specs.Kinds.{kindNumber, nameOf}
 use Rattle.board.specs.declared.Part.{Part}
@@ -41,21 +42,16 @@ module _ (v : ℕ) (out : List ℕ) (at : ℕ) {out′ : List ℕ} (x : NumberWr
       (given (at + length (numberBytes v)), sets out at (numberBytes v))
   told = wrote ∙ number-written v out at small room
 
+  answer : toldNumberWritten x ≡ given (at + length (numberBytes v))
+  answer = ap (λ (p : Outcome ℕ × List ℕ). p .0) told
+
   pub put-next : {next : ℕ} → x ≡ Next next → (next ≡ at + length (numberBytes v))
       × (out′ ≡ sets out at (numberBytes v))
-  put-next {next} is =
-      let answer : toldNumberWritten x ≡ given (at + length (numberBytes v)) =
-      ap (λ (p : Outcome ℕ × List ℕ). p .0) told in
-      let same : given next ≡ given (at + length (numberBytes v)) = ap toldNumberWritten (sym is) ∙ answer in
-      (cc, ap (λ (p : Outcome ℕ × List ℕ). p .1) told)
+  put-next is =
+      (given-injective _ _ (ap toldNumberWritten (sym is) ∙ answer), ap (λ (p : Outcome ℕ × List ℕ). p .1) told)
 
   pub put-never-refused : {r : Refusal} → x ≡ Refused r → ⊥
-  put-never-refused {r} is =
-      let answer : toldNumberWritten x ≡ given (at + length (numberBytes v)) =
-      ap (λ (p : Outcome ℕ × List ℕ). p .0) told in
-      let same : refused (r .number) (r .place) ≡ given (at + length (numberBytes v)) =
-      ap toldNumberWritten (sym is) ∙ answer in
-      let z : _≡_ {A = ℕ} 0 1 = cc in omega arith
+  put-never-refused {r} is = refused-never (r .number) (r .place) _ (ap toldNumberWritten (sym is) ∙ answer)
 
 -- ---- counts and parts as rows of numbers
 
@@ -177,8 +173,7 @@ module _ (b : Board) (out : List ℕ) {m n : ℕ} (fine : boardFine b ≡ true)
       pub parts-room : (b .counts .parts ≤ mostParts) × (at + length (partsBytes (partsOf b)) ≤ length out′)
       parts-room = (
         board-in-range b fine .most-parts,
-        omega
-            (arith, ap length (put .1), length-sets out 0 (countsBytes (b .counts))),
+        omega (arith, ap length (put .1), length-sets out 0 (countsBytes (b .counts))),
       )
 
       -- with both written the buffer holds the file

@@ -40,6 +40,5 @@ unfolding reading answered
 file-refused s r n p was =
     let answer = ap (λ (x : Board × Outcome ℕ). x .1) was in (
       λ no. read-holds s n p (answered-refused (read s) n p (sym answer ∙ no)),
-      λ line. answer
-          ∙ ap (λ (o : Outcome (Found Board)). answered o .1) (holds-read s n p line),
+      λ line. answer ∙ ap (λ (o : Outcome (Found Board)). answered o .1) (holds-read s n p line),
     )

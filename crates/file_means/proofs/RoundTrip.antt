@@ -40,8 +40,7 @@ module _ (b : Board) (rest : List ℕ) (n : ℕ) (places : length (b .parts) ≡
   reads-back =
       rw (
         le-leb (length (boardBytes b ++ rest)) longestInput short,
-        board-reads b (boardBytes b ++ rest) n places fine
-            (begins (boardBytes b) rest n long),
+        board-reads b (boardBytes b ++ rest) n places fine (begins (boardBytes b) rest n long),
       )
 
 -- the board that is read has the parts that were written

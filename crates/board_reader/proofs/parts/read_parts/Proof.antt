@@ -28,8 +28,7 @@ loop-holds c = (
   c .before .before .before .pre,
   omega arith,
   refl,
-  walk-start _ _ _ _ _ (c .before .blank .ensures)
-      (c .none .ensures),
+  walk-start _ _ _ _ _ (c .before .blank .ensures) (c .none .ensures),
 )
 
 returns : tie.Need-returns Inv-loop μ-loop
