@@ -6,55 +6,46 @@ use mathlib.Core.Bool.{true}
 use mathlib.Core.List.{List}
 use Rattle.number.specs.Outcomes.{Outcome, refused, Found, found}
 use Rattle.number.specs.Refusals.{outOfRange}
-use Rattle.number.specs.Numbers.{toldNumber}
-use Rattle.number.specs.declared.Number.{Number}
-use Rattle.number.specs.declared.Number.the-variants.{Refused}
-use Rattle.number.specs.declared.Refusal.{Refusal}
 use Rattle.board.specs.declared.Counts.{Counts}
-use Rattle.board.specs.Rules.{inRange, countsFine}
+use Rattle.board.specs.Parts.{mostParts}
+use Rattle.board.specs.Rules.{leastTerminals, mostTerminals, mostRelays, mostButtons, inRange, countsFine}
 use Rattle.bits.proofs.BoolLaws.{true-both}
-use Rattle.board_reader.specs.Reading.{wanted, countsAt, toldReadAnswer}
-use Rattle.board_reader.specs.Steps.{foundAt, placeOf, toldCountsRead}
-use Rattle.board_reader.specs.declared.counts.CountsRead.{CountsRead}
+use Rattle.board_reader.specs.Reading.{wanted, countsAt}
 use Rattle.number.proofs.OutcomeLaws.{given-injective, handed}
 use Rattle.board_reader.proofs.FieldLaws.{wanted-found, range-bounds}
 
--- a refused count as the answer on all four
-pub no-counts-told : (a : CountsRead) (x : Number) (r : Refusal) → toldReadAnswer (a .answer) ≡ placeOf
-    (toldNumber x) → x ≡ Refused r → toldCountsRead a ≡ refused (r .number) (r .place)
-no-counts-told a x r h e = ap (foundAt (a .counts)) (h ∙ ap (λ (y : Number). placeOf (toldNumber y)) e)
+-- a count at a place, from low to high
+abbrev pub countAt : ℕ → ℕ → List ℕ → ℕ → Outcome (Found ℕ)
+countAt low high = wanted (inRange low high) outOfRange
 
 -- a count that was found is at most its limit
-pub count-most : (low high : ℕ) (s : List ℕ) (at v next : ℕ) → wanted (inRange low high) outOfRange s at ≡ found v
-    next → v ≤ high
+pub count-most : (low high : ℕ) (s : List ℕ) (at v next : ℕ) → countAt low high s at ≡ found v next → v ≤ high
 count-most low high s at v next h =
     range-bounds low high v (wanted-found (inRange low high) outOfRange s at v next h .0) .1
 
-abbrev countAt : ℕ → ℕ → List ℕ → ℕ → Outcome (Found ℕ)
-countAt low high = wanted (inRange low high) outOfRange
-
 module _ (s : List ℕ) (k p : ℕ) where
-  pub terminals-refused : countAt 2 64 s 0 ≡ refused k p → refused k p ≡ countsAt s
+  pub terminals-refused : countAt leastTerminals mostTerminals s 0 ≡ refused k p → refused k p ≡ countsAt s
   unfolding countsAt
   terminals-refused t = rw t
 
-  module _ (t rt : ℕ) (terminals : countAt 2 64 s 0 ≡ found t rt) where
-    pub relays-refused : countAt 0 32 s rt ≡ refused k p → refused k p ≡ countsAt s
+  module _ (t rt : ℕ) (terminals : countAt leastTerminals mostTerminals s 0 ≡ found t rt) where
+    pub relays-refused : countAt 0 mostRelays s rt ≡ refused k p → refused k p ≡ countsAt s
     unfolding countsAt
     relays-refused r = rw (terminals, r)
 
-    module _ (r rb : ℕ) (relays : countAt 0 32 s rt ≡ found r rb) where
-      pub buttons-refused : countAt 0 32 s rb ≡ refused k p → refused k p ≡ countsAt s
+    module _ (r rb : ℕ) (relays : countAt 0 mostRelays s rt ≡ found r rb) where
+      pub buttons-refused : countAt 0 mostButtons s rb ≡ refused k p → refused k p ≡ countsAt s
       unfolding countsAt
       buttons-refused b = rw (terminals, relays, b)
 
-      module _ (b rc : ℕ) (buttons : countAt 0 32 s rb ≡ found b rc) where
-        pub parts-refused : countAt 0 256 s rc ≡ refused k p → refused k p ≡ countsAt s
+      module _ (b rc : ℕ) (buttons : countAt 0 mostButtons s rb ≡ found b rc) where
+        pub parts-refused : countAt 0 mostParts s rc ≡ refused k p → refused k p ≡ countsAt s
         unfolding countsAt
         parts-refused c = rw (terminals, relays, buttons, c)
 
-pub counts-read : (s : List ℕ) (t rt r rb b rc c next : ℕ) → countAt 2 64 s 0 ≡ found t rt
-    → countAt 0 32 s rt ≡ found r rb → countAt 0 32 s rb ≡ found b rc → countAt 0 256 s rc ≡ found c next
+pub counts-read : (s : List ℕ) (t rt r rb b rc c next : ℕ) → countAt leastTerminals mostTerminals s 0 ≡ found t rt
+    → countAt 0 mostRelays s rt ≡ found r rb → countAt 0 mostButtons s rb ≡ found b rc
+    → countAt 0 mostParts s rc ≡ found c next
     → found (record { terminals = t; relays = r; buttons = b; parts = c }) next ≡ countsAt s
 unfolding countsAt
 counts-read s t rt r rb b rc c next terminals relays buttons parts = rw (terminals, relays, buttons, parts)
@@ -64,18 +55,18 @@ pub record CountsFound (s : List ℕ) (c : Counts) (next : ℕ) : Type 0 where
   pub relays-at : ℕ
   pub buttons-at : ℕ
   pub parts-at : ℕ
-  pub terminals : countAt 2 64 s 0 ≡ found (c .terminals) relays-at
-  pub relays : countAt 0 32 s relays-at ≡ found (c .relays) buttons-at
-  pub buttons : countAt 0 32 s buttons-at ≡ found (c .buttons) parts-at
-  pub parts : countAt 0 256 s parts-at ≡ found (c .parts) next
+  pub terminals : countAt leastTerminals mostTerminals s 0 ≡ found (c .terminals) relays-at
+  pub relays : countAt 0 mostRelays s relays-at ≡ found (c .relays) buttons-at
+  pub buttons : countAt 0 mostButtons s buttons-at ≡ found (c .buttons) parts-at
+  pub parts : countAt 0 mostParts s parts-at ≡ found (c .parts) next
 
 pub counts-found : (s : List ℕ) (c : Counts) (next : ℕ) → countsAt s ≡ found c next → CountsFound s c next
 unfolding countsAt
 counts-found s c next h =
-    let t = handed (countAt 2 64 s 0) _ _ h in
-    let r = handed (countAt 0 32 s (t .value .next)) _ _ (t .then) in
-    let b = handed (countAt 0 32 s (r .value .next)) _ _ (r .then) in
-    let p = handed (countAt 0 256 s (b .value .next)) _ _ (b .then) in
+    let t = handed (countAt leastTerminals mostTerminals s 0) _ _ h in
+    let r = handed (countAt 0 mostRelays s (t .value .next)) _ _ (t .then) in
+    let b = handed (countAt 0 mostButtons s (r .value .next)) _ _ (r .then) in
+    let p = handed (countAt 0 mostParts s (b .value .next)) _ _ (b .then) in
     let same = given-injective _ _ (p .then) in
     record {
       relays-at = t .value .next;
@@ -92,7 +83,7 @@ pub counts-found-fine : (s : List ℕ) (c : Counts) (next : ℕ) → CountsFound
 unfolding countsFine
 counts-found-fine s c next read =
     true-both (true-both (true-both
-    (wanted-found (inRange 2 64) outOfRange s 0 (c .terminals) (read .relays-at) (read .terminals) .0)
-    (wanted-found (inRange 0 32) outOfRange s (read .relays-at) (c .relays) (read .buttons-at) (read .relays) .0))
-    (wanted-found (inRange 0 32) outOfRange s (read .buttons-at) (c .buttons) (read .parts-at) (read .buttons) .0))
-    (wanted-found (inRange 0 256) outOfRange s (read .parts-at) (c .parts) next (read .parts) .0)
+    (wanted-found _ _ _ _ _ _ (read .terminals) .0)
+    (wanted-found _ _ _ _ _ _ (read .relays) .0))
+    (wanted-found _ _ _ _ _ _ (read .buttons) .0))
+    (wanted-found _ _ _ _ _ _ (read .parts) .0)

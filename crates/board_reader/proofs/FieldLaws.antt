@@ -15,7 +15,9 @@ use Rattle.number.specs.declared.Refusal.{Refusal}
 use Rattle.board.specs.declared.Counts.{Counts}
 use Rattle.bits.proofs.BoolLaws.{both-true}
 use Rattle.board.specs.Rules.{inRange, limitOf}
-use Rattle.board_reader.specs.Reading.{wanted, nameAt}
+use Rattle.board_reader.specs.declared.ReadAnswer.{ReadAnswer}
+use Rattle.board_reader.specs.Reading.{wanted, nameAt, toldReadAnswer}
+use Rattle.board_reader.specs.Steps.{foundAt, placeOf}
 use Rattle.number.proofs.OutcomeLaws.{given-injective, handed, passed}
 
 module _ (ok : ℕ → Bool) (n : ℕ) (s : List ℕ) (at : ℕ) where
@@ -31,6 +33,10 @@ module _ (ok : ℕ → Bool) (n : ℕ) (s : List ℕ) (at : ℕ) where
   unfolding wanted
   wanted-passes v next h fine = rw (h, fine)
 
+-- a number's value and the place just after it, as a `let .. else` binds them
+abbrev pub bound : ℕ × (ℕ × Unit {0}) → Outcome (Found ℕ)
+bound b = found (b .0) (b .1 .0)
+
 -- what a number's answer says of the outcome that it tells
 pub told-found : (o : Outcome (Found ℕ)) (x : Number) (v next : ℕ) → x ≡ Read v next → toldNumber x ≡ o
     → o ≡ found v next
@@ -39,6 +45,12 @@ told-found o x v next e h = sym h ∙ ap toldNumber e
 pub told-refused : (o : Outcome (Found ℕ)) (x : Number) (r : Refusal) → x ≡ Refused r → toldNumber x ≡ o
     → o ≡ refused (r .number) (r .place)
 told-refused o x r e h = sym h ∙ ap toldNumber e
+
+-- a number's refusal as that of the thing it was read for
+pub number-stopped : {A : Type 0} (a : A) (x : ReadAnswer) (n : Number) (r : Refusal)
+    → toldReadAnswer x ≡ placeOf (toldNumber n) → n ≡ Refused r
+    → foundAt a (toldReadAnswer x) ≡ refused (r .number) (r .place)
+number-stopped a x n r h e = ap (foundAt a) (h ∙ ap (λ (m : Number). placeOf (toldNumber m)) e)
 
 pub number-refused : (ok : ℕ → Bool) (n : ℕ) (s : List ℕ) (at : ℕ) (x : Number) (r : Refusal) → x ≡ Refused r
     → toldNumber x ≡ numberAt s at → toldNumber x ≡ wanted ok n s at

@@ -8,39 +8,31 @@ use lib.Dec.{ltb, eqb}
 use borrow.Author.Tests.{eq-eqb, ne-eqb, ltb-true}
 use Rattle.number.specs.Outcomes.{refused, found}
 use Rattle.number.specs.Refusals.{noSuchKind, noSuchTerminal, endsEqual, noSuchName, windingTaken}
-use Rattle.number.specs.Numbers.{toldNumber}
-use Rattle.number.specs.declared.Number.{Number}
-use Rattle.number.specs.declared.Number.the-variants.{Refused}
-use Rattle.number.specs.declared.Refusal.{Refusal}
 use Rattle.windings.specs.declared.WoundSoFar.{WoundSoFar}
-use Rattle.kinds.specs.Kinds.{kindOf}
+use Rattle.kinds.specs.Kinds.{buttonKind, lastKind, kindOf}
 use Rattle.windings.specs.Windings.{windingFree}
 use Rattle.board.specs.declared.Counts.{Counts}
 use Rattle.board.specs.declared.Part.{Part}
 use Rattle.board.specs.Rules.{inRange, terminalFine, limitOf}
 use Rattle.board_reader.specs.Reading.{wanted, nameAt, partAt, toldReadAnswer}
-use Rattle.board_reader.specs.Steps.{foundAt, placeOf, toldPartRead}
+use Rattle.board_reader.specs.Steps.{foundAt, toldPartRead}
 use Rattle.board_reader.specs.declared.ReadAnswer.{ReadAnswer}
 use Rattle.board_reader.specs.declared.parts.PartRead.{PartRead}
 use Rattle.number.proofs.NumberLaws.{found-value}
 use Rattle.board_reader.proofs.FieldLaws.{wanted-found}
 
--- a refused part as the answer of its field or its rule
+-- a refused part as the answer of its rule
 pub no-part-told : (a : PartRead) (b : ReadAnswer) (k p : ℕ) → a .answer ≡ b → toldReadAnswer b ≡ refused k p
     → toldPartRead a ≡ refused k p
 no-part-told a b k p e h = ap (foundAt (a .part)) (ap toldReadAnswer e ∙ h)
 
-pub place-refused : (b : ReadAnswer) (x : Number) (r : Refusal) → toldReadAnswer b ≡ placeOf (toldNumber x)
-    → x ≡ Refused r → toldReadAnswer b ≡ refused (r .number) (r .place)
-place-refused b x r h e = h ∙ ap (λ (y : Number). placeOf (toldNumber y)) e
-
 module _ (c : Counts) (w : WoundSoFar) (s : List ℕ) (at k p : ℕ) where
-  pub kind-refused : wanted (inRange 0 6) noSuchKind s at ≡ refused k p → refused k p ≡ partAt c w s at
+  pub kind-refused : wanted (inRange 0 lastKind) noSuchKind s at ≡ refused k p → refused k p ≡ partAt c w s at
   unfolding partAt
   kind-refused h = rw h
 
 module _ (c : Counts) (w : WoundSoFar) (s : List ℕ) (at kind ka : ℕ)
-    (kinds : wanted (inRange 0 6) noSuchKind s at ≡ found kind ka) where
+    (kinds : wanted (inRange 0 lastKind) noSuchKind s at ≡ found kind ka) where
   pub a-refused : (k p : ℕ) → wanted (terminalFine c) noSuchTerminal s ka ≡ refused k p → refused k p ≡ partAt c w s at
   unfolding partAt
   a-refused k p h = rw (kinds, h)
@@ -93,7 +85,7 @@ name-below c k s at v next m h relays buttons some = go (eqb k 0) h
         omega (
           arith,
           ltb-true v (limitOf c k) (wanted-found (λ n. ltb n (limitOf c k)) noSuchName s at v next e .0),
-          limit (eqb k 3),
+          limit (eqb k buttonKind),
         )
 
 -- the kind as it was made

@@ -13,14 +13,13 @@ use Rattle.windings.specs.Windings.{noneWound, gained, complete}
 use Rattle.board.specs.declared.Counts.{Counts}
 use Rattle.board.specs.declared.Part.{Part}
 use Rattle.board.specs.declared.Board.{Board}
-use Rattle.board.specs.Parts.{blank, padded, emptyBoard}
+use Rattle.board.specs.Parts.{mostParts, blank, padded, emptyBoard}
 use Rattle.board.proofs.PaddedLaws.{padded-set}
 use Rattle.board_reader.specs.Reading.{partAt, partsAt, boardFrom, answered, toldReadAnswer, toldBoardRead}
-use Rattle.board_reader.specs.Steps.{foundAt, toldPartRead}
+use Rattle.board_reader.specs.Steps.{foundAt}
 use Rattle.board_reader.specs.declared.ReadAnswer.{ReadAnswer}
 use Rattle.board_reader.specs.declared.ReadAnswer.the-variants.{Read, Refused}
 use Rattle.board_reader.specs.declared.BoardRead.{BoardRead}
-use Rattle.board_reader.specs.declared.parts.PartRead.{PartRead}
 use Rattle.number.specs.declared.Refusal.{Refusal}
 
 -- parts that were read before those of an outcome
@@ -64,20 +63,20 @@ pub record Walk (c : Counts) (s : List ℕ) (start : ℕ) (parts : List Part) (w
   pub rest : partsAt c (c .parts) noneWound s start ≡ after so-far (partsAt c (c .parts - i) w s at)
 
 pub walk-start : (c : Counts) (s : List ℕ) (start : ℕ) (p : Part) (w : WoundSoFar) → p ≡ blank → w ≡ noneWound
-    → Walk c s start (replicate 256 p) w start 0
+    → Walk c s start (replicate mostParts p) w start 0
 unfolding padded
 walk-start c s start p w filler none =
     let whole : c .parts - 0 ≡ c .parts = omega arith in
     record {
       so-far = [];
       counted = refl;
-      array = ap (replicate 256) filler;
+      array = ap (replicate mostParts) filler;
       rest = rw (whole, none) (after-none (partsAt c (c .parts) noneWound s start));
     }
 
 module _ (c : Counts) (s : List ℕ) (start : ℕ) (parts : List Part) (w : WoundSoFar) (at i : ℕ)
     (walk : Walk c s start parts w at i) where
-  pub walk-on : (p : Part) (next : ℕ) (w′ : WoundSoFar) → i < c .parts → c .parts ≤ 256
+  pub walk-on : (p : Part) (next : ℕ) (w′ : WoundSoFar) → i < c .parts → c .parts ≤ mostParts
       → partAt c w s at ≡ found p next → w′ ≡ gained w (p .kind) → Walk c s start (set parts i p) w′ next (i + 1)
   walk-on p next w′ below most here more =
       let ps = walk .so-far in
@@ -119,14 +118,13 @@ module _ (c : Counts) (s : List ℕ) (start : ℕ) (parts : List Part) (w : Woun
       ∙ ap (after (walk .so-far)) (parts-done c w s at fine)
       ∙ ap (λ (l : List Part). found l at) (append-nil (walk .so-far))
 
--- what a part's answer says of the outcome that it tells
-pub part-stopped : (o : Outcome (Found Part)) (a : PartRead) (r : Refusal) → a .answer ≡ Refused r
-    → toldPartRead a ≡ o → o ≡ refused (r .number) (r .place)
-part-stopped o a r e h = sym h ∙ ap (λ (b : ReadAnswer). foundAt (a .part) (toldReadAnswer b)) e
+-- what the answer beside a thing says of the outcome that both tell
+module _ {A : Type 0} (o : Outcome (Found A)) (a : A) (x : ReadAnswer) (told : foundAt a (toldReadAnswer x) ≡ o) where
+  pub answer-stopped : (r : Refusal) → x ≡ Refused r → o ≡ refused (r .number) (r .place)
+  answer-stopped r e = sym told ∙ ap (λ (y : ReadAnswer). foundAt a (toldReadAnswer y)) e
 
-pub part-went : (o : Outcome (Found Part)) (a : PartRead) (next : ℕ) → a .answer ≡ Read next → toldPartRead a ≡ o
-    → o ≡ found (a .part) next
-part-went o a next e h = sym h ∙ ap (λ (b : ReadAnswer). foundAt (a .part) (toldReadAnswer b)) e
+  pub answer-went : (next : ℕ) → x ≡ Read next → o ≡ found a next
+  answer-went next e = sym told ∙ ap (λ (y : ReadAnswer). foundAt a (toldReadAnswer y)) e
 
 -- a refused read: the empty board with the refusal
 pub answer-refused : (r : BoardRead) (a : ReadAnswer) (k p : ℕ) → r .board ≡ emptyBoard → r .answer ≡ a

@@ -15,8 +15,9 @@ ghost use Rattle.number.specs.Refusals.{noSuchTerminal};
 ghost use Rattle.windings.specs.Windings.{noneWound};
 ghost use Rattle.board.specs.Parts.{mostParts, emptyBoard};
 ghost use Rattle.board.specs.Rules.{terminalFine};
-ghost use Rattle.board_reader.specs.Reading.{wanted, nameAt, partAt, partsAt, boardFrom, answered, toldBoardRead};
-ghost use Rattle.board_reader.specs.Steps.{toldPartRead};
+ghost use Rattle.board_reader.specs.Reading.{wanted, nameAt, partAt, partsAt, boardFrom, answered};
+ghost use Rattle.board_reader.specs.Reading.{toldReadAnswer, toldBoardRead};
+ghost use Rattle.board_reader.specs.Steps.{placeOf, toldPartRead};
 
 // The part that was read, where the answer is no refusal.
 pub struct PartRead {
@@ -30,6 +31,13 @@ fn no_part(answer: ReadAnswer) -> PartRead
 {
     let part = board::blank();
     PartRead { part, answer }
+}
+
+// A field's answer that is a refusal, as that of the whole part.
+fn no_field(number: Number) -> PartRead
+    ensures { λ r. ⌜ toldReadAnswer (r .answer) ≡ placeOf (toldNumber number) ⌝ }
+{
+    no_part(fields::place_of(number))
 }
 
 // A refused board: the refusal with the empty board.
@@ -65,22 +73,22 @@ fn read_part(s: &[u8], at: usize, counts: Counts, windings: WoundSoFar) -> PartR
 {
     let kind_read = fields::read_within(s, at, 0, kinds::LAST_KIND, number::NO_SUCH_KIND);
     let Number::Read(kind_number, a_at) = kind_read else {
-        return no_part(fields::place_of(kind_read));
+        return no_field(kind_read);
     };
     let a_read = read_terminal(s, a_at, counts);
     let Number::Read(a, b_at) = a_read else {
-        return no_part(fields::place_of(a_read));
+        return no_field(a_read);
     };
     let b_read = read_terminal(s, b_at, counts);
     let Number::Read(b, name_at) = b_read else {
-        return no_part(fields::place_of(b_read));
+        return no_field(b_read);
     };
     if a == b {
         return no_part(fields::refuse(number::ENDS_EQUAL, b_at));
     }
     let name_read = read_name(s, name_at, counts, kind_number);
     let Number::Read(name, next) = name_read else {
-        return no_part(fields::place_of(name_read));
+        return no_field(name_read);
     };
     let kind = Kind::of(kind_number, name as u8);
     if !windings.free(kind) {
@@ -100,7 +108,8 @@ fn read_part(s: &[u8], at: usize, counts: Counts, windings: WoundSoFar) -> PartR
 // The parts from a place on, and with them the board.
 pub fn read_parts(s: &[u8], start: usize, counts: Counts) -> BoardRead
     requires { ⌜ counts .parts ≤ mostParts ⌝ }
-    ensures { λ r. ⌜ toldBoardRead r ≡ answered (boardFrom counts (partsAt counts (counts .parts) noneWound (now (s .entry)) start)) ⌝ }
+    ensures { λ r. ⌜ toldBoardRead r
+        ≡ answered (boardFrom counts (partsAt counts (counts .parts) noneWound (now (s .entry)) start)) ⌝ }
 {
     let filler = board::blank();
     let mut parts = [filler; 256];

@@ -1,42 +1,37 @@
--- Laws of a board's file for those who write one and read it back: how long it is, that it is made of bytes, and what a
--- write answers.
-use mathlib.Core.Path.{_≡_, refl, sym, ap, ap₂, _∙_}
+-- Laws of a board's file for those who write one and read it back: how long it is, and what a write answers.
+use mathlib.Core.Path.{_≡_, refl, sym, ap, _∙_}
 use mathlib.Core.Bool.{Bool, true, false, cond, _||_}
 use mathlib.Core.List.{List, [], _∷_, _++_}
-use Prim.Native.Nat.{ℕ, zero, suc, _*_, _≤_, _<_}
+use Prim.Native.Nat.{ℕ, _*_, _≤_, _<_}
 use native.Mathlib.Omega.{arith}
 use borrow.Author.Tests.{ltb-true, leb-true, leb-false}
 use lib.Dec.{eqb, ltb, leb}
 use lib.ListN.{length, take, drop, length-append, length-take}
 use lib.Seq.{take-all}
-use Rattle.number.proofs.OutcomeLaws.{refusal-equal}
+use Rattle.number.proofs.OutcomeLaws.{refusal-equal, given-injective, refused-never}
 use Rattle.number.specs.Outcomes.{Outcome, given, refused}
 use Rattle.number.specs.Refusals.{brokenBoard, bufferTooShort}
-use Rattle.number.specs.Numbers.{Bytes, numberBytes}
-use Rattle.number.proofs.NumberLaws.{number-bytes-one, number-bytes-length-two, number-bytes-are-bytes}
+use Rattle.number.specs.Numbers.{numberBytes}
+use Rattle.number.proofs.NumberLaws.{number-bytes-one, number-bytes-length-two}
 use Rattle.kinds.specs.declared.Kind.{Kind}
-use Rattle.kinds.specs.Kinds.{kindNumber, nameOf}
+use Rattle.kinds.specs.Kinds.{kindNumber, nameOf, buttonKind}
 use Rattle.windings.specs.Windings.{noneWound}
 use Rattle.board.specs.declared.Part.{Part}
 use Rattle.board.specs.declared.Counts.{Counts}
 use Rattle.board.specs.declared.Board.{Board}
 use Rattle.board.specs.Parts.{partsOf}
-use Rattle.board.specs.Rules.{limitOf, nameFine, partFits, boardFine}
+use Rattle.board.specs.Rules.{mostRelays, terminalFine, endsFine, limitOf, nameFine, partFits, boardFine}
 use Rattle.board.specs.Sorts.{partsFit}
-use Rattle.board.specs.Same.{sameBoard}
 use Rattle.bits.proofs.BoolLaws.{both-true, by-test}
 use Rattle.kinds.proofs.KindLaws.{kind-number-most}
 use Rattle.board.proofs.RuleLaws.{InRange, counts-in-range}
 use Rattle.board.proofs.WindingLaws.{fine-fit}
-use Rattle.board.proofs.SameLaws.{same-board-equal}
-use Rattle.board.proofs.FineLaws.{same-boards-fine}
 use Rattle.board_writer.specs.declared.Written.{Written}
-use Rattle.board_writer.specs.declared.Written.the-variants.{Bytes as Count, Refused}
+use Rattle.board_writer.specs.declared.Written.the-variants.{Bytes, Refused}
 use Rattle.board_writer.specs.File.{nameBytes, partBytes, partsBytes, countsBytes, boardBytes, longestFile}
 use Rattle.board_writer.specs.Writing.{writing, toldWritten, bytesWritten}
 use Rattle.board_writer.proofs.LengthLaws.{counts-bytes-sum, part-bytes-sum}
-use Rattle.board_writer.proofs.PieceLaws.{numbersBytes}
-use Rattle.board_writer.proofs.WriteLaws.{counts-numbers, part-numbers, namesOf, board-bytes-sum, writing-broken}
+use Rattle.board_writer.proofs.WriteLaws.{board-bytes-sum, writing-broken}
 use Rattle.board_writer.proofs.WriteLaws.{writing-short, writing-with-room}
 
 -- ---- how long a file is
@@ -51,50 +46,55 @@ counts-bytes-few c fit =
       arith,
       counts-bytes-sum c,
       one-byte (c .terminals) (omega (arith, fit)),
-      one-byte (c .relays)
-          (omega (arith, fit)),
+      one-byte (c .relays) (omega (arith, fit)),
       one-byte (c .buttons) (omega (arith, fit)),
-      number-bytes-length-two (c .parts)
-          (omega (arith, fit)),
+      number-bytes-length-two (c .parts) (omega (arith, fit)),
     )
 
-limit-most : (c : Counts) (k : ℕ) → InRange c → limitOf c k ≤ 32
-limit-most c k fit = either (eqb k 3) (fit .most-buttons) (fit .most-relays)
+-- a name's limit is R or B, so what is below it is small
+pub limit-most : (c : Counts) (k : ℕ) → InRange c → limitOf c k ≤ mostRelays
+limit-most c k fit = by (eqb k buttonKind)
   where
-    either : (t : Bool) {m n : ℕ} → m ≤ 32 → n ≤ 32 → cond t m n ≤ 32
-    either true m n = m
-    either false m n = n
+    by : (t : Bool) → cond t (c .buttons) (c .relays) ≤ mostRelays
+    by true = fit .most-buttons
+    by false = fit .most-relays
 
 name-bytes-few : (c : Counts) (k : Kind) → InRange c → nameFine c k ≡ true → length (nameBytes k) ≤ 1
 unfolding nameFine nameBytes
 name-bytes-few c k fit fine =
     few (eqb (kindNumber k) 0) (nameOf k) (limitOf c (kindNumber k)) (limit-most c (kindNumber k) fit) fine
   where
-    few : (wire : Bool) (name limit : ℕ) → limit ≤ 32 → (wire || ltb name limit) ≡ true
+    few : (wire : Bool) (name limit : ℕ) → limit ≤ mostRelays → (wire || ltb name limit) ≡ true
         → length (cond wire [] (numberBytes name)) ≤ 1
     few true name limit most fine = omega arith
     few false name limit most fine = omega (arith, one-byte name (omega (arith, ltb-true name limit fine)))
 
-part-fields : (c : Counts) (p : Part) → partFits c p ≡ true → (p .a < c .terminals) × (p .b < c .terminals)
-    × (nameFine c (p .kind) ≡ true)
+-- the rules of 5 to 7 that a part keeps, one by one
+pub record PartRules (c : Counts) (p : Part) : Type 0 where
+  pub a-below : terminalFine c (p .a) ≡ true
+  pub b-below : terminalFine c (p .b) ≡ true
+  pub apart : endsFine (p .a) (p .b) ≡ true
+  pub named : nameFine c (p .kind) ≡ true
+
+pub part-rules : (c : Counts) (p : Part) → partFits c p ≡ true → PartRules c p
 unfolding partFits
-part-fields c p fine =
-    let names = both-true _ _ fine in
-    let ends = both-true _ _ (names .0) in
-    let terminals = both-true _ _ (ends .0) in
-    (ltb-true (p .a) (c .terminals) (terminals .0), ltb-true (p .b) (c .terminals) (terminals .1), names .1)
+part-rules c p fits =
+    let named = both-true _ _ fits in
+    let apart = both-true _ _ (named .0) in
+    let below = both-true _ _ (apart .0) in
+    record { a-below = below .0; b-below = below .1; apart = apart .1; named = named .1 }
 
 -- a part of a fine board takes at most 4
-pub part-bytes-few : (c : Counts) (p : Part) → InRange c → partFits c p ≡ true → length (partBytes p) ≤ 4
+part-bytes-few : (c : Counts) (p : Part) → InRange c → partFits c p ≡ true → length (partBytes p) ≤ 4
 part-bytes-few c p fit fine =
-    let fields = part-fields c p fine in
+    let rules = part-rules c p fine in
     omega (
       arith,
       part-bytes-sum p,
       one-byte (kindNumber (p .kind)) (omega (arith, kind-number-most (p .kind))),
-      one-byte (p .a) (omega (arith, fit, fields)),
-      one-byte (p .b) (omega (arith, fit, fields)),
-      name-bytes-few c (p .kind) fit (fields .2),
+      one-byte (p .a) (omega (arith, fit, ltb-true (p .a) (c .terminals) (rules .a-below))),
+      one-byte (p .b) (omega (arith, fit, ltb-true (p .b) (c .terminals) (rules .b-below))),
+      name-bytes-few c (p .kind) fit (rules .named),
     )
 
 parts-bytes-few : (c : Counts) (ps : List Part) → InRange c → partsFit c ps ≡ true
@@ -107,8 +107,7 @@ parts-bytes-few c (p ∷ ps) fit fine =
       arith,
       length-append (partBytes p) (partsBytes ps),
       part-bytes-few c p fit (both .0),
-      parts-bytes-few c
-          ps fit (both .1),
+      parts-bytes-few c ps fit (both .1),
     )
 
 pub board-file-bound : (b : Board) → boardFine b ≡ true → length (boardBytes b) ≤ longestFile
@@ -123,38 +122,6 @@ board-file-bound b fine =
       parts-bytes-few (b .counts) (partsOf b) fit (fine-fit (b .counts) noneWound (partsOf b) (both .1)),
       length-take (b .counts .parts) (b .parts),
     )
-
--- ---- a file is made of bytes
-
-bytes-append : (xs ys : List ℕ) → Bytes xs → Bytes ys → Bytes (xs ++ ys)
-bytes-append [] ys h k i = k i
-bytes-append (x ∷ xs) ys h k zero = h 0
-bytes-append (x ∷ xs) ys h k (suc i) = bytes-append xs ys (λ j. h (suc j)) k i
-
-bytes-none : Bytes []
-bytes-none i = omega arith
-
-numbers-are-bytes : (vs : List ℕ) → Bytes (numbersBytes vs)
-unfolding numbersBytes
-numbers-are-bytes [] = bytes-none
-numbers-are-bytes (v ∷ vs) =
-    bytes-append (numberBytes v) (numbersBytes vs) (number-bytes-are-bytes v) (numbers-are-bytes vs)
-
-parts-bytes-are-bytes : (ps : List Part) → Bytes (partsBytes ps)
-unfolding partsBytes
-parts-bytes-are-bytes [] = bytes-none
-parts-bytes-are-bytes (p ∷ ps) =
-    bytes-append (partBytes p) (partsBytes ps)
-    (rw (part-numbers p) (numbers-are-bytes (kindNumber (p .kind) ∷ p .a ∷ p .b ∷ namesOf (p .kind))))
-    (parts-bytes-are-bytes ps)
-
-pub file-bytes-are-bytes : (b : Board) → Bytes (boardBytes b)
-unfolding boardBytes
-file-bytes-are-bytes b =
-    bytes-append (countsBytes (b .counts)) (partsBytes (partsOf b))
-    (rw (counts-numbers (b .counts))
-    (numbers-are-bytes (b .counts .terminals ∷ b .counts .relays ∷ b .counts .buttons ∷ b .counts .parts ∷ [])))
-    (parts-bytes-are-bytes (partsOf b))
 
 -- ---- what a write answers
 
@@ -174,14 +141,10 @@ abbrev buffer : Answered → List ℕ
 buffer x = x .1
 
 given-never-refused : (m n p : ℕ) (l l′ : List ℕ) → _≡_ {A = Answered} (given m, l) (refused n p, l′) → ⊥
-given-never-refused m n p l l′ is =
-    let same : given m ≡ refused n p = ap answer is in
-    let z : _≡_ {A = ℕ} 0 1 = cc in omega arith
+given-never-refused m n p l l′ is = refused-never n p m (sym (ap answer is))
 
 given-alike : (m n : ℕ) (l l′ : List ℕ) → _≡_ {A = Answered} (given m, l) (given n, l′) → (n ≡ m) × (l′ ≡ l)
-given-alike m n l l′ is =
-    let same : given m ≡ given n = ap answer is in
-    (cc, sym (ap buffer is))
+given-alike m n l l′ is = (sym (given-injective m n (ap answer is)), sym (ap buffer is))
 
 refused-alike : (m n p : ℕ) (l l′ : List ℕ) → _≡_ {A = Answered} (refused m 0, l) (refused n p, l′) → (l′ ≡ l) × (p ≡ 0)
 refused-alike m n p l l′ is =
@@ -240,30 +203,17 @@ writing-given b out n out′ is =
       begins = same .1 ∙ ap (λ (k : ℕ). boardBytes b ++ drop k out) (sym (same .0));
     }
 
--- ---- an answer is known by what it tells
-
 -- whatever `write` answers, the bytes that it says were written begin the buffer, and the rest stays
 pub write-bytes : (b : Board) (out out′ : List ℕ) (w : Written) → _≡_ {A = Outcome ℕ × List ℕ} (toldWritten w, out′)
     (writing b out) → out′ ≡ take (bytesWritten w) (boardBytes b) ++ drop (bytesWritten w) out
-write-bytes b out out′ (Count n) wrote =
+write-bytes b out out′ (Bytes n) wrote =
     let was = writing-given b out n out′ (sym wrote) in
     was .begins ∙ ap (λ (l : List ℕ). l ++ drop n out) (sym (take-all n (boardBytes b) (omega (arith, was .count))))
 write-bytes b out out′ (Refused r) wrote = writing-refused b out (r .number) (r .place) out′ (sym wrote) .0
 
+-- an answer is known by what it tells
 pub told-written-injective : (x y : Written) → toldWritten x ≡ toldWritten y → x ≡ y
-told-written-injective (Count n) (Count m) e = cc
-told-written-injective (Count n) (Refused q) e = cc
-told-written-injective (Refused r) (Count m) e = cc
+told-written-injective (Bytes n) (Bytes m) e = cc
+told-written-injective (Bytes n) (Refused q) e = cc
+told-written-injective (Refused r) (Bytes m) e = cc
 told-written-injective (Refused r) (Refused q) e = ap Refused (refusal-equal r q (cc) (cc))
-
--- ---- boards that are the same are written the same
-
-pub same-boards-bytes : (x y : Board) → sameBoard x y ≡ true → boardBytes x ≡ boardBytes y
-unfolding boardBytes
-same-boards-bytes x y same =
-    let equal = same-board-equal x y same in
-    ap₂ (λ (c : Counts) (ps : List Part). countsBytes c ++ partsBytes ps) (equal .0) (equal .1)
-
-pub same-boards-written : (x y : Board) (out : List ℕ) → sameBoard x y ≡ true → writing x out ≡ writing y out
-unfolding writing
-same-boards-written x y out same = rw (same-boards-fine x y same, same-boards-bytes x y same)

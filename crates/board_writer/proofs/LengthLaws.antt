@@ -19,13 +19,13 @@ abbrev size : ℕ → ℕ
 size v = length (numberBytes v)
 
 -- a wire carries no name, and every other kind one
-wire-name : (k : Kind) → kindNumber k ≡ 0 → nameBytes k ≡ []
+wire-bytes : (k : Kind) → kindNumber k ≡ 0 → nameBytes k ≡ []
 unfolding nameBytes
-wire-name k wire = rw (eq-eqb (kindNumber k) 0 wire)
+wire-bytes k wire = rw (eq-eqb (kindNumber k) 0 wire)
 
-other-name : (k : Kind) → (kindNumber k ≡ 0 → ⊥) → nameBytes k ≡ numberBytes (nameOf k)
+name-bytes : (k : Kind) → (kindNumber k ≡ 0 → ⊥) → nameBytes k ≡ numberBytes (nameOf k)
 unfolding nameBytes
-other-name k other = rw (ne-eqb (kindNumber k) 0 other)
+name-bytes k other = rw (ne-eqb (kindNumber k) 0 other)
 
 pub counts-bytes-sum : (c : Counts) → length (countsBytes c) ≡ length (numberBytes (c .terminals)) + length
     (numberBytes (c .relays)) + length (numberBytes (c .buttons)) + length (numberBytes (c .parts))
@@ -48,8 +48,7 @@ counts-length-is c {t} {r} {b} t≡ r≡ b≡ et er eb ep =
       number-bytes-length t,
       number-bytes-length r,
       number-bytes-length b,
-      number-bytes-length
-          (c .parts),
+      number-bytes-length (c .parts),
       counts-bytes-sum c,
       ap size t≡,
       ap size r≡,
@@ -67,8 +66,7 @@ wire-length-is p {k} {a} {b} k≡ a≡ b≡ wire ek ea eb =
       number-bytes-length a,
       number-bytes-length b,
       part-bytes-sum p,
-      ap length
-          (wire-name (p .kind) (sym k≡ ∙ wire)),
+      ap length (wire-bytes (p .kind) (sym k≡ ∙ wire)),
       ap size k≡,
       ap size a≡,
       ap size b≡,
@@ -88,11 +86,10 @@ part-length-is p {k} {a} {b} {n} k≡ a≡ b≡ n≡ other ek ea eb en =
       number-bytes-length b,
       number-bytes-length n,
       part-bytes-sum p,
-      ap length (other-name (p .kind) (λ z. other (k≡ ∙ z))),
+      ap length (name-bytes (p .kind) (λ z. other (k≡ ∙ z))),
       ap size k≡,
       ap size a≡,
-      ap size
-          b≡,
+      ap size b≡,
       ap size n≡,
     )
 
@@ -123,8 +120,7 @@ module _ (l : List Part) (n i : ℕ) (long : n ≤ length l) where
           arith,
           here,
           ap length (parts-from below),
-          length-append (partBytes (getD l i blank))
-              (partsBytes (drop (i + 1) (take n l))),
+          length-append (partBytes (getD l i blank)) (partsBytes (drop (i + 1) (take n l))),
         )
 
     pub parts-length-end : n ≤ i → total ≡ all

@@ -17,12 +17,13 @@ use Rattle.number.specs.Refusals.{brokenBoard, bufferTooShort}
 use Rattle.number.specs.Numbers.{numberBytes, numberWriting, toldNumberWritten, largest}
 use Rattle.number.proofs.Buffers.{sets-append, sets-at-zero}
 use Rattle.number.proofs.NumberLaws.{number-written}
+use Rattle.number.proofs.OutcomeLaws.{given-injective, refused-never}
 use Rattle.kinds.specs.declared.Kind.{Kind}
 use Rattle.kinds.specs.Kinds.{kindNumber, nameOf}
 use Rattle.board.specs.declared.Part.{Part}
 use Rattle.board.specs.declared.Counts.{Counts}
 use Rattle.board.specs.declared.Board.{Board}
-use Rattle.board.specs.Parts.{blank, partsOf}
+use Rattle.board.specs.Parts.{mostParts, blank, partsOf}
 use Rattle.board.specs.Rules.{boardFine}
 use Rattle.bits.proofs.BoolLaws.{both-true}
 use Rattle.board.proofs.RuleLaws.{InRange, counts-in-range}
@@ -41,25 +42,20 @@ module _ (v : ℕ) (out : List ℕ) (at : ℕ) {out′ : List ℕ} (x : NumberWr
       (given (at + length (numberBytes v)), sets out at (numberBytes v))
   told = wrote ∙ number-written v out at small room
 
+  answer : toldNumberWritten x ≡ given (at + length (numberBytes v))
+  answer = ap (λ (p : Outcome ℕ × List ℕ). p .0) told
+
   pub put-next : {next : ℕ} → x ≡ Next next → (next ≡ at + length (numberBytes v))
       × (out′ ≡ sets out at (numberBytes v))
-  put-next {next} is =
-      let answer : toldNumberWritten x ≡ given (at + length (numberBytes v)) =
-      ap (λ (p : Outcome ℕ × List ℕ). p .0) told in
-      let same : given next ≡ given (at + length (numberBytes v)) = ap toldNumberWritten (sym is) ∙ answer in
-      (cc, ap (λ (p : Outcome ℕ × List ℕ). p .1) told)
+  put-next is =
+      (given-injective _ _ (ap toldNumberWritten (sym is) ∙ answer), ap (λ (p : Outcome ℕ × List ℕ). p .1) told)
 
   pub put-never-refused : {r : Refusal} → x ≡ Refused r → ⊥
-  put-never-refused {r} is =
-      let answer : toldNumberWritten x ≡ given (at + length (numberBytes v)) =
-      ap (λ (p : Outcome ℕ × List ℕ). p .0) told in
-      let same : refused (r .number) (r .place) ≡ given (at + length (numberBytes v)) =
-      ap toldNumberWritten (sym is) ∙ answer in
-      let z : _≡_ {A = ℕ} 0 1 = cc in omega arith
+  put-never-refused {r} is = refused-never (r .number) (r .place) _ (ap toldNumberWritten (sym is) ∙ answer)
 
 -- ---- counts and parts as rows of numbers
 
-pub counts-numbers : (c : Counts) → countsBytes c ≡ numbersBytes (c .terminals ∷ c .relays ∷ c .buttons ∷ c .parts ∷ [])
+counts-numbers : (c : Counts) → countsBytes c ≡ numbersBytes (c .terminals ∷ c .relays ∷ c .buttons ∷ c .parts ∷ [])
 unfolding countsBytes numbersBytes
 counts-numbers c = simp append-nil
 
@@ -75,18 +71,25 @@ names-bytes k = bytes-by (eqb (kindNumber k) 0) (nameOf k)
     bytes-by true name = refl
     bytes-by false name = sym (append-nil (numberBytes name))
 
-pub part-numbers : (p : Part) → partBytes p ≡ numbersBytes (kindNumber (p .kind) ∷ p .a ∷ p .b ∷ namesOf (p .kind))
+part-numbers : (p : Part) → partBytes p ≡ numbersBytes (kindNumber (p .kind) ∷ p .a ∷ p .b ∷ namesOf (p .kind))
 unfolding partBytes numbersBytes
 part-numbers p = rw names-bytes
 
+-- of a board's counts, or of a part, the numbers vs are still to come
+abbrev pub CountsToCome : Counts → List ℕ → List ℕ → ℕ → List ℕ → Type 0
+CountsToCome c before out at vs = NumbersToCome before 0 (countsBytes c) out at vs
+
+abbrev pub PartToCome : Part → List ℕ → ℕ → List ℕ → ℕ → List ℕ → Type 0
+PartToCome p before start out at vs = NumbersToCome before start (partBytes p) out at vs
+
 -- where they have room, all of them are to come
 pub counts-to-come : (c : Counts) (out : List ℕ) → length (countsBytes c) ≤ length out
-    → NumbersToCome out 0 (countsBytes c) out 0 (c .terminals ∷ c .relays ∷ c .buttons ∷ c .parts ∷ [])
+    → CountsToCome c out out 0 (c .terminals ∷ c .relays ∷ c .buttons ∷ c .parts ∷ [])
 counts-to-come c out room =
     numbers-all (c .terminals ∷ c .relays ∷ c .buttons ∷ c .parts ∷ []) (counts-numbers c) (omega arith)
 
 pub part-to-come : (p : Part) (out : List ℕ) (at : ℕ) → at + length (partBytes p) ≤ length out
-    → NumbersToCome out at (partBytes p) out at (kindNumber (p .kind) ∷ p .a ∷ p .b ∷ namesOf (p .kind))
+    → PartToCome p out at out at (kindNumber (p .kind) ∷ p .a ∷ p .b ∷ namesOf (p .kind))
 part-to-come p out at room = numbers-all (kindNumber (p .kind) ∷ p .a ∷ p .b ∷ namesOf (p .kind)) (part-numbers p) room
 
 module _ {before all out : List ℕ} {start at : ℕ} (k : Kind) (t : NumbersToCome before start all out at (namesOf k))
@@ -162,16 +165,15 @@ module _ (b : Board) (out : List ℕ) {m n : ℕ} (fine : boardFine b ≡ true)
 
   module _ (room : m + n ≤ length out) where
     -- the counts have room, and then the parts behind them
-    pub counts-room : (b .counts .parts ≤ 256) × (length (countsBytes (b .counts)) ≤ length out)
+    pub counts-room : (b .counts .parts ≤ mostParts) × (length (countsBytes (b .counts)) ≤ length out)
     counts-room = (board-in-range b fine .most-parts, omega arith)
 
     module _ {at : ℕ} {out′ : List ℕ} (put : (at ≡ length (countsBytes (b .counts)))
         × (out′ ≡ sets out 0 (countsBytes (b .counts)))) where
-      pub parts-room : (b .counts .parts ≤ 256) × (at + length (partsBytes (partsOf b)) ≤ length out′)
+      pub parts-room : (b .counts .parts ≤ mostParts) × (at + length (partsBytes (partsOf b)) ≤ length out′)
       parts-room = (
         board-in-range b fine .most-parts,
-        omega
-            (arith, ap length (put .1), length-sets out 0 (countsBytes (b .counts))),
+        omega (arith, ap length (put .1), length-sets out 0 (countsBytes (b .counts))),
       )
 
       -- with both written the buffer holds the file

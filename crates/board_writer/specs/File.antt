@@ -3,6 +3,7 @@
 --     nameBytes k       the bytes of the relay or button that a kind carries; a wire has none
 --     partBytes p       a part's kind, both ends, and its relay or button
 --     partsBytes ps     parts one after the other
+--     countsBytes c     T, R, B and C
 --     boardBytes b      a board's file
 --     longestFile       no board's file is longer: 5 bytes of counts and 256 parts of 4
 use Prim.Native.Nat.{ℕ}

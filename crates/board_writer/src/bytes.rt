@@ -13,7 +13,8 @@ ghost use Rattle.board_writer.specs.File.{countsBytes, partBytes, partsB
 // Writes a number at a place where it has room, and gives the next place.
 fn put(value: u32, out: &mut [u8], at: usize) -> usize
     requires { ⌜ (value ≤ largest) × (at + length (numberBytes value) ≤ length (now out)) ⌝ }
-    ensures { λ r. ⌜ (r ≡ at + length (numberBytes value)) × (now (out .exit) ≡ sets (now (out .entry)) at (numberBytes value)) ⌝ }
+    ensures { λ r. ⌜ (r ≡ at + length (numberBytes value))
+        × (now (out .exit) ≡ sets (now (out .entry)) at (numberBytes value)) ⌝ }
 {
     let written = number::write_number(value, out, at);
     let NumberWritten::Next(next) = written else {
@@ -25,7 +26,8 @@ fn put(value: u32, out: &mut [u8], at: usize) -> usize
 // Writes T, R, B and C at the start of the buffer, and gives the next place.
 pub fn write_counts(counts: Counts, out: &mut [u8]) -> usize
     requires { ⌜ (counts .parts ≤ mostParts) × (length (countsBytes counts) ≤ length (now out)) ⌝ }
-    ensures { λ r. ⌜ (r ≡ length (countsBytes counts)) × (now (out .exit) ≡ sets (now (out .entry)) 0 (countsBytes counts)) ⌝ }
+    ensures { λ r. ⌜ (r ≡ length (countsBytes counts))
+        × (now (out .exit) ≡ sets (now (out .entry)) 0 (countsBytes counts)) ⌝ }
 {
     let relays_at = put(bits::wide(counts.terminals), out, 0);
     let buttons_at = put(bits::wide(counts.relays), out, relays_at);
@@ -36,7 +38,8 @@ pub fn write_counts(counts: Counts, out: &mut [u8]) -> usize
 // Writes a part at a place where it has room, and gives the next place.
 fn write_part(part: Part, out: &mut [u8], at: usize) -> usize
     requires { ⌜ at + length (partBytes part) ≤ length (now out) ⌝ }
-    ensures { λ r. ⌜ (r ≡ at + length (partBytes part)) × (now (out .exit) ≡ sets (now (out .entry)) at (partBytes part)) ⌝ }
+    ensures { λ r. ⌜ (r ≡ at + length (partBytes part))
+        × (now (out .exit) ≡ sets (now (out .entry)) at (partBytes part)) ⌝ }
 {
     let kind = part.kind;
     let number = kind.number();

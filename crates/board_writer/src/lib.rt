@@ -29,7 +29,8 @@ fn refuse(number: u32) -> Written
 
 // Writes a board's file at the start of the buffer: 15, then 16, with no byte written.
 pub fn write(board: Board, out: &mut [u8]) -> Written
-    ensures { λ r. ⌜ _≡_ {A = Outcome ℕ × List ℕ} (toldWritten r, now (out .exit)) (writing board (now (out .entry))) ⌝ }
+    ensures { λ r. ⌜ _≡_ {A = Outcome ℕ × List ℕ} (toldWritten r, now (out .exit))
+        (writing board (now (out .entry))) ⌝ }
 {
     if !board::check(board) {
         return refuse(number::BROKEN_BOARD);

@@ -15,8 +15,9 @@ use Rattle.windings.specs.Windings.{noneWound, gained, complete}
 use Rattle.board.specs.declared.Part.{Part}
 use Rattle.board.specs.declared.Counts.{Counts}
 use Rattle.board.specs.declared.Board.{Board}
-use Rattle.board.specs.Parts.{partsOf}
-use Rattle.board.specs.Rules.{inRange, countsFine, partFine, partsFine, boardFine}
+use Rattle.board.specs.Parts.{mostParts, partsOf}
+use Rattle.board.specs.Rules.{leastTerminals, mostTerminals, mostRelays, mostButtons, inRange, countsFine}
+use Rattle.board.specs.Rules.{partFine, partsFine, boardFine}
 use Rattle.bits.proofs.BoolLaws.{both-true, true-both}
 use Rattle.board.proofs.PaddedLaws.{padded-parts}
 use Rattle.board.proofs.RuleLaws.{InRange, counts-in-range}
@@ -30,7 +31,7 @@ use Rattle.file_means.proofs.PartTrip.{part-reads, PartIsFine, part-rea
 use Rattle.file_means.proofs.GivesLaws.{Gives, gives-then, gives-after, gives-unless}
 
 -- counts
-count-reads : (low high : ℕ) (s : List ℕ) (at next v : ℕ) → high ≤ 256 → low ≤ v → v ≤ high
+count-reads : (low high : ℕ) (s : List ℕ) (at next v : ℕ) → high ≤ mostParts → low ≤ v → v ≤ high
     → StandsTo s at next (numberBytes v) → wanted (inRange low high) outOfRange s at ≡ found v next
 count-reads low high s at next v few least most here =
     wanted-reads (inRange low high) outOfRange s at next v (omega arith) (range-within low high v least most) here
@@ -43,31 +44,27 @@ counts-reads c s next range here =
     let r = numberBytes (c .relays) in
     let b = numberBytes (c .buttons) in
     let p = numberBytes (c .parts) in
-    let after-t = stands-second s 0 next t (r ++ (b ++ p)) here in
-    let after-r = stands-second s (0 + length t) next r (b ++ p) after-t in
-    sym (counts-read s (c .terminals) (0 + length t) (c .relays) (0 + length t + length r) (c .buttons)
-    (0 + length t + length r + length b) (c .parts) next
-    (count-reads 2 64 s 0 (0 + length t) (c .terminals) (omega arith) (range .least-terminals)
+    let r-at = 0 + length t in
+    let b-at = r-at + length r in
+    let from-r = stands-second s 0 next t (r ++ (b ++ p)) here in
+    let from-b = stands-second s r-at next r (b ++ p) from-r in
+    sym (counts-read s _ _ _ _ _ _ _ next
+    (count-reads leastTerminals mostTerminals s 0 r-at (c .terminals) (omega arith) (range .least-terminals)
     (range .most-terminals) (stands-first s 0 next t (r ++ (b ++ p)) here))
-    (count-reads 0 32 s (0 + length t) (0 + length t + length r) (c .relays) (omega arith) (omega arith)
-    (range .most-relays) (stands-first s (0 + length t) next r (b ++ p) after-t))
-    (count-reads 0 32 s (0 + length t + length r) (0 + length t + length r + length b) (c .buttons) (omega arith)
-    (omega arith) (range .most-buttons) (stands-first s (0 + length t + length r) next b p after-r))
-    (count-reads 0 256 s (0 + length t + length r + length b) next (c .parts) (omega arith) (omega arith)
-    (range .most-parts) (stands-second s (0 + length t + length r) next b p after-r)))
+    (count-reads 0 mostRelays s r-at b-at (c .relays) (omega arith) (omega arith) (range .most-relays)
+    (stands-first s r-at next r (b ++ p) from-r))
+    (count-reads 0 mostButtons s b-at (b-at + length b) (c .buttons) (omega arith) (omega arith) (range .most-buttons)
+    (stands-first s b-at next b p from-b))
+    (count-reads 0 mostParts s (b-at + length b) next (c .parts) (omega arith) (omega arith) (range .most-parts)
+    (stands-second s b-at next b p from-b)))
 
 counts-stand : (c : Counts) (s : List ℕ) (next : ℕ) → Bytes s → CountsFound s c next → StandsTo s 0 next (countsBytes c)
 unfolding countsBytes
 counts-stand c s next bytes read =
-    stands-append s 0 (read .relays-at) next _ _
-    (wanted-stands (inRange 2 64) outOfRange s 0 (read .relays-at) (c .terminals) bytes (read .terminals))
-    (stands-append s (read .relays-at) (read .buttons-at) next _ _
-    (wanted-stands (inRange 0 32) outOfRange s (read .relays-at) (read .buttons-at) (c .relays) bytes
-    (read .relays))
-    (stands-append s (read .buttons-at) (read .parts-at) next _ _
-    (wanted-stands (inRange 0 32) outOfRange s (read .buttons-at) (read .parts-at) (c .buttons) bytes
-    (read .buttons))
-    (wanted-stands (inRange 0 256) outOfRange s (read .parts-at) next (c .parts) bytes (read .parts))))
+    stands-append s 0 (read .relays-at) next _ _ (wanted-stands _ _ s _ _ _ bytes (read .terminals))
+    (stands-append s (read .relays-at) (read .buttons-at) next _ _ (wanted-stands _ _ s _ _ _ bytes (read .relays))
+    (stands-append s (read .buttons-at) (read .parts-at) next _ _ (wanted-stands _ _ s _ _ _ bytes (read .buttons))
+    (wanted-stands _ _ s _ _ _ bytes (read .parts))))
 
 -- parts one after the other
 parts-reads : (c : Counts) (ps : List Part) (w : WoundSoFar) (s : List ℕ) (at next : ℕ) → InRange c
@@ -108,7 +105,7 @@ parts-read c (suc n) w s at =
     }))
 
 -- a board. An array of parts has 256 places, which a list does not say by itself
-pub board-reads : (b : Board) (s : List ℕ) (next : ℕ) → length (b .parts) ≡ 256 → boardFine b ≡ true
+pub board-reads : (b : Board) (s : List ℕ) (next : ℕ) → length (b .parts) ≡ mostParts → boardFine b ≡ true
     → StandsTo s 0 next (boardBytes b) → boardAt s ≡ found (boardOf (b .counts) (partsOf b)) next
 unfolding boardFine boardBytes boardAt boardFrom
 board-reads b s next places fine here =

@@ -7,21 +7,15 @@ use mathlib.Core.List.{List}
 use lib.Dec.{leb}
 use lib.ListN.{length}
 use borrow.Author.Tests.{leb-true, leb-false, le-leb, lt-leb}
-use Rattle.number.specs.Outcomes.{Outcome, given, refused, Found, _>>_, unless}
+use Rattle.number.specs.Outcomes.{Outcome, refused, Found, _>>_, unless}
 use Rattle.number.specs.Refusals.{inputTooLong}
-use Rattle.number.proofs.OutcomeLaws.{refused-never}
 use Rattle.board.specs.declared.Board.{Board}
 use Rattle.board_reader.specs.Reading.{boardAt, answered, reading, longestInput}
+use Rattle.board_reader.proofs.ReadLaws.{answered-refused}
 use Rattle.file_means.specs.FileRefusals.{LineHolds, FileRefused}
 use Rattle.file_means.proofs.RefusesLaws.{refuses-by, refuses-unless, refuses-each}
 use Rattle.file_means.proofs.RefusedHolds.{board-holds}
 use Rattle.file_means.proofs.HoldsRefused.{holds-board}
-
--- an answer is refused as what was read is
-answered-refused : (o : Outcome (Found Board)) (n p : ℕ) → answered o .1 ≡ refused n p → o ≡ refused n p
-unfolding answered
-answered-refused (given f) n p e = absurd (refused-never n p (f .next) (sym e))
-answered-refused (refused k q) n p e = cc
 
 module _ (s : List ℕ) where
   abbrev Line : ℕ → ℕ → Type 0
@@ -46,6 +40,5 @@ unfolding reading answered
 file-refused s r n p was =
     let answer = ap (λ (x : Board × Outcome ℕ). x .1) was in (
       λ no. read-holds s n p (answered-refused (read s) n p (sym answer ∙ no)),
-      λ line. answer
-          ∙ ap (λ (o : Outcome (Found Board)). answered o .1) (holds-read s n p line),
+      λ line. answer ∙ ap (λ (o : Outcome (Found Board)). answered o .1) (holds-read s n p line),
     )

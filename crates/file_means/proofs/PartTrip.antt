@@ -13,7 +13,7 @@ use Rattle.number.specs.Refusals.{noSuchKind, noSuchTerminal, endsEqual, noSuch
 use Rattle.number.specs.Numbers.{numberBytes, Bytes}
 use Rattle.kinds.specs.declared.Kind.{Kind}
 use Rattle.windings.specs.declared.WoundSoFar.{WoundSoFar}
-use Rattle.kinds.specs.Kinds.{kindNumber, nameOf, kindOf}
+use Rattle.kinds.specs.Kinds.{kindNumber, nameOf, kindOf, lastKind}
 use Rattle.windings.specs.Windings.{windingFree}
 use Rattle.board.specs.declared.Part.{Part}
 use Rattle.board.specs.declared.Counts.{Counts}
@@ -25,34 +25,10 @@ use Rattle.board_reader.specs.Reading.{wanted, nameAt, partAt}
 use Rattle.board_reader.proofs.FieldLaws.{range-within, range-bounds}
 use Rattle.board_reader.proofs.PartLaws.{part-as, part-found}
 use Rattle.board_writer.specs.File.{nameBytes, partBytes}
+use Rattle.board_writer.proofs.FileLaws.{limit-most, part-rules}
 use Rattle.file_means.proofs.StandLaws.{StandsTo, stands-none, stands-append, stands-first, stands-second}
 use Rattle.file_means.proofs.StandLaws.{number-stands, wanted-reads}
 use Rattle.file_means.proofs.GivesLaws.{Gives, gives-then, gives-unless, wanted-gives, wanted-then}
-
--- the rules of 5 to 8 that a fine part keeps, one by one
-record Rules (c : Counts) (w : WoundSoFar) (p : Part) : Type 0 where
-  a-below : terminalFine c (p .a) ≡ true
-  b-below : terminalFine c (p .b) ≡ true
-  apart : endsFine (p .a) (p .b) ≡ true
-  named : nameFine c (p .kind) ≡ true
-  free : windingFree w (p .kind) ≡ true
-
-part-rules : (c : Counts) (w : WoundSoFar) (p : Part) → partFine c w p ≡ true → Rules c w p
-unfolding partFine partFits
-part-rules c w p fine =
-    let free = both-true _ _ fine in
-    let named = both-true _ _ (free .0) in
-    let apart = both-true _ _ (named .0) in
-    let below = both-true _ _ (apart .0) in
-    record { a-below = below .0; b-below = below .1; apart = apart .1; named = named .1; free = free .1 }
-
--- a name's limit is R or B, so what is below it is small
-limit-most : (c : Counts) (k : ℕ) → InRange c → limitOf c k ≤ 32
-limit-most c k range = go (eqb k 3)
-  where
-    go : (t : Bool) → cond t (c .buttons) (c .relays) ≤ 32
-    go true = range .most-buttons
-    go false = range .most-relays
 
 -- a wire carries no name, which is told as 0
 wire-name : (k : Kind) → kindNumber k ≡ 0 → 0 ≡ nameOf k
@@ -78,41 +54,43 @@ name-reads c k s at next range = by (eqb (kindNumber k) 0) refl
         wanted-reads (λ v. ltb v limit) noSuchName s at next (nameOf k)
         (omega (arith, ltb-true (nameOf k) limit below, limit-most c (kindNumber k) range)) below here
 
+-- and so do an end's
+terminal-reads : (c : Counts) (s : List ℕ) (at next v : ℕ) → InRange c → terminalFine c v ≡ true
+    → StandsTo s at next (numberBytes v) → wanted (terminalFine c) noSuchTerminal s at ≡ found v next
+terminal-reads c s at next v range below =
+    wanted-reads (terminalFine c) noSuchTerminal s at next v
+    (omega (arith, ltb-true v (c .terminals) below, range .most-terminals)) below
+
 pub part-reads : (c : Counts) (w : WoundSoFar) (p : Part) (s : List ℕ) (at next : ℕ) → InRange c
     → partFine c w p ≡ true → StandsTo s at next (partBytes p) → partAt c w s at ≡ found p next
-unfolding partBytes
+unfolding partBytes partFine
 part-reads c w p s at next range fine here =
-    let rules = part-rules c w p fine in
+    let both = both-true (partFits c p) (windingFree w (p .kind)) fine in
+    let rules = part-rules c p (both .0) in
     let k = kindNumber (p .kind) in
     let ka = at + length (numberBytes k) in
-    let most : k ≤ 6 = kind-number-most (p .kind) in
-    let first =
-    stands-first s at next (numberBytes k) (numberBytes (p .a) ++ (numberBytes (p .b) ++ nameBytes (p .kind)))
-    here in
-    let after-kind =
-    stands-second s at next (numberBytes k) (numberBytes (p .a) ++ (numberBytes (p .b) ++ nameBytes (p .kind)))
-    here in
     let ab = ka + length (numberBytes (p .a)) in
-    let second = stands-first s ka next (numberBytes (p .a)) (numberBytes (p .b) ++ nameBytes (p .kind)) after-kind in
-    let after-a = stands-second s ka next (numberBytes (p .a)) (numberBytes (p .b) ++ nameBytes (p .kind)) after-kind in
     let bn = ab + length (numberBytes (p .b)) in
-    let third = stands-first s ab next (numberBytes (p .b)) (nameBytes (p .kind)) after-a in
-    let fourth = stands-second s ab next (numberBytes (p .b)) (nameBytes (p .kind)) after-a in
+    let after-b = nameBytes (p .kind) in
+    let after-a = numberBytes (p .b) ++ after-b in
+    let after-kind = numberBytes (p .a) ++ after-a in
+    let from-a = stands-second s at next (numberBytes k) after-kind here in
+    let from-b = stands-second s ka next (numberBytes (p .a)) after-a from-a in
+    let from-name = stands-second s ab next (numberBytes (p .b)) after-b from-b in
+    let most : k ≤ lastKind = kind-number-most (p .kind) in
     let kinds =
-    wanted-reads (inRange 0 6) noSuchKind s at ka k (omega arith) (range-within 0 6 k (omega arith) most) first
-    in
+    wanted-reads (inRange 0 lastKind) noSuchKind s at ka k (omega arith) (range-within 0 lastKind k (omega arith) most)
+    (stands-first s at next (numberBytes k) after-kind here) in
     let as-a =
-    wanted-reads (terminalFine c) noSuchTerminal s ka ab (p .a)
-    (omega (arith, ltb-true (p .a) (c .terminals) (rules .a-below), range .most-terminals)) (rules .a-below)
-    second in
+    terminal-reads c s ka ab (p .a) range (rules .a-below)
+    (stands-first s ka next (numberBytes (p .a)) after-a from-a) in
     let as-b =
-    wanted-reads (terminalFine c) noSuchTerminal s ab bn (p .b)
-    (omega (arith, ltb-true (p .b) (c .terminals) (rules .b-below), range .most-terminals)) (rules .b-below)
-    third in
-    let names = name-reads c (p .kind) s bn next range (rules .named) fourth in
+    terminal-reads c s ab bn (p .b) range (rules .b-below)
+    (stands-first s ab next (numberBytes (p .b)) after-b from-b) in
+    let names = name-reads c (p .kind) s bn next range (rules .named) from-name in
     let same = kind-of-parts (p .kind) in
     sym (part-found c w s at k ka kinds (p .a) ab as-a (p .b) bn as-b (eqb-false _ _ (not-true _ (rules .apart)))
-    (nameOf (p .kind)) next names (ap (windingFree w) same ∙ rules .free))
+    (nameOf (p .kind)) next names (ap (windingFree w) same ∙ both .1))
     ∙ part-as _ _ next refl refl same
 
 -- a name that was read is below its limit and stands there by its bytes; a wire carries none
@@ -120,7 +98,7 @@ record NameRead (c : Counts) (k : ℕ) (s : List ℕ) (at : ℕ) (n : Found ℕ)
   fine : nameFine c (kindOf k (n .value)) ≡ true
   stands : Bytes s → StandsTo s at (n .next) (nameBytes (kindOf k (n .value)))
 
-name-read : (c : Counts) (k : ℕ) (s : List ℕ) (at : ℕ) → k ≤ 6 → Gives (NameRead c k s at) (nameAt c k s at)
+name-read : (c : Counts) (k : ℕ) (s : List ℕ) (at : ℕ) → k ≤ lastKind → Gives (NameRead c k s at) (nameAt c k s at)
 unfolding nameAt nameFine nameBytes
 name-read c k s at most = by (eqb k 0) refl
   where
@@ -150,11 +128,11 @@ pub record PartIsFine (c : Counts) (w : WoundSoFar) (s : List ℕ) (at : ℕ) (p
 pub part-read : (c : Counts) (w : WoundSoFar) (s : List ℕ) (at : ℕ) → Gives (PartIsFine c w s at) (partAt c w s at)
 unfolding partAt partFine partFits partBytes
 part-read c w s at =
-    wanted-then _ (inRange 0 6) noSuchKind s at _ (λ k k-read kind.
+    wanted-then _ (inRange 0 lastKind) noSuchKind s at _ (λ k k-read kind.
     wanted-then _ (terminalFine c) noSuchTerminal s (k .next) _ (λ a a-read a-below.
     wanted-then _ (terminalFine c) noSuchTerminal s (a .next) _ (λ b b-read b-below.
     gives-unless _ (endsFine (a .value) (b .value)) endsEqual (a .next) _ (λ apart.
-    let most = range-bounds 0 6 (k .value) kind .1 in
+    let most = range-bounds 0 lastKind (k .value) kind .1 in
     gives-then (NameRead c (k .value) s (b .next)) _ (nameAt c (k .value) s (b .next)) _
     (name-read c (k .value) s (b .next) most) (λ n name.
     gives-unless _ (windingFree w (kindOf (k .value) (n .value))) windingTaken (b .next) _ (λ free.

@@ -9,14 +9,14 @@ use lib.Seq.{take-at, drop-at, length-take-le}
 use borrow.Author.Tests.{le-leb}
 use Rattle.number.specs.Outcomes.{Outcome, given}
 use Rattle.board.specs.declared.Board.{Board}
-use Rattle.board.specs.Parts.{partsOf}
+use Rattle.board.specs.Parts.{mostParts, partsOf}
 use Rattle.board.specs.Rules.{boardFine, countsFine}
 use Rattle.board.specs.Same.{sameBoard}
 use Rattle.bits.proofs.BoolLaws.{both-true}
 use Rattle.board.proofs.PaddedLaws.{padded-parts}
 use Rattle.board.proofs.RuleLaws.{counts-in-range}
 use Rattle.board.proofs.SameLaws.{equal-same-board}
-use Rattle.board_reader.specs.Reading.{boardOf, answered, reading}
+use Rattle.board_reader.specs.Reading.{boardOf, longestInput, answered, reading}
 use Rattle.board_writer.specs.File.{boardBytes}
 use Rattle.board_writer.specs.Writing.{writing}
 use Rattle.board_writer.proofs.WriteLaws.{writing-with-room}
@@ -33,19 +33,18 @@ begins bytes rest n long =
     record { there = ap (λ (l : List ℕ). bytes ++ l) (sym (drop-at bytes rest n (sym long))); ends = omega arith }
 
 -- a board's bytes, whatever stands after them, are read as that board
-module _ (b : Board) (rest : List ℕ) (n : ℕ) (places : length (b .parts) ≡ 256) (fine : boardFine b ≡ true)
-    (long : n ≡ length (boardBytes b)) (short : length (boardBytes b ++ rest) ≤ 65536) where
+module _ (b : Board) (rest : List ℕ) (n : ℕ) (places : length (b .parts) ≡ mostParts) (fine : boardFine b ≡ true)
+    (long : n ≡ length (boardBytes b)) (short : length (boardBytes b ++ rest) ≤ longestInput) where
   reads-back : reading (boardBytes b ++ rest) ≡ (boardOf (b .counts) (partsOf b), given n)
   unfolding reading answered
   reads-back =
       rw (
-        le-leb (length (boardBytes b ++ rest)) 65536 short,
-        board-reads b (boardBytes b ++ rest) n places fine
-            (begins (boardBytes b) rest n long),
+        le-leb (length (boardBytes b ++ rest)) longestInput short,
+        board-reads b (boardBytes b ++ rest) n places fine (begins (boardBytes b) rest n long),
       )
 
 -- the board that is read has the parts that were written
-same-again : (b : Board) → length (b .parts) ≡ 256 → boardFine b ≡ true
+same-again : (b : Board) → length (b .parts) ≡ mostParts → boardFine b ≡ true
     → sameBoard b (boardOf (b .counts) (partsOf b)) ≡ true
 unfolding boardFine
 same-again b places fine =
@@ -61,7 +60,7 @@ write-then-read b out out′ n w r places wrote told read =
     let bytes : take n out′ ≡ boardBytes b ++ [] =
     ap (take n) (written .begins) ∙ take-at (boardBytes b) (drop n out) n (sym (written .count))
     ∙ sym (append-nil (boardBytes b)) in
-    let few : length (boardBytes b ++ []) ≤ 65536 =
+    let few : length (boardBytes b ++ []) ≤ longestInput =
     rw (append-nil (boardBytes b)) (omega (arith, board-file-bound b (written .fine))) in
     let back = read ∙ ap reading bytes ∙ reads-back b [] n places (written .fine) (written .count) few in (
       ap (λ (a : Board × Outcome ℕ). a .1) back,

@@ -44,7 +44,7 @@ module _ (s : List ℕ) (at next : ℕ) (xs ys : List ℕ) (both : StandsTo s at
   stands-second = record { there = past; ends = omega (arith, both .ends, length-append xs ys) }
 
 -- a number's bytes read back to the number, and a number that was read stands there by its bytes
-pub number-reads : (s : List ℕ) (at next v : ℕ) → v ≤ largest → StandsTo s at next (numberBytes v)
+number-reads : (s : List ℕ) (at next v : ℕ) → v ≤ largest → StandsTo s at next (numberBytes v)
     → numberAt s at ≡ found v next
 number-reads s at next v small here =
     read-written s at v (drop next s) small (here .there) ∙ ap (found v) (sym (here .ends))

@@ -3,13 +3,19 @@
 use borrow.Author.Needs.{needs}
 use Rattle.board_reader.proofs.read.Statement.{statement}
 use Rattle.board_reader.proofs.read.Tie as tie
-use mathlib.Core.Path.{ap, _∙_}
-use Rattle.board_reader.specs.Reading.{toldReadAnswer}
-use Rattle.board_reader.proofs.PartsLaws.{answer-refused}
-use Rattle.board_reader.proofs.ReadLaws.{counts-stopped, counts-went, reading-long, reading-stopped}
-use Rattle.board_reader.proofs.ReadLaws.{reading-went}
+use mathlib.Core.Path.{_≡_, ap, _∙_}
+use Rattle.number.specs.Outcomes.{found}
 use Rattle.board.proofs.RuleLaws.{counts-in-range}
+use Rattle.board_reader.specs.Reading.{countsAt, toldReadAnswer}
 use Rattle.board_reader.proofs.CountsLaws.{counts-found, counts-found-fine}
+use Rattle.board_reader.proofs.PartsLaws.{answer-stopped, answer-went, answer-refused}
+use Rattle.board_reader.proofs.ReadLaws.{reading-long, reading-stopped, reading-went}
+
+-- the counts that were found
+counts : (c : tie.After-answer) → let called = c .before .before in
+    countsAt (called .before .before .before .args .s .now)
+    ≡ found (called .read-counts .result .counts) (c .answer .given .0 .0)
+counts c = answer-went _ _ _ (c .before .before .read-counts .ensures) _ (c .answer .given .1)
 
 returns : tie.Need-returns
 returns c =
@@ -18,28 +24,20 @@ returns c =
 
 returns-2 : tie.Need-returns-2
 returns-2 c =
-    let at-read-counts = c .before .before .before in
+    let refusal = c .before .enum-told .given .1 in
+    let called = c .before .before .before in
     answer-refused (c .no-board2 .result) _ _ _ (c .no-board2 .ensures .0) (c .no-board2 .ensures .1)
-    (ap toldReadAnswer (c .before .enum-told .given .1))
-    ∙ reading-stopped _ _ _ (c .before .before .before .before .if1 .left)
-    (counts-stopped _ (at-read-counts .read-counts .result) _ (c .before .enum-told .given .1)
-    (at-read-counts .read-counts .ensures))
+    (ap toldReadAnswer refusal) ∙ reading-stopped _ _ _ (called .before .if1 .left)
+    (answer-stopped _ _ _ (called .read-counts .ensures) _ refusal)
 
 read-parts-requires : tie.Need-read-parts-requires
 read-parts-requires c κs =
-    let at-read-counts = c .before .before .before .before in
-    let read =
-    counts-went _ (at-read-counts .read-counts .result) _ (c .before .before .answer .given .1)
-    (at-read-counts .read-counts .ensures) in
-    counts-in-range _ (counts-found-fine _ _ _ (counts-found _ _ _ read)) .most-parts
+    counts-in-range _ (counts-found-fine _ _ _ (counts-found _ _ _ (counts (c .before .before)))) .most-parts
 
 returns-3 : tie.Need-returns-3
 returns-3 c =
-    let at-read-counts = c .before .before .before .before .before in
-    let at-if1 = at-read-counts .before in
-    c .read-parts .ensures ∙ reading-went _ _ _ (at-if1 .if1 .left)
-    (counts-went _ (at-read-counts .read-counts .result) _ (c .before .before .before .answer .given .1)
-    (at-read-counts .read-counts .ensures))
+    c .read-parts .ensures ∙ reading-went _ _ _ (c .before .before .before .before .before .before .if1 .left)
+    (counts (c .before .before .before))
 
 pub read-spec : {M : Type 1} → statement M
 read-spec =

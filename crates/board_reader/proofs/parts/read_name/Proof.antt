@@ -4,6 +4,7 @@ use borrow.Author.Needs.{needs}
 use Rattle.board_reader.proofs.parts.read_name.Statement.{statement}
 use Rattle.board_reader.proofs.parts.read_name.Tie as tie
 use mathlib.Core.Path.{_∙_}
+use Rattle.number.specs.Refusals.{noSuchName}
 use Rattle.board_reader.proofs.FieldLaws.{wanted-below, name-wire, name-carried}
 
 returns : tie.Need-returns
@@ -11,7 +12,7 @@ returns c = name-wire _ _ _ _ (c .if1 .taken)
 
 returns-2 : tie.Need-returns-2
 returns-2 c =
-    c .read-below .ensures ∙ wanted-below 7 _ _ _ _
+    c .read-below .ensures ∙ wanted-below noSuchName _ _ _ _
     (c .before .wide .ensures .0 ∙ c .before .before .limit .ensures)
     ∙ name-carried _ _ _ _ (c .before .before .before .if1 .left)
 

@@ -5,18 +5,18 @@ use Rattle.board_reader.proofs.parts.read_parts.Tie as tie
 use borrow.Author.Needs.{needs}
 use native.Mathlib.Omega.{arith}
 use Prim.Native.Nat.{_≤_, _-_}
-use mathlib.Core.Path.{_≡_, refl, sym, _∙_}
+use mathlib.Core.Path.{_≡_, refl, sym, ap, _∙_}
 use borrow.Author.Tests.{not-true, not-false}
-use lib.ListN.{length}
+use lib.ListN.{length, length-set}
+use Rattle.board.specs.Parts.{mostParts}
 use Rattle.board_reader.proofs.PartsLaws.{Walk, walk-start, walk-on, walk-refused, walk-lacking, walk-end}
-use Rattle.board_reader.proofs.PartsLaws.{part-stopped, part-went, answer-refused, board-refused, board-found}
-use mathlib.Core.Path.{ap}
+use Rattle.board_reader.proofs.PartsLaws.{answer-stopped, answer-went, answer-refused, board-refused}
+use Rattle.board_reader.proofs.PartsLaws.{board-found}
 use Rattle.board_reader.specs.Reading.{answered, toldReadAnswer}
-use lib.ListN.{length-set}
 
 abbrev Inv-loop : tie.InvT-loop
 Inv-loop s start counts parts₀ windings₀ at₀ count i₀ parts windings at i =
-    (count ≡ counts .parts) × (count ≤ 256) × (i ≤ count) × (length parts ≡ 256)
+    (count ≡ counts .parts) × (count ≤ mostParts) × (i ≤ count) × (length parts ≡ mostParts)
     × Walk counts s start parts windings at i
 
 abbrev μ-loop : tie.MeasureT-loop
@@ -28,35 +28,30 @@ loop-holds c = (
   c .before .before .before .pre,
   omega arith,
   refl,
-  walk-start _ _ _ _ _ (c .before .blank .ensures)
-      (c .none .ensures),
+  walk-start _ _ _ _ _ (c .before .blank .ensures) (c .none .ensures),
 )
 
 returns : tie.Need-returns Inv-loop μ-loop
 returns c =
-    let at-read-part = c .before .before .before in
+    let refusal = c .before .enum-told .given .1 in
+    let called = c .before .before .before in
     answer-refused (c .no-board .result) _ _ _ (c .no-board .ensures .0) (c .no-board .ensures .1)
-    (ap toldReadAnswer (c .before .enum-told .given .1))
+    (ap toldReadAnswer refusal)
     ∙ ap answered
-    (board-refused _ _ _ _ (walk-refused _ _ _ _ _ _ _ (c .before .before .before .before .before .loop .inv .4)
-    _ _ (c .before .before .before .before .loop-test .taken)
-    (part-stopped _ (at-read-part .read-part .result) _ (c .before .enum-told .given .1)
-    (at-read-part .read-part .ensures))))
+    (board-refused _ _ _ _ (walk-refused _ _ _ _ _ _ _ (called .before .before .loop .inv .4) _ _
+    (called .before .loop-test .taken) (answer-stopped _ _ _ (called .read-part .ensures) _ refusal)))
 
 loop-again : tie.Need-loop-again Inv-loop μ-loop
 loop-again c =
-    let at-read-part = c .before .before .before .before .before in
-    let at-loop-test = at-read-part .before in
-    let at-loop = at-loop-test .before in (
+    let called = c .before .before .before .before .before in
+    let at-loop = called .before .before in (
       refl,
       at-loop .loop .inv .1,
       omega arith,
-      length-set (at-loop .loop .parts) (at-loop .loop .i)
-          (at-read-part .read-part .result .part) ∙ at-loop .loop .inv .3,
-      walk-on _ _ _ _ _ _ _
-          (at-loop .loop .inv .4) _ _ _ (at-loop-test .loop-test .taken) (at-loop .loop .inv .1)
-          (part-went _ (at-read-part .read-part .result) _ (c .before .before .before .answer .given .1)
-          (at-read-part .read-part .ensures)) (c .with .ensures),
+      length-set (at-loop .loop .parts) (at-loop .loop .i) (called .read-part .result .part) ∙ at-loop .loop .inv .3,
+      walk-on _ _ _ _ _ _ _ (at-loop .loop .inv .4) _ _ _ (called .before .loop-test .taken) (at-loop .loop .inv .1)
+          (answer-went _ _ _ (called .read-part .ensures) _ (c .before .before .before .answer .given .1))
+          (c .with .ensures),
     )
 
 returns-2 : tie.Need-returns-2 Inv-loop μ-loop

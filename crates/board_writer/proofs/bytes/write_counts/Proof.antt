@@ -3,9 +3,39 @@ use borrow.Author.Needs.{needs}
 use Rattle.board_writer.proofs.bytes.write_counts.Statement.{statement}
 use Rattle.board_writer.proofs.bytes.write_counts.Tie as tie
 use mathlib.Core.Path.{refl}
+use mathlib.Core.List.{List, [], _∷_}
+use Prim.Native.Nat.{ℕ}
 use native.Mathlib.Omega.{arith}
+use Rattle.board.specs.declared.Counts.{Counts}
 use Rattle.board_writer.proofs.PieceLaws.{number-room, number-put, numbers-done-first}
-use Rattle.board_writer.proofs.WriteLaws.{counts-to-come}
+use Rattle.board_writer.proofs.WriteLaws.{CountsToCome, counts-to-come}
+
+-- what is to come after each `put`
+abbrev counts : tie.After-put → Counts
+counts t = t .before .before .before .before .args .counts
+
+abbrev lent : tie.After-put → List ℕ
+lent t = t .before .before .before .before .args .out .now
+
+after-terminals : (t : tie.After-put)
+    → CountsToCome (counts t) (lent t) (t .put .last .1 .0) (t .put .result)
+    (counts t .relays ∷ counts t .buttons ∷ counts t .parts ∷ [])
+after-terminals t =
+    number-put (t .before .before .wide .ensures .0)
+    (counts-to-come (counts t) (lent t) (t .before .before .before .before .pre .1)) (t .put .ensures)
+
+after-relays : (r : tie.After-put2) → let t = r .before .before .before .before .before in
+    CountsToCome (counts t) (lent t) (r .put2 .last .1 .0) (r .put2 .result) (counts t .buttons ∷ counts t .parts ∷ [])
+after-relays r =
+    number-put (r .before .before .wide2 .ensures .0) (after-terminals (r .before .before .before .before .before))
+    (r .put2 .ensures)
+
+after-buttons : (b : tie.After-put3) →
+    let t = b .before .before .before .before .before .before .before .before .before .before in
+    CountsToCome (counts t) (lent t) (b .put3 .last .1 .0) (b .put3 .result) (counts t .parts ∷ [])
+after-buttons b =
+    number-put (b .before .before .wide3 .ensures .0) (after-relays (b .before .before .before .before .before))
+    (b .put3 .ensures)
 
 put-requires : tie.Need-put-requires
 put-requires c κs =
@@ -15,56 +45,20 @@ put-requires c κs =
 
 put-requires-2 : tie.Need-put-requires-2
 put-requires-2 c κs =
-    let at-wide = c .before .before .before .before .before .before in
-    let entry = at-wide .before .before in
-    number-room (c .before .wide2 .ensures .0)
-    (number-put (at-wide .wide .ensures .0)
-    (counts-to-come (entry .args .counts) (entry .args .out .now) (entry .pre .1))
-    (c .before .before .before .before .put .ensures)) (omega arith)
+    number-room (c .before .wide2 .ensures .0) (after-terminals (c .before .before .before .before)) (omega arith)
 
 put-requires-3 : tie.Need-put-requires-3
 put-requires-3 c κs =
-    let at-wide2 = c .before .before .before .before .before .before in
-    let at-put = at-wide2 .before .before .before in
-    let at-wide = at-put .before .before in
-    let entry = at-wide .before .before in
-    number-room (c .before .wide3 .ensures .0)
-    (number-put (at-wide2 .wide2 .ensures .0)
-    (number-put (at-wide .wide .ensures .0)
-    (counts-to-come (entry .args .counts) (entry .args .out .now) (entry .pre .1)) (at-put .put .ensures))
-    (c .before .before .before .before .put2 .ensures)) (omega arith)
+    number-room (c .before .wide3 .ensures .0) (after-relays (c .before .before .before .before)) (omega arith)
 
 put-requires-4 : tie.Need-put-requires-4
-put-requires-4 c κs =
-    let at-wide3 = c .before .before .before .before .before .before in
-    let at-put2 = at-wide3 .before .before .before in
-    let at-wide2 = at-put2 .before .before in
-    let at-put = at-wide2 .before .before .before in
-    let at-wide = at-put .before .before in
-    let entry = at-wide .before .before in
-    number-room refl
-    (number-put (at-wide3 .wide3 .ensures .0)
-    (number-put (at-wide2 .wide2 .ensures .0)
-    (number-put (at-wide .wide .ensures .0)
-    (counts-to-come (entry .args .counts) (entry .args .out .now) (entry .pre .1)) (at-put .put .ensures))
-    (at-put2 .put2 .ensures)) (c .before .before .before .before .put3 .ensures)) (omega arith)
+put-requires-4 c κs = number-room refl (after-buttons (c .before .before .before .before)) (omega arith)
 
 returns : tie.Need-returns
 returns c =
-    let at-put3 = c .before .before .before .before .before .before .before in
-    let at-wide3 = at-put3 .before .before in
-    let at-put2 = at-wide3 .before .before .before in
-    let at-wide2 = at-put2 .before .before in
-    let at-put = at-wide2 .before .before .before in
-    let at-wide = at-put .before .before in
-    let entry = at-wide .before .before in
     numbers-done-first
-    (number-put refl
-    (number-put (at-wide3 .wide3 .ensures .0)
-    (number-put (at-wide2 .wide2 .ensures .0)
-    (number-put (at-wide .wide .ensures .0)
-    (counts-to-come (entry .args .counts) (entry .args .out .now) (entry .pre .1)) (at-put .put .ensures))
-    (at-put2 .put2 .ensures)) (at-put3 .put3 .ensures)) (c .before .before .put4 .ensures))
+    (number-put refl (after-buttons (c .before .before .before .before .before .before .before))
+    (c .before .before .put4 .ensures))
 
 pub write-counts-spec : {M : Type 1} → statement M
 write-counts-spec =

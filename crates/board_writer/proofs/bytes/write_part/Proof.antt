@@ -4,93 +4,79 @@ use borrow.Author.Needs.{needs}
 use Rattle.board_writer.proofs.bytes.write_part.Statement.{statement}
 use Rattle.board_writer.proofs.bytes.write_part.Tie as tie
 use mathlib.Core.Path.{sym, _∙_}
+use mathlib.Core.List.{_∷_}
 use native.Mathlib.Omega.{arith}
 use Rattle.kinds.proofs.KindLaws.{kind-number-most}
 use Rattle.board_writer.proofs.PieceLaws.{number-room, number-put, numbers-done}
-use Rattle.board_writer.proofs.WriteLaws.{part-to-come, wire-to-come, name-to-come}
+use Rattle.board_writer.proofs.WriteLaws.{namesOf, PartToCome, part-to-come, wire-to-come, name-to-come}
+
+-- what is to come after each `put`
+abbrev entry : tie.After-put → tie.Start
+entry k = k .before .before .before .before
+
+after-kind : (k : tie.After-put) → let args = entry k .args in
+    PartToCome (args .part) (args .out .now) (args .at) (k .put .last .1 .0) (k .put .result)
+    (args .part .a ∷ args .part .b ∷ namesOf (args .part .kind))
+after-kind k =
+    let args = entry k .args in
+    number-put (k .before .before .number .ensures)
+    (part-to-come (args .part) (args .out .now) (args .at) (entry k .pre)) (k .put .ensures)
+
+after-a : (a : tie.After-put2) → let args = entry (a .before .before .before .before .before) .args in
+    PartToCome (args .part) (args .out .now) (args .at) (a .put2 .last .1 .0) (a .put2 .result)
+    (args .part .b ∷ namesOf (args .part .kind))
+after-a a =
+    number-put (a .before .before .wide .ensures .0) (after-kind (a .before .before .before .before .before))
+    (a .put2 .ensures)
+
+abbrev kind-put : tie.After-put3 → tie.After-put
+kind-put b = b .before .before .before .before .before .before .before .before .before .before
+
+after-b : (b : tie.After-put3) → let args = entry (kind-put b) .args in
+    PartToCome (args .part) (args .out .now) (args .at) (b .put3 .last .1 .0) (b .put3 .result)
+    (namesOf (args .part .kind))
+after-b b =
+    number-put (b .before .before .wide2 .ensures .0) (after-a (b .before .before .before .before .before))
+    (b .put3 .ensures)
 
 put-requires : tie.Need-put-requires
 put-requires c κs =
-    let entry = c .before .before .before in
+    let args = c .before .before .before .args in
     number-room (c .before .number .ensures)
-    (part-to-come (entry .args .part) (entry .args .out .now) (entry .args .at) (entry .pre))
-    (omega (arith, kind-number-most (entry .args .part .kind)))
+    (part-to-come (args .part) (args .out .now) (args .at) (c .before .before .before .pre))
+    (omega (arith, kind-number-most (args .part .kind)))
 
 put-requires-2 : tie.Need-put-requires-2
 put-requires-2 c κs =
-    let at-number = c .before .before .before .before .before .before in
-    let entry = at-number .before .before in
-    number-room (c .before .wide .ensures .0)
-    (number-put (at-number .number .ensures)
-    (part-to-come (entry .args .part) (entry .args .out .now) (entry .args .at) (entry .pre))
-    (c .before .before .before .before .put .ensures)) (omega arith)
+    number-room (c .before .wide .ensures .0) (after-kind (c .before .before .before .before)) (omega arith)
 
 put-requires-3 : tie.Need-put-requires-3
 put-requires-3 c κs =
-    let at-wide = c .before .before .before .before .before .before in
-    let at-put = at-wide .before .before .before in
-    let at-number = at-put .before .before in
-    let entry = at-number .before .before in
-    number-room (c .before .wide2 .ensures .0)
-    (number-put (at-wide .wide .ensures .0)
-    (number-put (at-number .number .ensures)
-    (part-to-come (entry .args .part) (entry .args .out .now) (entry .args .at) (entry .pre))
-    (at-put .put .ensures)) (c .before .before .before .before .put2 .ensures)) (omega arith)
+    number-room (c .before .wide2 .ensures .0) (after-a (c .before .before .before .before)) (omega arith)
 
 put-requires-4 : tie.Need-put-requires-4
 put-requires-4 c κs =
-    let at-put3 = c .before .before .before .before .before .before in
-    let at-wide2 = at-put3 .before .before in
-    let at-put2 = at-wide2 .before .before .before in
-    let at-wide = at-put2 .before .before in
-    let at-put = at-wide .before .before .before in
-    let at-number = at-put .before .before in
-    let entry = at-number .before .before in
+    let b = c .before .before .before .before .before .before in
     number-room (c .before .wide3 .ensures .0 ∙ c .before .before .name .ensures)
-    (name-to-come (entry .args .part .kind)
-    (number-put (at-wide2 .wide2 .ensures .0)
-    (number-put (at-wide .wide .ensures .0)
-    (number-put (at-number .number .ensures)
-    (part-to-come (entry .args .part) (entry .args .out .now) (entry .args .at) (entry .pre))
-    (at-put .put .ensures)) (at-put2 .put2 .ensures)) (at-put3 .put3 .ensures))
-    (λ z. c .before .before .before .if1 .left (at-number .number .ensures ∙ z))) (omega arith)
+    (name-to-come (entry (kind-put b) .args .part .kind) (after-b b)
+    (λ z. c .before .before .before .if1 .left (kind-put b .before .before .number .ensures ∙ z))) (omega arith)
 
 returns : tie.Need-returns
 returns c =
-    let at-put2 = c .before .before .before .before .before .before .before .before in
-    let at-wide = at-put2 .before .before in
-    let at-put = at-wide .before .before .before in
-    let at-number = at-put .before .before in
-    let entry = at-number .before .before in
+    let b = c .before .before .before in
     numbers-done
-    (wire-to-come (entry .args .part .kind)
-    (number-put (c .before .before .before .before .before .wide2 .ensures .0)
-    (number-put (at-wide .wide .ensures .0)
-    (number-put (at-number .number .ensures)
-    (part-to-come (entry .args .part) (entry .args .out .now) (entry .args .at) (entry .pre))
-    (at-put .put .ensures)) (at-put2 .put2 .ensures)) (c .before .before .before .put3 .ensures))
-    (sym (at-number .number .ensures) ∙ c .if1 .taken))
+    (wire-to-come (entry (kind-put b) .args .part .kind) (after-b b)
+    (sym (kind-put b .before .before .number .ensures) ∙ c .if1 .taken))
 
 returns-2 : tie.Need-returns-2
 returns-2 c =
-    let at-if1 = c .before .before .before .before .before .before in
-    let at-put3 = at-if1 .before .before .before in
-    let at-wide2 = at-put3 .before .before in
-    let at-put2 = at-wide2 .before .before .before in
-    let at-wide = at-put2 .before .before in
-    let at-put = at-wide .before .before .before in
-    let at-number = at-put .before .before in
-    let entry = at-number .before .before in
+    let named = c .before .before .before .before in
+    let b = named .before .before .before .before .before in
     numbers-done
-    (number-put (c .before .before .before .before .wide3 .ensures .0
-    ∙ c .before .before .before .before .before .name .ensures)
-    (name-to-come (entry .args .part .kind)
-    (number-put (at-wide2 .wide2 .ensures .0)
-    (number-put (at-wide .wide .ensures .0)
-    (number-put (at-number .number .ensures)
-    (part-to-come (entry .args .part) (entry .args .out .now) (entry .args .at) (entry .pre))
-    (at-put .put .ensures)) (at-put2 .put2 .ensures)) (at-put3 .put3 .ensures))
-    (λ z. at-if1 .if1 .left (at-number .number .ensures ∙ z))) (c .before .before .put4 .ensures))
+    (number-put (named .wide3 .ensures .0 ∙ named .before .name .ensures)
+    (name-to-come (entry (kind-put b) .args .part .kind) (after-b b)
+    (λ z. named .before .before .if1 .left (kind-put b .before .before .number .ensures ∙ z)))
+    (c .before .before .put4 .ensures))
 
 pub write-part-spec : {M : Type 1} → statement M
 write-part-spec =

@@ -5,14 +5,15 @@ use mathlib.Core.Path.{_≡_}
 use Prim.Native.Nat.{_-_, _≤_}
 use native.Mathlib.Omega.{arith}
 use lib.ListN.{length, take, drop}
+use Rattle.board.specs.Parts.{mostParts}
 use Rattle.board_writer.specs.File.{partsBytes}
 use Rattle.board_writer.proofs.PieceLaws.{ToCome, to-come-all, to-come-length}
 use Rattle.board_writer.proofs.WriteLaws.{part-room, part-put, parts-done}
 
 abbrev Inv-loop : tie.InvT-loop
 Inv-loop count out₀ start parts at₀ i₀ out at i =
-    (count ≤ 256) × (length parts ≡ 256) × (i ≤ count) × ToCome out₀ start (partsBytes (take count parts)) out at
-    (partsBytes (drop i (take count parts)))
+    (count ≤ mostParts) × (length parts ≡ mostParts) × (i ≤ count)
+    × ToCome out₀ start (partsBytes (take count parts)) out at (partsBytes (drop i (take count parts)))
 
 abbrev μ-loop : tie.MeasureT-loop
 μ-loop count out₀ start parts at₀ i₀ out at i = count - i

@@ -4,39 +4,21 @@ use borrow.Author.Needs.{needs}
 use Rattle.board_writer.proofs.lengths.part_length.Statement.{statement}
 use Rattle.board_writer.proofs.lengths.part_length.Tie as tie
 use mathlib.Core.Path.{_∙_}
+use Prim.Native.Nat.{_+_, _≤_}
 use native.Mathlib.Omega.{arith}
 use Rattle.number.proofs.NumberLaws.{number-bytes-length}
 use Rattle.board_writer.proofs.LengthLaws.{wire-length-is, part-length-is}
 
-add-ends : tie.Need-add-ends
-add-ends c =
+-- the kind and both ends take few bytes
+ends-few : (c : tie.After-number-length3)
+    → c .number-length3 .result + c .before .before .before .number-length .result + c .before .number-length2 .result
+    ≤ 9
+ends-few c =
     omega (
       arith,
       number-bytes-length (c .before .before .before .before .before .number .result),
       number-bytes-length (c .before .before .before .before .wide .result),
-    )
-
-add-ends-2 : tie.Need-add-ends-2
-add-ends-2 c =
-    omega (
-      arith,
-      number-bytes-length (c .before .before .before .before .before .number .result),
-      number-bytes-length (c .before .before .before .before .wide .result),
-      number-bytes-length
-          (c .before .before .wide2 .result),
-    )
-
-add-result : tie.Need-add-result
-add-result c =
-    let at-wide2 = c .before .before .before .before .before .before in
-    let at-wide = at-wide2 .before .before in
-    let at-number = at-wide .before in
-    omega (
-      arith,
-      number-bytes-length (at-number .number .result),
-      number-bytes-length (at-wide .wide .result),
-      number-bytes-length (at-wide2 .wide2 .result),
-      number-bytes-length (c .before .wide3 .result),
+      number-bytes-length (c .before .before .wide2 .result),
     )
 
 returns : tie.Need-returns
@@ -71,11 +53,11 @@ part-length-spec =
     (λ c κs. search needs)
     (λ c κs. search needs)
     (λ c κs. search needs)
-    add-ends
-    add-ends-2
+    (λ c. omega (arith, ends-few c))
+    (λ c. omega (arith, ends-few c))
     (λ c κs. search needs)
     (λ c κs. search needs)
     (λ c κs. search needs)
-    add-result
+    (λ c. omega (arith, returns-2 c))
     returns
     returns-2)

@@ -7,12 +7,13 @@ use Prim.Native.Nat.{_+_, _*_, _-_, _≤_}
 use native.Mathlib.Omega.{arith}
 use borrow.Author.Needs.{needs}
 use lib.ListN.{length, take, drop}
+use Rattle.board.specs.Parts.{mostParts}
 use Rattle.board_writer.specs.File.{partsBytes}
 use Rattle.board_writer.proofs.LengthLaws.{parts-length-on, parts-length-end}
 
 abbrev Inv-loop : tie.InvT-loop
 Inv-loop count parts total₀ i₀ total i =
-    (count ≤ 256) × (length parts ≡ 256) × (i ≤ count) × (total ≤ 12 * i)
+    (count ≤ mostParts) × (length parts ≡ mostParts) × (i ≤ count) × (total ≤ 12 * i)
     × (total + length (partsBytes (drop i (take count parts))) ≡ length (partsBytes (take count parts)))
 
 abbrev μ-loop : tie.MeasureT-loop
