@@ -2,17 +2,23 @@
 -- The laws of numbers, parts, boards and states cite these.
 use mathlib.Core.Path.{_≡_, sym, ap, _∙_}
 use mathlib.Core.List.{List, [], _∷_, _++_}
-use Prim.Native.Nat.{ℕ, suc, _+_, _≤_}
+use Prim.Native.Nat.{ℕ, zero, suc, _+_, _≤_}
 use native.Mathlib.Nat.{add-zero, zero-add, suc-add, add-suc}
 use native.Mathlib.Omega.{arith}
-use lib.ListN.{length, drop, set}
-use lib.Seq.{sets, sets-eq, drop-append-seam, drop-drop}
+use lib.ListN.{length, take, drop, set}
+use lib.Seq.{sets, sets-eq, take-nil, drop-append-seam, drop-drop}
 
 module _ {A : Type 0} where
   -- what stands behind a piece that was found at a place
   pub drop-past : (s : List A) (at : ℕ) (xs rest : List A) → drop at s ≡ xs ++ rest → drop (at + length xs) s ≡ rest
   drop-past s at xs rest e =
       sym (drop-drop (length xs) at s) ∙ ap (drop (length xs)) e ∙ drop-append-seam xs rest
+
+  -- the first m elements from a place on
+  pub take-drop : (at m : ℕ) (s : List A) → take m (drop at s) ≡ drop at (take (at + m) s)
+  take-drop zero m s = rw zero-add
+  take-drop (suc at) m [] = rw (take-nil m, take-nil)
+  take-drop (suc at) m (x ∷ s) = rw (suc-add, take-drop at m s)
 
   -- two pieces written one after the other are one piece written
   pub sets-append : (l : List A) (i : ℕ) (xs ys : List A) → sets (sets l i xs) (i + length xs) ys ≡ sets l i (xs ++ ys)

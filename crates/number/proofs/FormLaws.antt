@@ -9,7 +9,7 @@ use native.Mathlib.Omega.{arith}
 use borrow.Author.Tests.{lt-ltb, le-ltb}
 use mir.Syntax.{w8}
 use mir.Val.{Fits}
-use lib.ListN.{length, getD, drop}
+use lib.ListN.{length, getD, take, drop, length-take}
 use lib.Seq.{getD-drop}
 use Rattle.bits.proofs.BoolLaws.{by-less}
 use Rattle.number.specs.declared.Form.{Form}
@@ -161,6 +161,35 @@ form-within (suc k) (b ∷ s) v n e =
     (λ m.
     let r : Below (b - 128) (form k s) v n = got-below (b - 128) (form k s) v n (sym (form-more k b s m) ∙ e) in
     within-more k b s n (r .bytes) (r .next) (form-within k s (r .above) (r .bytes) (r .rest)))
+
+took-first : (b c n : ℕ) (s t : List ℕ) → take (suc n) (b ∷ s) ≡ take (suc n) (c ∷ t) → b ≡ c
+took-first b c n s t e = cc
+
+took-rest : (b c n : ℕ) (s t : List ℕ) → take (suc n) (b ∷ s) ≡ take (suc n) (c ∷ t) → take n s ≡ take n t
+took-rest b c n s t e = cc
+
+took-none : (b n : ℕ) (s : List ℕ) → 0 < n → take n (b ∷ s) ≡ take n [] → ⊥
+took-none b n s h e = omega (arith, simp length-take at (ap length e))
+
+-- two inputs that begin with the same n bytes have the same form there, if it takes n bytes
+pub form-no-further : (k : ℕ) (s t : List ℕ) (v n : ℕ) → take n s ≡ take n t → form k s ≡ Got v n → form k t ≡ Got v n
+unfolding form
+form-no-further zero s t v n p e = e
+form-no-further (suc k) [] t v n p e = absurd (never-ends v n e)
+form-no-further (suc k) (b ∷ s) [] v n p e =
+    absurd (took-none b n s (form-within (suc k) (b ∷ s) v n e .some) p)
+form-no-further (suc k) (b ∷ s) (c ∷ t) v n p e =
+    by-less b 128
+    (λ l.
+    let f : Got b 1 ≡ Got v n = sym (form-last k b s l) ∙ e in
+    let en : n ≡ 1 = cc in
+    rw (← took-first b c 0 s t (rw en at p)) (form-last k b t l ∙ f))
+    (λ m.
+    let r : Below (b - 128) (form k s) v n = got-below (b - 128) (form k s) v n (sym (form-more k b s m) ∙ e) in
+    let q : take (suc (r .bytes)) (b ∷ s) ≡ take (suc (r .bytes)) (c ∷ t) = rw (r .next) at p in
+    let rest = form-no-further k s t (r .above) (r .bytes) (took-rest b c (r .bytes) s t q) (r .rest) in
+    rw (← took-first b c (r .bytes) s t q)
+    (form-more k b t m ∙ ap (below (b - 128)) (rest ∙ sym (r .rest)) ∙ sym (form-more k b s m) ∙ e))
 
 -- ---- how long a written form is
 

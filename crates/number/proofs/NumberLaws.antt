@@ -11,7 +11,7 @@ use borrow.Author.Tests.{leb-true, le-leb, lt-leb}
 use lib.Dec.{leb}
 use mir.Syntax.{w8}
 use mir.Val.{Fits}
-use lib.ListN.{length, getD, drop, length-drop}
+use lib.ListN.{length, getD, take, drop, length-drop}
 use lib.Seq.{sets, drop-drop}
 use Rattle.number.specs.declared.Number.{Number}
 use Rattle.number.specs.declared.Number.the-variants.{Read, Refused}
@@ -25,6 +25,8 @@ use Rattle.number.specs.Numbers.{Bytes, form, placed, numberAt, encode, 
 use Rattle.number.specs.Numbers.{toldNumberWritten, longest, largest}
 use Rattle.number.proofs.OutcomeLaws.{refused-never, given-injective, refusal-equal}
 use Rattle.number.proofs.FormLaws.{FormRead, Bytes-slice, Bytes-drop, form-written, form-read, form-within}
+use Rattle.number.proofs.FormLaws.{form-no-further}
+use Rattle.number.proofs.Buffers.{take-drop}
 use Rattle.number.proofs.FormLaws.{encode-last, encode-some, encode-few, encode-short, encode-long, encode-bytes}
 
 -- ---- outcomes
@@ -123,6 +125,18 @@ pub number-next-within : (s : List ℕ) (at v n : ℕ) → numberAt s at ≡ fou
 number-next-within s at v n e =
     let p : PlacedForm at (form longest (drop at s)) v n = number-placed s at v n e in
     omega (arith, form-within longest (drop at s) v (p .bytes) (p .is), length-drop at s)
+
+-- reading looks at no byte past the number
+pub number-looks-no-further : (s t : List ℕ) (at v n : ℕ) → take n s ≡ take n t → numberAt s at ≡ found v n
+    → numberAt t at ≡ found v n
+unfolding numberAt
+number-looks-no-further s t at v n q e =
+    let p : PlacedForm at (form longest (drop at s)) v n = number-placed s at v n e in
+    let same : take (p .bytes) (drop at s) ≡ take (p .bytes) (drop at t) =
+    take-drop at (p .bytes) s ∙ ap (drop at) (rw (p .next) at q) ∙ sym (take-drop at (p .bytes) t) in
+    ap (placed (length t) at) (form-no-further longest (drop at s) (drop at t) v (p .bytes) same (p .is))
+    ∙ placed-as (length t) at v (p .bytes) (p .small)
+    ∙ ap (found v) (sym (p .next))
 
 -- ---- how long a written number is
 
