@@ -29,7 +29,7 @@ use Rattle.judge.specs.declared.Which.{Which}
 use Rattle.judge.specs.declared.Which.the-variants.{First, Second}
 use Rattle.judge.specs.RelayWindings.{isWinding, windingOf}
 use Rattle.judge.proofs.SoughtLaws.{ends, winding-here, winding-past, winding-none}
-use Rattle.judge.proofs.JudgeLaws.{judgeable-sought, judgeable-given}
+use Rattle.judge.proofs.JudgeLaws.{winding-for-sought, winding-for-given}
 use Rattle.judge_means.specs.Eleven.{ElevenExactly, TheWinding}
 use Rattle.lists.proofs.CountedLaws.{worth, counted, member-counted, counted-only}
 
@@ -195,7 +195,7 @@ module _ (b : Board) (r : ℕ) (n : Which) (fine : boardFine b ≡ true) where
 
 pub eleven-exactly : ElevenExactly
 eleven-exactly b s r n fine fits =
-    let same = judgeable-sought b s r n fine fits in (
+    let same = winding-for-sought b s r n fine fits in (
       λ refusal. none-line b r n fine (refused-none n r (partsOf b) (sym same ∙ refusal)),
       λ line. same
           ∙ none-refused n r (partsOf b) (line-none b r n fine line),
@@ -203,7 +203,7 @@ eleven-exactly b s r n fine fits =
 
 pub the-winding : TheWinding
 the-winding b s r n e accepted =
-    let answer = judgeable-given b s r n e accepted in
+    let answer = winding-for-given b s r n e accepted in
     let f = given-found n r (partsOf b) e (answer .1) in
     let same = given-injective (ends (f .part)) e (sym (f .found) ∙ answer .1) in
     record {

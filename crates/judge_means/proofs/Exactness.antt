@@ -36,7 +36,7 @@ use Rattle.search.specs.Verdicts.{firstShown, effort, places, settled, weighed,
 use Rattle.search.proofs.VerdictLaws.{weighed-within, weighed-short, FirstAt, first-shown-at, first-shown-some}
 use Rattle.search.proofs.VerdictLaws.{first-shown-none, effort-none, told-verdict-injective}
 use Rattle.judge.specs.declared.Which.{Which}
-use Rattle.judge.proofs.JudgeLaws.{judgeable-given, judging-by}
+use Rattle.judge.proofs.JudgeLaws.{winding-for-given, judging-by}
 use Rattle.judge_means.specs.Exactness.{Judges, AcceptedWinding, chainsOf, ChainOf, IsLive, effortOf, TheChains}
 use Rattle.judge_means.specs.Exactness.{LiveExactly, DeadExactly, UndecidedExactly, FirstChain, LiveShows}
 use Rattle.judge_means.specs.Exactness.{DeadCounts, UndecidedReports, AsPublished}
@@ -144,7 +144,7 @@ in-order-after (d ∷ k) c l h = in-order-after k c l (h .1)
 module _ (b : Board) (s : State) (r : ℕ) (n : Which) (w : ℕ) (e : Winding) (v : Verdict) (told : Judges b s r n w v)
     (taken : AcceptedWinding b s r n e) where
   fine : boardFine b ≡ true
-  fine = judgeable-given b s r n e taken .0
+  fine = winding-for-given b s r n e taken .0
 
   found : (c : List ℕ) → firstShown (shows (e .a) (e .b)) (chainsOf b s) ≡ some c → IsLive b s e
   found c first =
@@ -286,7 +286,7 @@ undecided-reports b s r n w e v told taken =
 
 pub as-published : AsPublished
 as-published b s r n w e v told taken =
-    let agree = live-is-carrying b s (e .a) (e .b) (judgeable-given b s r n e taken .0) in (
+    let agree = live-is-carrying b s (e .a) (e .b) (winding-for-given b s r n e taken .0) in (
       λ live. agree .0 (live-exactly b s r n w e v told taken .0 live .0),
       λ dead carries. dead-exactly b s r n w e v
           told taken .0 dead .0 (agree .1 carries),
