@@ -8,11 +8,12 @@ use mathlib.Core.List.{List, [], _++_}
 use Rattle.bits.specs.Sets.{member, firstFrom, lowestFrom}
 use Rattle.bits.proofs.BoolLaws.{by-test}
 use Rattle.bits.proofs.LowestLaws.{first-fewer}
+use Rattle.board.specs.Rules.{mostTerminals}
 use Rattle.chains.specs.ChainList.{tries}
 
 -- ---- the lowest member from x, which is n, up is m; y is the number of terminals t
 
-module _ (s t n x m y : ℕ) (start : n ≤ t) (most : t ≤ 64) (from : x ≡ n) (up : y ≡ t) (found : m ≡ lowestFrom s x)
+module _ (s t n x m y : ℕ) (start : n ≤ t) (most : t ≤ mostTerminals) (from : x ≡ n) (up : y ≡ t) (found : m ≡ lowestFrom s x)
   where
     lowest : m ≡ firstFrom (member s) (64 - n) n
     unfolding lowestFrom
