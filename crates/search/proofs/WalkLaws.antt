@@ -27,7 +27,7 @@ use Rattle.search.specs.declared.walk.Scan.the-variants.{Showing, Showin
 use Rattle.search.specs.declared.walk.Walked.{Walked}
 use Rattle.search.specs.Verdicts.{verdictBy}
 use Rattle.search.specs.Walks.{pathIn, marked, carried, atPlus, gone, Carries, WalkComes, Scan, showing}
-use Rattle.search.specs.Walks.{showing-none, allowance-spent, scan, entered, tried, concluded, LeftWithin}
+use Rattle.search.specs.Walks.{showing-none, scan, entered, tried, concluded, LeftWithin}
 use Rattle.search.specs.Walks.{toldWalked}
 use Rattle.search.proofs.CarryLaws.{met-member, begun-carried, gone-carried}
 use Rattle.search.proofs.NextLaws.{tries-none, tries-some}
