@@ -1,7 +1,8 @@
 -- Laws of a kind that carries a relay, and of a relay's winding among the parts: what the walk along a board's first C
 -- parts needs, one law for each way out of `winding`.
-use Prim.Native.Nat.{ℕ, _+_, _<_, _≤_}
+use Prim.Native.Nat.{ℕ, _+_, _≤_, _<_}
 use mathlib.Core.Path.{_≡_, refl, sym, ap, _∙_}
+use mathlib.Core.Logic.{_⊎_, ⊎-elim}
 use mathlib.Core.Bool.{true, false}
 use mathlib.Core.List.{List, [], _∷_}
 use lib.Dec.{eqb}
@@ -76,11 +77,9 @@ module _ (w : Which) (r : ℕ) (l : List Part) (n i : ℕ) (all : Outcome Windin
       here ∙ ap (windingOf w r) (taken-from blank l n i below there) ∙ winding-past w r (getD l i blank)
       (drop (i + 1) (take n l)) e
 
-  pub sought-end : n ≤ i → refused noSuchWinding 0 ≡ all
-  sought-end past = sym (here ∙ ap (windingOf w r) (taken-past blank l n i past) ∙ winding-none w r)
-
-  pub sought-full : length l ≤ i → refused noSuchWinding 0 ≡ all
-  sought-full past = sym (here ∙ ap (windingOf w r) (taken-full blank l n i past) ∙ winding-none w r)
+  pub sought-end : (n ≤ i) ⊎ (length l ≤ i) → refused noSuchWinding 0 ≡ all
+  sought-end past =
+      sym (here ∙ ap (windingOf w r) (⊎-elim (taken-past blank l n i) (taken-full blank l n i) past) ∙ winding-none w r)
 
 -- ---- two answers that say the same are one
 

@@ -126,9 +126,9 @@ live-unlisted b s e fine off live =
 
 -- ---- what stands after a chain in the list comes after it
 
-in-order-after : (k : List (List ℕ)) (c : List ℕ) (l : List (List ℕ)) → Sorted (k ++ (c ∷ l)) → All (Before c) l
-in-order-after [] c l h = h .0
-in-order-after (d ∷ k) c l h = in-order-after k c l (h .1)
+sorted-after : (k : List (List ℕ)) (c : List ℕ) (l : List (List ℕ)) → Sorted (k ++ (c ∷ l)) → All (Before c) l
+sorted-after [] c l h = h .0
+sorted-after (d ∷ k) c l h = sorted-after k c l (h .1)
 
 -- ---- the theorems
 
@@ -205,7 +205,7 @@ module _ (b : Board) (s : State) (r : ℕ) (n : Which) (w : ℕ) (e : Winding) (
       place (inr (inr late)) =
           inr
           (all-member (Before c) (at .late) d
-          (in-order-after (at .early) c (at .late)
+          (sorted-after (at .early) c (at .late)
           (subst Sorted (at .split) (chains-sorted (joined (neighbours b s)) (b .counts .terminals)))) late)
 
   its-first-chain : v .finding ≡ said.Live → FirstChain b s e v

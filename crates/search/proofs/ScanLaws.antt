@@ -50,7 +50,8 @@ unfolding places
 concluded-dead r ps w e = rw e refl
 
 pub concluded-spent : (r : Walked) (ps : List ℕ) (w : ℕ) → r .found ≡ AllowanceSpent
-    → _≡_ {A = Verdict} (record { finding = given undecided; effort = w; length = 0; places = replicate mostTerminals 0 })
+    → _≡_ {A = Verdict}
+    (record { finding = given undecided; effort = w; length = 0; places = replicate mostTerminals 0 })
     (concluded (toldWalked r ps) w)
 unfolding places
 concluded-spent r ps w e = rw e refl

@@ -114,14 +114,18 @@ unfolding scan
 nothing-left s l w e = rw e refl
 
 module _ (near : List ℕ) (t : ℕ) (v : Winding) (c : Chain) (ps : List ℕ) (w : ℕ) (h : Carries v c ps) where
-  pub enter-spent : w ≡ 0 → ComesHere c ps AllowanceSpent w (entered near t v (pathIn c ps) w)
+  -- the scan of the chains from c on
+  abbrev pub fromHere : Scan
+  fromHere = entered near t v (pathIn c ps) w
+
+  pub enter-spent : w ≡ 0 → ComesHere c ps AllowanceSpent w fromHere
   unfolding entered scan
   enter-spent none = comes-here v c ps _ _ _ h (rw none refl)
 
   module _ (some : ¬ (w ≡ 0)) where
     -- the chain ends at minus, and shows the winding if its ends stand side by side
     ended-by : (s : Bool) → c .end ≡ minus → c .beside ≡ s
-        → cond s (showing (pathIn c ps) (w - 1)) (showing-none (w - 1)) ≡ entered near t v (pathIn c ps) w
+        → cond s (showing (pathIn c ps) (w - 1)) (showing-none (w - 1)) ≡ fromHere
     ended-by s end side =
         let last = sym (carries-end v c ps h) ∙ end in
         ap (cond s (showing (pathIn c ps) (w - 1)))
@@ -130,21 +134,21 @@ module _ (near : List ℕ) (t : ℕ) (v : Winding) (c : Chain) (ps : List ℕ) (
         ∙ entered-by near t v (pathIn c ps) w s some
         (shows-at-minus _ _ (pathIn c ps) s last (sym (carries-beside v c ps h) ∙ side))
 
-    pub enter-live : c .end ≡ minus → c .beside ≡ true → ComesHere c ps Showing (w - 1) (entered near t v (pathIn c ps) w)
+    pub enter-live : c .end ≡ minus → c .beside ≡ true → ComesHere c ps Showing (w - 1) fromHere
     enter-live end side = comes-here v c ps _ _ _ h (ended-by true end side)
 
-    pub enter-ends : c .end ≡ minus → c .beside ≡ false → ComesHere c ps ShowingNone (w - 1) (entered near t v (pathIn c ps) w)
+    pub enter-ends : c .end ≡ minus → c .beside ≡ false → ComesHere c ps ShowingNone (w - 1) fromHere
     enter-ends end side = comes-here v c ps _ _ _ h (ended-by false end side)
 
     -- a chain that does not end at minus is passed
     elsewhere : ¬ (c .end ≡ minus) → scan (shows (v .a) (v .b))
         (beyond (joined near) t (t - length (pathIn c ps)) (pathIn c ps) (ending (pathIn c ps)))
-        (w - 1) ≡ entered near t v (pathIn c ps) w
+        (w - 1) ≡ fromHere
     elsewhere end =
         entered-by near t v (pathIn c ps) w false some
         (shows-elsewhere _ _ (pathIn c ps) (λ e. end (carries-end v c ps h ∙ e)))
 
-    pub enter-full : ¬ (c .end ≡ minus) → t ≤ c .length → ComesHere c ps ShowingNone (w - 1) (entered near t v (pathIn c ps) w)
+    pub enter-full : ¬ (c .end ≡ minus) → t ≤ c .length → ComesHere c ps ShowingNone (w - 1) fromHere
     enter-full end full =
         comes-here v c ps _ _ _ h (nothing-left _ _ (w - 1) (beyond-full (joined near) t
         (t - length (pathIn c ps)) (pathIn c ps) (ending (pathIn c ps))
@@ -153,7 +157,7 @@ module _ (near : List ℕ) (t : ℕ) (v : Winding) (c : Chain) (ps : List ℕ) (
 
     pub enter-on : (r : Walked) (qs : List ℕ) → ¬ (c .end ≡ minus) → c .length < t
         → WalkComes r c ps qs (tried near t v (pathIn c ps) 0 (w - 1))
-        → WalkComes r c ps qs (entered near t v (pathIn c ps) w)
+        → WalkComes r c ps qs fromHere
     enter-on r qs end room walked =
         comes-after r c ps ps qs _ _ walked
         (beyond-tried near t v (pathIn c ps) (t - length (pathIn c ps)) (w - 1)
@@ -324,8 +328,8 @@ tries-fall t l k most e = omega (arith, most, e)
 pub begun-path : (c : Chain) (ps : List ℕ) → c ≡ atPlus → take 1 ps ≡ plus ∷ [] → pathIn c ps ≡ plus ∷ []
 begun-path c ps made alone = ap (λ (d : Chain). pathIn d ps) made ∙ alone
 
-pub begun-carries : (v : Winding) (c : Chain) (ps : List ℕ) → c ≡ atPlus → pathIn c ps ≡ plus ∷ [] → length ps ≡ mostTerminals
-    → Carries v c ps
+pub begun-carries : (v : Winding) (c : Chain) (ps : List ℕ) → c ≡ atPlus → pathIn c ps ≡ plus ∷ []
+    → length ps ≡ mostTerminals → Carries v c ps
 begun-carries v c ps made alone room = record {
   whole = made ∙ begun-carried v ∙ ap (carried v) (sym alone);
   some = omega (arith, ap (λ (d : Chain). d .length) made);

@@ -12,7 +12,10 @@ use Rattle.search.proofs.ShownLaws.{shown-more, shown-end, shown-none}
 
 abbrev Inv-loop : tie.InvT-loop
 Inv-loop length terminals₀ i₀ terminals i =
-    (lib.ListN.length terminals ≡ mostTerminals) × (lib.ListN.length terminals₀ ≡ mostTerminals) × (length ≤ i) × (i ≤ mostTerminals)
+    (lib.ListN.length terminals ≡ mostTerminals)
+    × (lib.ListN.length terminals₀ ≡ mostTerminals)
+    × (length ≤ i)
+    × (i ≤ mostTerminals)
     × (take i terminals ≡ take length terminals₀ ++ replicate (i - length) 0)
 
 abbrev μ-loop : tie.MeasureT-loop
