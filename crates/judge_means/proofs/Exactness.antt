@@ -40,7 +40,7 @@ use Rattle.judge.proofs.JudgeLaws.{winding-for-given, judging-by}
 use Rattle.judge_means.specs.Circuits.{WindingCarries}
 use Rattle.judge_means.specs.Exactness.{Judges, AcceptedWinding, chainsOf, ChainOf, IsLive, effortOf, TheChains}
 use Rattle.judge_means.specs.Exactness.{LiveExactly, DeadExactly, UndecidedExactly, FirstChain, LiveShows}
-use Rattle.judge_means.specs.Exactness.{DeadCounts, UndecidedReports, AsPublished}
+use Rattle.judge_means.specs.Exactness.{ShowsNone, DeadCounts, UndecidedReports, AsPublished}
 
 -- ---- the list holds exactly the chains
 
@@ -228,21 +228,19 @@ module _ (b : Board) (s : State) (r : ℕ) (n : Which) (w : ℕ) (e : Winding) (
             counted = ap (λ (u : Verdict). u .effort) is ∙ at .counted;
           }
 
-  its-count : v .finding ≡ said.Dead
-      → (v .effort ≡ length (chainsOf b s)) × ((v .length ≡ 0) × (v .terminals ≡ places []))
+  its-count : v .finding ≡ said.Dead → (v .effort ≡ length (chainsOf b s)) × ShowsNone v
   its-count h = counted-by (comes-to-this said.Dead h)
     where
-      counted-by : ComesTo said.Dead
-          → (v .effort ≡ length (chainsOf b s)) × ((v .length ≡ 0) × (v .terminals ≡ places []))
+      counted-by : ComesTo said.Dead → (v .effort ≡ length (chainsOf b s)) × ShowsNone v
       counted-by (dead-by within first is) = (
         ap (λ (u : Verdict). u .effort) is ∙ effort-none (shows (e .a) (e .b)) (chainsOf b s) first,
         (ap (λ (u : Verdict). u .length) is, ap (λ (u : Verdict). u .terminals) is),
       )
 
-  its-report : v .finding ≡ said.Undecided → (v .effort ≡ w) × ((v .length ≡ 0) × (v .terminals ≡ places []))
+  its-report : v .finding ≡ said.Undecided → (v .effort ≡ w) × ShowsNone v
   its-report h = reported-by (comes-to-this said.Undecided h)
     where
-      reported-by : ComesTo said.Undecided → (v .effort ≡ w) × ((v .length ≡ 0) × (v .terminals ≡ places []))
+      reported-by : ComesTo said.Undecided → (v .effort ≡ w) × ShowsNone v
       reported-by (undecided-by short is) = (
         ap (λ (u : Verdict). u .effort) is,
         (ap (λ (u : Verdict). u .length) is, ap (λ (u : Verdict). u .terminals) is),
