@@ -31,23 +31,23 @@ left-within r ps w f e h =
     (λ (f : code-scan.Scan). LeftWithin (toldWalked (record { found = f; left = r .left; length = r .length }) ps)
     w) e h
 
-pub concluded-live : (r : Walked) (ps qs : List ℕ) (w : ℕ) → length ps ≡ mostTerminals → r .length ≤ mostTerminals
+pub concluded-showing : (r : Walked) (ps qs : List ℕ) (w : ℕ) → length ps ≡ mostTerminals → r .length ≤ mostTerminals
     → qs ≡ places (take (r .length) ps) → r .found ≡ Showing
     → _≡_ {A = Verdict}
     (record { finding = given Finding.live; effort = w - r .left; length = r .length; places = qs })
     (concluded (toldWalked r ps) w)
-concluded-live r ps qs w room short shown e =
+concluded-showing r ps qs w room short shown e =
     let long : r .length ≡ length (take (r .length) ps) =
     sym (length-take-le (r .length) ps (omega (arith, room, short))) in
     ap (λ (k : ℕ). record { finding = given Finding.live; effort = w - r .left; length = k; places = qs }) long
     ∙ rw (shown, e) refl
 
-pub concluded-dead : (r : Walked) (ps : List ℕ) (w : ℕ) → r .found ≡ ShowingNone
+pub concluded-none : (r : Walked) (ps : List ℕ) (w : ℕ) → r .found ≡ ShowingNone
     → _≡_ {A = Verdict}
     (record { finding = given Finding.dead; effort = w - r .left; length = 0; places = replicate mostTerminals 0 })
     (concluded (toldWalked r ps) w)
 unfolding places
-concluded-dead r ps w e = rw e refl
+concluded-none r ps w e = rw e refl
 
 pub concluded-spent : (r : Walked) (ps : List ℕ) (w : ℕ) → r .found ≡ AllowanceSpent
     → _≡_ {A = Verdict}

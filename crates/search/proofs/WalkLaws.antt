@@ -134,11 +134,11 @@ module _ (near : List ℕ) (t : ℕ) (v : Winding) (c : Chain) (ps : List ℕ) (
         ∙ entered-by near t v (pathIn c ps) w s some
         (shows-at-minus _ _ (pathIn c ps) s last (sym (carries-beside v c ps h) ∙ side))
 
-    pub enter-live : c .end ≡ minus → c .beside ≡ true → ComesHere c ps Showing (w - 1) fromHere
-    enter-live end side = comes-here v c ps _ _ _ h (ended-by true end side)
+    pub enter-showing : c .end ≡ minus → c .beside ≡ true → ComesHere c ps Showing (w - 1) fromHere
+    enter-showing end side = comes-here v c ps _ _ _ h (ended-by true end side)
 
-    pub enter-ends : c .end ≡ minus → c .beside ≡ false → ComesHere c ps ShowingNone (w - 1) fromHere
-    enter-ends end side = comes-here v c ps _ _ _ h (ended-by false end side)
+    pub enter-ended : c .end ≡ minus → c .beside ≡ false → ComesHere c ps ShowingNone (w - 1) fromHere
+    enter-ended end side = comes-here v c ps _ _ _ h (ended-by false end side)
 
     -- a chain that does not end at minus is passed
     elsewhere : ¬ (c .end ≡ minus) → scan (shows (v .a) (v .b))

@@ -4,7 +4,7 @@
 use Prim.Native.Nat.{ℕ, _+_, _-_, _*_, _<_}
 use borrow.Author.Needs.{needs}
 use native.Mathlib.Omega.{arith}
-use Rattle.search.proofs.WalkLaws.{enter-spent, enter-live, enter-ends, enter-full, enter-on, tries-fall}
+use Rattle.search.proofs.WalkLaws.{enter-spent, enter-showing, enter-ended, enter-full, enter-on, tries-fall}
 use Rattle.search.proofs.WalkLaws.{Trying, try-none, next-carries, carries-still, try-on, try-back}
 use Rattle.search.proofs.WalkLaws.{visits-fall, numbers-fall}
 use borrow.Fn.Kinds.{In}
@@ -66,13 +66,13 @@ module _ (t : ℕ) where
   enter-returns-2 : enter-lts.Need-returns-2 enter-calls enter-at enter.Post
   enter-returns-2 c =
       let entry = c .before .before .before .before in
-      enter-live _ _ _ (entry .args .chain) _ _ (entry .pre .1 .1) (c .before .before .before .if1 .left)
+      enter-showing _ _ _ (entry .args .chain) _ _ (entry .pre .1 .1) (c .before .before .before .if1 .left)
       (c .before .if2 .taken) (c .if3 .taken)
 
   enter-returns-3 : enter-lts.Need-returns-3 enter-calls enter-at enter.Post
   enter-returns-3 c =
       let entry = c .before .before .before .before in
-      enter-ends _ _ _ (entry .args .chain) _ _ (entry .pre .1 .1) (c .before .before .before .if1 .left)
+      enter-ended _ _ _ (entry .args .chain) _ _ (entry .pre .1 .1) (c .before .before .before .if1 .left)
       (c .before .if2 .taken) (c .if3 .left)
 
   enter-returns-4 : enter-lts.Need-returns-4 enter-calls enter-at enter.Post

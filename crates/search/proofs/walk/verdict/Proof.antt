@@ -2,7 +2,7 @@
 use borrow.Author.Needs.{needs}
 use Rattle.search.proofs.walk.verdict.Statement.{statement}
 use Rattle.search.proofs.walk.verdict.Tie as tie
-use Rattle.search.proofs.ScanLaws.{left-within, concluded-live, concluded-dead, concluded-spent}
+use Rattle.search.proofs.ScanLaws.{left-within, concluded-showing, concluded-none, concluded-spent}
 
 sub-t11 : tie.Need-sub-t11
 sub-t11 c =
@@ -17,13 +17,13 @@ sub-t13 c =
 returns : tie.Need-returns
 returns c =
     let entry = c .before .before .before .before in
-    concluded-live (entry .args .walked) (entry .args .places) _ _ (entry .good .1 .0 .1 .0 .1) (entry .pre .0)
+    concluded-showing (entry .args .walked) (entry .args .places) _ _ (entry .good .1 .0 .1 .0 .1) (entry .pre .0)
     (c .before .shown .ensures) (c .before .before .enum-told .given .1)
 
 returns-2 : tie.Need-returns-2
 returns-2 c =
     let entry = c .before .before .before in
-    concluded-dead (entry .args .walked) (entry .args .places) _ (c .before .enum-told2 .given .1)
+    concluded-none (entry .args .walked) (entry .args .places) _ (c .before .enum-told2 .given .1)
 
 returns-3 : tie.Need-returns-3
 returns-3 c =
