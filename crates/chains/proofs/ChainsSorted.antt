@@ -8,7 +8,7 @@ use Rattle.lists.specs.Members.{All, Once}
 use Rattle.lists.proofs.MemberLaws.{all-map}
 use Rattle.chains.specs.Chains.{plus, minus, Before, Sorted}
 use Rattle.chains.specs.ChainList.{canFollow, tries, beyond, chains}
-use Rattle.chains.proofs.OrderLaws.{before-longer, before-higher, in-order-append, sorted-once}
+use Rattle.chains.proofs.OrderLaws.{before-longer, before-higher, sorted-append, sorted-once}
 use Rattle.chains.proofs.TriesLaws.{cond-all, tries-all}
 
 -- c goes on from p to n
@@ -53,7 +53,7 @@ module _ (p : List ℕ) (go : ℕ → List (List ℕ)) (ok : ℕ → Bool) (goes
       let later =
       all-map (Onto p n) (λ (c : List ℕ). All (Before c) (tries go ok k (suc n))) (tries-later k n) (go n)
       (goes n) in
-      in-order-append (cond (ok n) (go n) []) (tries go ok k (suc n))
+      sorted-append (cond (ok n) (go n) []) (tries go ok k (suc n))
       (cond-sorted (ok n) (go n) [] (sorted n) tt)
       (tries-sorted sorted k (suc n))
       (cond-all (λ (c : List ℕ). All (Before c) (tries go ok k (suc n))) (ok n) (go n) [] (λ on. later) (λ off. tt))

@@ -1,9 +1,8 @@
--- Laws of showing a winding: the test `shows` answers exactly what `Shows` says, and the two ends of a winding may be
--- exchanged.
+-- Laws of showing a winding: the test `shows` answers exactly what `Shows` says.
 use Prim.Native.Nat.{ℕ}
-use mathlib.Core.Path.{_≡_, refl, sym, ap}
+use mathlib.Core.Path.{_≡_, sym, ap}
 use mathlib.Core.Logic.{_⊎_, inl, inr, ⊎-map, ⊎-elim}
-use mathlib.Core.Bool.{true, _&&_, or-comm, false≢true}
+use mathlib.Core.Bool.{true, _&&_, false≢true}
 use mathlib.Core.List.{List, [], _∷_}
 use lib.Dec.{eqb}
 use borrow.Author.Tests.{eqb-true, eq-eqb}
@@ -34,25 +33,25 @@ either-crosses a b s e =
     true-either (eqb (s .0) a && eqb (s .1) b) (eqb (s .0) b && eqb (s .1) a)
     (⊎-map (pair-same a b (s .0) (s .1)) (pair-same b a (s .0) (s .1)) e)
 
+regrouped : {A B C D : Type 0} → (A ⊎ B) ⊎ (C ⊎ D) → (A ⊎ C) ⊎ (B ⊎ D)
+regrouped (inl (inl h)) = inl (inl h)
+regrouped (inl (inr h)) = inr (inl h)
+regrouped (inr (inl h)) = inl (inr h)
+regrouped (inr (inr h)) = inr (inr h)
+
 some-crosses-member : (a b : ℕ) (l : List (ℕ × ℕ)) → someCrosses a b l ≡ true → ((a, b) ∈ l) ⊎ ((b, a) ∈ l)
 unfolding someCrosses
 some-crosses-member a b [] h = absurd (false≢true h)
 some-crosses-member a b (s ∷ l) h =
-    ⊎-elim (λ e. ⊎-map inl inl (crosses-either a b s e)) (λ m. ⊎-map inr inr (some-crosses-member a b l m))
-    (either-true (crosses a b (s .0) (s .1)) (someCrosses a b l) h)
+    regrouped (⊎-map (crosses-either a b s) (λ m. some-crosses-member a b l m)
+    (either-true (crosses a b (s .0) (s .1)) (someCrosses a b l) h))
 
 member-some-crosses : (a b : ℕ) (l : List (ℕ × ℕ)) → ((a, b) ∈ l) ⊎ ((b, a) ∈ l) → someCrosses a b l ≡ true
 unfolding someCrosses
-member-some-crosses a b [] (inl m) = absurd m
-member-some-crosses a b [] (inr m) = absurd m
-member-some-crosses a b (s ∷ l) (inl (inl e)) =
-    true-either (crosses a b (s .0) (s .1)) (someCrosses a b l) (inl (either-crosses a b s (inl e)))
-member-some-crosses a b (s ∷ l) (inl (inr m)) =
-    true-either (crosses a b (s .0) (s .1)) (someCrosses a b l) (inr (member-some-crosses a b l (inl m)))
-member-some-crosses a b (s ∷ l) (inr (inl e)) =
-    true-either (crosses a b (s .0) (s .1)) (someCrosses a b l) (inl (either-crosses a b s (inr e)))
-member-some-crosses a b (s ∷ l) (inr (inr m)) =
-    true-either (crosses a b (s .0) (s .1)) (someCrosses a b l) (inr (member-some-crosses a b l (inr m)))
+member-some-crosses a b [] m = absurd (⊎-elim (λ h. h) (λ h. h) m)
+member-some-crosses a b (s ∷ l) m =
+    true-either (crosses a b (s .0) (s .1)) (someCrosses a b l)
+    (⊎-map (either-crosses a b s) (λ h. member-some-crosses a b l h) (regrouped m))
 
 module _ (a b : ℕ) (c : List ℕ) where
   pub shows-true : shows a b c ≡ true → Shows a b c
@@ -64,13 +63,3 @@ module _ (a b : ℕ) (c : List ℕ) where
   pub true-shows : Shows a b c → shows a b c ≡ true
   unfolding shows beside
   true-shows s = true-both (eq-eqb (ending c) minus (s .0)) (member-some-crosses a b (steps c) (s .1))
-
-some-crosses-turned : (a b : ℕ) (l : List (ℕ × ℕ)) → someCrosses a b l ≡ someCrosses b a l
-unfolding someCrosses crosses
-some-crosses-turned a b [] = refl
-some-crosses-turned a b (s ∷ l) =
-    cc (or-comm (eqb (s .0) a && eqb (s .1) b) (eqb (s .0) b && eqb (s .1) a), some-crosses-turned a b l)
-
-pub shows-turned : (a b : ℕ) (c : List ℕ) → shows a b c ≡ shows b a c
-unfolding shows beside
-shows-turned a b c = rw (some-crosses-turned a b (steps c))

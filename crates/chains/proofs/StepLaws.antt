@@ -2,7 +2,7 @@
 -- needs to go on by one.
 use Prim.Native.Nat.{ℕ}
 use mathlib.Core.Path.{_≡_, refl, sym, ap, _∙_}
-use mathlib.Core.Logic.{inl, inr, ⊎-map}
+use mathlib.Core.Logic.{⊎-map}
 use mathlib.Core.Bool.{true, _||_, or-false, or-assoc, false≢true}
 use mathlib.Core.List.{List, [], _∷_, _++_}
 use lib.Dec.{eqb}
@@ -47,5 +47,5 @@ isIn-member n (x ∷ p) h = ⊎-map (λ e. eqb-true n x e) (λ m. isIn-member n 
 pub member-isIn : (n : ℕ) (p : List ℕ) → n ∈ p → isIn n p ≡ true
 unfolding isIn
 member-isIn n [] m = absurd m
-member-isIn n (x ∷ p) (inl e) = true-either (eqb n x) (isIn n p) (inl (eq-eqb n x e))
-member-isIn n (x ∷ p) (inr m) = true-either (eqb n x) (isIn n p) (inr (member-isIn n p m))
+member-isIn n (x ∷ p) m =
+    true-either (eqb n x) (isIn n p) (⊎-map (λ e. eq-eqb n x e) (λ m. member-isIn n p m) m)

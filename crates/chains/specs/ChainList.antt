@@ -2,7 +2,7 @@
 -- whether x and y are joined.
 --     Tested j x y         the test says that x and y are joined
 --     isIn n p             n is among the terminals p
---     canFollow j p x n         a chain p that ends at x can go on to n: n is joined to x and not yet in p
+--     canFollow j p x n    a chain p that ends at x can go on to n: n is joined to x and not yet in p
 --     tries go ok k n      what `go` makes of n, n + 1, … (k numbers), of each that is `ok`, one after the other
 --     beyond j t f p x     the chains that begin with p, which ends at x, and go on by at most f terminals more
 --     chains j t           all chains on a board of t terminals

@@ -89,9 +89,9 @@ module _ (b : Board) (s : State) where
   winding-by k r (given v) e = refl
   winding-by k r (refused n p) e = ap against (sym e ∙ winding-refused k r (partsOf b) n p e)
 
-  pub judgeable-first : (r : ℕ) (k : Which) → against (windingFor b s r k) ≡ firstNo (judgeLines b s r k)
+  pub winding-for-first : (r : ℕ) (k : Which) → against (windingFor b s r k) ≡ firstNo (judgeLines b s r k)
   unfolding windingFor
-  judgeable-first r k =
+  winding-for-first r k =
       against-after (usable b s) (windingOf k r (partsOf b))
       ∙ usable-first b s _ _ (winding-by k r (windingOf k r (partsOf b)) refl)
 

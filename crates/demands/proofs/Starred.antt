@@ -6,6 +6,7 @@ use Rattle.bits.specs.Sets.{member, including, excluding, within}
 use Rattle.windings.specs.Windings.{every, complete}
 use Rattle.board.specs.Parts.{padded}
 use Rattle.board.specs.Rules.{inRange, countsFine, nameFine, partFits, partFine, partsFine, boardFine}
+use Rattle.board.specs.Sorts.{carries}
 use Rattle.state.specs.States.{stateFine, usable, left}
 use Rattle.presses.specs.Presses.{pressable, pushing, releasing}
 use Rattle.board_reader.specs.Reading.{wanted, countsAt, nameAt, partAt, partsAt, boardFrom, boardAt, answered, reading}
@@ -33,7 +34,7 @@ a & b = (a, b)
 
 pub starred-boards : Starred
 unfolding kindOf below form placed numberAt member including excluding within every complete padded inRange
-    countsFine nameFine partFits partFine partsFine boardFine stateFine usable left pressable pushing releasing
+    countsFine nameFine partFits partFine partsFine boardFine carries stateFine usable left pressable pushing releasing
     wanted countsAt nameAt partAt partsAt boardFrom boardAt answered reading gathered neighbours isIn canFollow
     tries beyond chains crosses someCrosses beside shows firstShown effort places weighed verdictBy inSets windingOf
     windingFor judging regularMove steelMove moveBy findingOn stepBy stepOf movable moving lookFrom runOf runnable

@@ -15,26 +15,26 @@ use Rattle.state.proofs.StateLaws.{usable-fine, usable-given}
 use Rattle.neighbours.specs.Neighbours.{neighbours}
 use Rattle.search.specs.declared.Winding.{Winding}
 use Rattle.search.specs.Verdicts.{verdictBy, inSets}
-use Rattle.search.proofs.VerdictLaws.{judged-given}
+use Rattle.search.proofs.VerdictLaws.{in-sets-all}
 use Rattle.judge.specs.declared.Which.{Which}
 use Rattle.judge.specs.RelayWindings.{windingOf}
 use Rattle.judge.specs.Judging.{windingFor, verdictOn, judging}
 
 module _ (b : Board) (s : State) (r : ℕ) (n : Which) where
-  pub judgeable-unusable : (k p : ℕ) → usable b s ≡ refused k p → windingFor b s r n ≡ refused k p
+  pub winding-for-unusable : (k p : ℕ) → usable b s ≡ refused k p → windingFor b s r n ≡ refused k p
   unfolding windingFor
-  judgeable-unusable k p unusable = rw unusable refl
+  winding-for-unusable k p unusable = rw unusable refl
 
-  pub judgeable-sought : boardFine b ≡ true → stateFine (b .counts) s ≡ true → windingFor b s r n ≡ windingOf n r
+  pub winding-for-sought : boardFine b ≡ true → stateFine (b .counts) s ≡ true → windingFor b s r n ≡ windingOf n r
       (partsOf b)
   unfolding windingFor
-  judgeable-sought fine fits = rw (usable-fine b s fine fits) refl
+  winding-for-sought fine fits = rw (usable-fine b s fine fits) refl
 
   -- where a winding is judged, the board breaks no rule and the winding is the relay's
-  pub judgeable-given : (e : Winding) → windingFor b s r n ≡ given e → (boardFine b ≡ true)
+  pub winding-for-given : (e : Winding) → windingFor b s r n ≡ given e → (boardFine b ≡ true)
       × (windingOf n r (partsOf b) ≡ given e)
   unfolding windingFor
-  judgeable-given e taken =
+  winding-for-given e taken =
       let both = both-given (usable b s) (windingOf n r (partsOf b)) e taken in
       (usable-given b s (both .0) .0, both .1)
 
@@ -48,5 +48,5 @@ module _ (b : Board) (s : State) (r : ℕ) (n : Which) where
       → verdictBy near (inSets (b .counts .terminals)) v w ≡ judging b s r n w
   judging-judged w v near fine fits found same =
       ap (λ (k : List ℕ). verdictBy k (inSets (b .counts .terminals)) v w) same
-      ∙ sym (judged-given (neighbours b s) (b .counts .terminals) v w (fine-range b fine .most-terminals))
-      ∙ judging-by w (given v) (judgeable-sought fine fits ∙ found)
+      ∙ sym (in-sets-all (neighbours b s) (b .counts .terminals) v w (fine-range b fine .most-terminals))
+      ∙ judging-by w (given v) (winding-for-sought fine fits ∙ found)

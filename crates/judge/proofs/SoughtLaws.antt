@@ -1,22 +1,40 @@
--- Laws of a relay's winding among the parts: what the walk along a board's first C parts needs, one law for each way
--- out of `winding`.
-use Prim.Native.Nat.{ℕ, _+_, _<_, _≤_}
+-- Laws of a kind that carries a relay, and of a relay's winding among the parts: what the walk along a board's first C
+-- parts needs, one law for each way out of `winding`.
+use Prim.Native.Nat.{ℕ, _+_, _≤_, _<_}
 use mathlib.Core.Path.{_≡_, refl, sym, ap, _∙_}
+use mathlib.Core.Logic.{_⊎_, ⊎-elim}
 use mathlib.Core.Bool.{true, false}
 use mathlib.Core.List.{List, [], _∷_}
+use lib.Dec.{eqb}
 use lib.ListN.{length, getD, take, drop}
+use borrow.Author.Tests.{eq-eqb, ne-eqb}
 use Rattle.bits.proofs.BoolLaws.{by-test}
 use Rattle.number.specs.Outcomes.{Outcome, given, refused}
 use Rattle.number.specs.Refusals.{noSuchWinding}
 use Rattle.number.proofs.OutcomeLaws.{refused-never, given-injective}
+use Rattle.kinds.specs.declared.Kind.{Kind}
+use Rattle.kinds.specs.Kinds.{kindNumber, nameOf}
 use Rattle.board.specs.declared.Part.{Part}
 use Rattle.board.specs.Parts.{blank}
+use Rattle.board.specs.Sorts.{carries}
 use Rattle.lists.proofs.FirstLaws.{taken-from, taken-past, taken-full}
 use Rattle.search.specs.declared.Winding.{Winding}
 use Rattle.judge.specs.declared.Which.{Which}
 use Rattle.judge.specs.declared.Sought.{Sought}
 use Rattle.judge.specs.declared.Sought.the-variants.{Between, Nowhere}
 use Rattle.judge.specs.RelayWindings.{isWinding, windingOf, toldSought}
+
+-- ---- a kind that carries a relay, by its number n and its name m
+
+pub carries-same : (j r : ℕ) (k : Kind) (n m : ℕ) → n ≡ kindNumber k → m ≡ nameOf k → n ≡ j → eqb m r ≡ carries j r k
+unfolding carries
+carries-same j r k n m number name e = rw (name, eq-eqb (kindNumber k) j (sym number ∙ e)) refl
+
+pub carries-other : (j r : ℕ) (k : Kind) (n : ℕ) → n ≡ kindNumber k → ¬ (n ≡ j) → false ≡ carries j r k
+unfolding carries
+carries-other j r k n number d = rw (ne-eqb (kindNumber k) j (λ e. d (number ∙ e))) refl
+
+-- ---- the winding among the parts
 
 abbrev pub ends : Part → Winding
 ends p = record { a = p .a; b = p .b }
@@ -59,11 +77,9 @@ module _ (w : Which) (r : ℕ) (l : List Part) (n i : ℕ) (all : Outcome Windin
       here ∙ ap (windingOf w r) (taken-from blank l n i below there) ∙ winding-past w r (getD l i blank)
       (drop (i + 1) (take n l)) e
 
-  pub sought-end : n ≤ i → refused noSuchWinding 0 ≡ all
-  sought-end past = sym (here ∙ ap (windingOf w r) (taken-past blank l n i past) ∙ winding-none w r)
-
-  pub sought-full : length l ≤ i → refused noSuchWinding 0 ≡ all
-  sought-full past = sym (here ∙ ap (windingOf w r) (taken-full blank l n i past) ∙ winding-none w r)
+  pub sought-end : (n ≤ i) ⊎ (length l ≤ i) → refused noSuchWinding 0 ≡ all
+  sought-end past =
+      sym (here ∙ ap (windingOf w r) (⊎-elim (taken-past blank l n i) (taken-full blank l n i) past) ∙ winding-none w r)
 
 -- ---- two answers that say the same are one
 

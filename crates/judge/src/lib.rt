@@ -1,12 +1,16 @@
 // Judging a winding of a relay, on any board and state handed in: refusals 15, 14 and 11, then the search.
 ghost use mathlib.Core.Path.{_≡_};
 ghost use Rattle.board.specs.Parts.{partsOf};
+ghost use Rattle.board.specs.Sorts.{carries};
 ghost use Rattle.search.specs.Verdicts.{unanswered, toldVerdict};
-ghost use Rattle.judge.specs.RelayWindings.{isFirst, isSecond, isWinding, windingOf, toldSought};
+ghost use Rattle.judge.specs.RelayWindings.{isFirst, isWinding, windingOf, toldSought};
 ghost use Rattle.judge.specs.Judging.{judging};
 use board::Board;
 use board::MOST_PARTS;
+use kinds::DRAWING_KIND;
+use kinds::DROPPING_KIND;
 use kinds::Kind;
+use kinds::REGULAR_KIND;
 use number::BROKEN_BOARD;
 use number::NO_SUCH_WINDING;
 use number::Refusal;
@@ -28,33 +32,25 @@ pub enum Sought {
     Nowhere,
 }
 
+// Whether a kind has this number and carries this relay.
+fn carries(kind: Kind, number: u32, relay: u32) -> bool
+    ensures { λ r. ⌜ r ≡ carries number relay kind ⌝ }
+{
+    if kind.number() == number {
+        bits::wide(kind.name()) == relay
+    } else {
+        false
+    }
+}
+
 // Whether a kind is the first winding of this relay.
 fn is_first(kind: Kind, relay: u32) -> bool
     ensures { λ r. ⌜ r ≡ isFirst relay kind ⌝ }
 {
-    match kind {
-        Kind::Regular(name) => bits::wide(name) == relay,
-        Kind::Drawing(name) => bits::wide(name) == relay,
-        Kind::Dropping(_) => false,
-        Kind::Wire => false,
-        Kind::Upper(_) => false,
-        Kind::Lower(_) => false,
-        Kind::Button(_) => false,
-    }
-}
-
-// Whether a kind is the second winding of this relay.
-fn is_second(kind: Kind, relay: u32) -> bool
-    ensures { λ r. ⌜ r ≡ isSecond relay kind ⌝ }
-{
-    match kind {
-        Kind::Dropping(name) => bits::wide(name) == relay,
-        Kind::Regular(_) => false,
-        Kind::Drawing(_) => false,
-        Kind::Wire => false,
-        Kind::Upper(_) => false,
-        Kind::Lower(_) => false,
-        Kind::Button(_) => false,
+    if carries(kind, REGULAR_KIND, relay) {
+        true
+    } else {
+        carries(kind, DRAWING_KIND, relay)
     }
 }
 
@@ -64,7 +60,7 @@ fn is_winding(kind: Kind, relay: u32, which: Which) -> bool
 {
     match which {
         Which::First => is_first(kind, relay),
-        Which::Second => is_second(kind, relay),
+        Which::Second => carries(kind, DROPPING_KIND, relay),
     }
 }
 

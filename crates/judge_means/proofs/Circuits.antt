@@ -77,15 +77,15 @@ module _ (b : Board) (s : State) where
       (λ k j. joined-inside b s (k .0) (k .1) fine (part-joined b s (k .0) (k .1) fine j)) (steps p) linked)
 
   path-linked : (p : List ℕ) → Available b s p → Linked (Joined b s) p
-  path-linked p canFollow =
-      placed-steps (Joined b s) p (λ i h. connected-joined (place p i) (place p (i + 1)) (canFollow .connected i h))
+  path-linked p path =
+      placed-steps (Joined b s) p (λ i h. connected-joined (place p i) (place p (i + 1)) (path .connected i h))
 
   -- neg stands only at the end of a path, because nothing repeats
   path-stops : (p : List ℕ) → AvailablePath b s pos neg p → StopsAtMinus p
   path-stops p path =
-      let canFollow = path .available in
-      placed-steps (λ x y. ¬ (x ≡ minus)) p (λ i h e. canFollow .no-repetition i (length p - 1) (omega arith)
-      (omega (arith, canFollow .long)) (omega arith) (e ∙ sym (path .ends)))
+      placed-steps (λ x y. ¬ (x ≡ minus)) p
+      (λ i h e. path .available .no-repetition i (length p - 1) (omega arith)
+      (omega (arith, path .available .long)) (omega arith) (e ∙ sym (path .ends)))
 
   path-chain : (p : List ℕ) → boardFine b ≡ true → AvailablePath b s pos neg p
       → IsChain (Joined b s) (b .counts .terminals) p × (ending p ≡ minus)

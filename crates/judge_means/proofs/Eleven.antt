@@ -7,15 +7,14 @@ use mathlib.Core.Logic.{_⊎_, inl, inr, ⊎-map, ⊎-elim}
 use mathlib.Core.Bool.{Bool, true, false}
 use mathlib.Core.List.{List, [], _∷_}
 use lib.Dec.{eqb, ltb}
-use borrow.Author.Tests.{eqb-true, ltb-true, ltb-false}
+use borrow.Author.Tests.{eqb-true, ne-eqb, ltb-true, ltb-false}
 use Rattle.lists.specs.Members.{_∈_}
 use Rattle.bits.proofs.BoolLaws.{both-true, by-test}
 use Rattle.number.specs.Outcomes.{given, refused}
 use Rattle.number.specs.Refusals.{noSuchWinding}
 use Rattle.number.proofs.OutcomeLaws.{refused-never, given-injective}
 use Rattle.kinds.specs.declared.Kind.{Kind}
-use Rattle.kinds.specs.declared.Kind.the-variants.{Wire, Upper, Lower, Button, Regular, Drawing, Dropping}
-use Rattle.kinds.specs.Kinds.{kindNumber, nameOf}
+use Rattle.kinds.specs.Kinds.{kindNumber, nameOf, buttonKind, regularKind, drawingKind, droppingKind}
 use Rattle.board.specs.declared.Part.{Part}
 use Rattle.board.specs.declared.Counts.{Counts}
 use Rattle.board.specs.declared.Board.{Board}
@@ -27,9 +26,9 @@ use Rattle.board.proofs.FineLaws.{fine-parts-fit, fine-relays-wound}
 use Rattle.search.specs.declared.Winding.{Winding}
 use Rattle.judge.specs.declared.Which.{Which}
 use Rattle.judge.specs.declared.Which.the-variants.{First, Second}
-use Rattle.judge.specs.RelayWindings.{isWinding, windingOf}
+use Rattle.judge.specs.RelayWindings.{isFirst, isWinding, windingOf}
 use Rattle.judge.proofs.SoughtLaws.{ends, winding-here, winding-past, winding-none}
-use Rattle.judge.proofs.JudgeLaws.{judgeable-sought, judgeable-given}
+use Rattle.judge.proofs.JudgeLaws.{winding-for-sought, winding-for-given}
 use Rattle.judge_means.specs.Eleven.{ElevenExactly, TheWinding}
 use Rattle.lists.proofs.CountedLaws.{worth, counted, member-counted, counted-only}
 
@@ -43,35 +42,29 @@ its n r p = isWinding n r (p .kind)
 abbrev these : Which → ℕ → List Part → ℕ
 these n r ps = counted (its n r) ps
 
-first-worth : (r : ℕ) (k : Kind) → worth (isWinding First r k) ≡ worth (carries 4 r k) + worth (carries 5 r k)
+-- a kind has one number, so no part is two of a relay's windings
+carries-exclusive : (i j r : ℕ) (k : Kind) → ¬ (i ≡ j) → carries i r k ≡ true → carries j r k ≡ false
 unfolding carries
-first-worth r Wire = refl
-first-worth r (Upper n) = refl
-first-worth r (Lower n) = refl
-first-worth r (Button n) = refl
-first-worth r (Regular n) = omega arith
-first-worth r (Drawing n) = omega arith
-first-worth r (Dropping n) = refl
+carries-exclusive i j r k differ on =
+    let number = eqb-true (kindNumber k) i (both-true (eqb (kindNumber k) i) _ on .0) in
+    rw (ne-eqb (kindNumber k) j (λ e. differ (sym number ∙ e))) refl
 
-second-worth : (r : ℕ) (k : Kind) → worth (isWinding Second r k) ≡ worth (carries 6 r k)
-unfolding carries
-second-worth r Wire = refl
-second-worth r (Upper n) = refl
-second-worth r (Lower n) = refl
-second-worth r (Button n) = refl
-second-worth r (Regular n) = refl
-second-worth r (Drawing n) = refl
-second-worth r (Dropping n) = refl
+first-worth : (r : ℕ) (k : Kind)
+    → worth (isFirst r k) ≡ worth (carries regularKind r k) + worth (carries drawingKind r k)
+first-worth r k =
+    by-test (carries regularKind r k)
+    (λ on. rw (on, carries-exclusive regularKind drawingKind r k (λ e. omega (arith, e)) on) refl)
+    (λ off. rw off (omega arith))
 
-first-sum : (r : ℕ) (ps : List Part) → these First r ps ≡ windingsOf 4 r ps + windingsOf 5 r ps
+first-sum : (r : ℕ) (ps : List Part) → these First r ps ≡ windingsOf regularKind r ps + windingsOf drawingKind r ps
 unfolding windingsOf
 first-sum r [] = refl
 first-sum r (p ∷ ps) = omega (arith, first-worth r (p .kind), first-sum r ps)
 
-second-sum : (r : ℕ) (ps : List Part) → these Second r ps ≡ windingsOf 6 r ps
+second-sum : (r : ℕ) (ps : List Part) → these Second r ps ≡ windingsOf droppingKind r ps
 unfolding windingsOf
 second-sum r [] = refl
-second-sum r (p ∷ ps) = omega (arith, second-worth r (p .kind), second-sum r ps)
+second-sum r (p ∷ ps) = omega (arith, second-sum r ps)
 
 module _ (r : ℕ) (ps : List Part) where
   -- of a relay of one sort each winding is there at most once
@@ -94,7 +87,7 @@ module _ (r : ℕ) (ps : List Part) where
 -- ---- a relay that the board has not
 
 -- j is the number of a kind that carries a relay
-module _ (c : Counts) (r j : ℕ) (some : eqb j 0 ≡ false) (relay : eqb j 3 ≡ false) where
+module _ (c : Counts) (r j : ℕ) (some : eqb j 0 ≡ false) (relay : eqb j buttonKind ≡ false) where
   carried-below : (k : Kind) → nameFine c k ≡ true → carries j r k ≡ true → r < c .relays
   unfolding nameFine carries
   carried-below k named on =
@@ -116,8 +109,13 @@ module _ (c : Counts) (r j : ℕ) (some : eqb j 0 ≡ false) (relay : eqb j 3 �
 beyond-none : (c : Counts) (n : Which) (r : ℕ) (ps : List Part) → partsFit c ps ≡ true → c .relays ≤ r
     → these n r ps ≡ 0
 beyond-none c First r ps fit past =
-    omega (arith, first-sum r ps, past-none c r 4 refl refl ps fit past, past-none c r 5 refl refl ps fit past)
-beyond-none c Second r ps fit past = second-sum r ps ∙ past-none c r 6 refl refl ps fit past
+    omega (
+      arith,
+      first-sum r ps,
+      past-none c r regularKind refl refl ps fit past,
+      past-none c r drawingKind refl refl ps fit past,
+    )
+beyond-none c Second r ps fit past = second-sum r ps ∙ past-none c r droppingKind refl refl ps fit past
 
 -- ---- the winding found
 
@@ -195,7 +193,7 @@ module _ (b : Board) (r : ℕ) (n : Which) (fine : boardFine b ≡ true) where
 
 pub eleven-exactly : ElevenExactly
 eleven-exactly b s r n fine fits =
-    let same = judgeable-sought b s r n fine fits in (
+    let same = winding-for-sought b s r n fine fits in (
       λ refusal. none-line b r n fine (refused-none n r (partsOf b) (sym same ∙ refusal)),
       λ line. same
           ∙ none-refused n r (partsOf b) (line-none b r n fine line),
@@ -203,7 +201,7 @@ eleven-exactly b s r n fine fits =
 
 pub the-winding : TheWinding
 the-winding b s r n e accepted =
-    let answer = judgeable-given b s r n e accepted in
+    let answer = winding-for-given b s r n e accepted in
     let f = given-found n r (partsOf b) e (answer .1) in
     let same = given-injective (ends (f .part)) e (sym (f .found) ∙ answer .1) in
     record {

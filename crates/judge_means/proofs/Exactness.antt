@@ -3,7 +3,7 @@
 use Prim.Native.Nat.{ℕ, _<_, _≤_}
 use native.Mathlib.Omega.{arith}
 use mathlib.Core.Path.{_≡_, refl, sym, ap, subst, _∙_}
-use mathlib.Core.Logic.{_⊎_, inl, inr}
+use mathlib.Core.Logic.{_⊎_, _↔_, inl, inr}
 use mathlib.Core.Bool.{Bool, true, false, false≢true}
 use mathlib.Core.List.{List, [], _∷_, _++_}
 use mathlib.Core.Option.{Option, none, some}
@@ -36,10 +36,11 @@ use Rattle.search.specs.Verdicts.{firstShown, effort, places, settled, weighed,
 use Rattle.search.proofs.VerdictLaws.{weighed-within, weighed-short, FirstAt, first-shown-at, first-shown-some}
 use Rattle.search.proofs.VerdictLaws.{first-shown-none, effort-none, told-verdict-injective}
 use Rattle.judge.specs.declared.Which.{Which}
-use Rattle.judge.proofs.JudgeLaws.{judgeable-given, judging-by}
+use Rattle.judge.proofs.JudgeLaws.{winding-for-given, judging-by}
+use Rattle.judge_means.specs.Circuits.{WindingCarries}
 use Rattle.judge_means.specs.Exactness.{Judges, AcceptedWinding, chainsOf, ChainOf, IsLive, effortOf, TheChains}
 use Rattle.judge_means.specs.Exactness.{LiveExactly, DeadExactly, UndecidedExactly, FirstChain, LiveShows}
-use Rattle.judge_means.specs.Exactness.{DeadCounts, UndecidedReports, AsPublished}
+use Rattle.judge_means.specs.Exactness.{ShowsNone, DeadCounts, UndecidedReports, AsPublished}
 
 -- ---- the list holds exactly the chains
 
@@ -63,14 +64,6 @@ the-chains b s fine = record {
   once = chains-once (joined (neighbours b s)) (b .counts .terminals);
 }
 
--- ---- what a call is accepted for
-
-judged-weighed : (b : Board) (s : State) (r : ℕ) (n : Which) (w : ℕ) (e : Winding) (v : Verdict)
-    → Judges b s r n w v → AcceptedWinding b s r n e → toldVerdict v ≡ weighed (shows (e .a) (e .b)) (chainsOf b s)
-    w
-unfolding verdictBy
-judged-weighed b s r n w e v told taken = told ∙ sym (judging-by b s r n w (given e) taken)
-
 -- ---- the three verdicts by a list of chains
 
 abbrev pub liveVerdict : ℕ → List ℕ → Verdict
@@ -82,32 +75,41 @@ deadVerdict k = record { finding = said.Dead; effort = k; length = 0; terminals 
 abbrev pub undecidedVerdict : ℕ → Verdict
 undecidedVerdict w = record { finding = said.Undecided; effort = w; length = 0; terminals = places [] }
 
-pub data Says (t : List ℕ → Bool) (cs : List (List ℕ)) (w : ℕ) (v : Verdict) : Type 0 where
-  says-live : (c : List ℕ) → effort t cs ≤ w → firstShown t cs ≡ some c → v ≡ liveVerdict (effort t cs) c
-      → Says t cs w v
-  says-dead : effort t cs ≤ w → firstShown t cs ≡ none → v ≡ deadVerdict (effort t cs) → Says t cs w v
-  says-undecided : w < effort t cs → v ≡ undecidedVerdict w → Says t cs w v
+-- by the chains cs, which t tests, and the allowance w, the verdict v is the one of finding f
+pub data FindingBy (t : List ℕ → Bool) (cs : List (List ℕ)) (w : ℕ) (v : Verdict) : Finding → Type 0 where
+  live-by : (c : List ℕ) → effort t cs ≤ w → firstShown t cs ≡ some c → v ≡ liveVerdict (effort t cs) c
+      → FindingBy t cs w v said.Live
+  dead-by : effort t cs ≤ w → firstShown t cs ≡ none → v ≡ deadVerdict (effort t cs) → FindingBy t cs w v said.Dead
+  undecided-by : w < effort t cs → v ≡ undecidedVerdict w → FindingBy t cs w v said.Undecided
 
-pub weighed-says : (t : List ℕ → Bool) (cs : List (List ℕ)) (w : ℕ) (v : Verdict) → toldVerdict v ≡ weighed t cs w
-    → Says t cs w v
-weighed-says t cs w v told =
+weighed-finding : (t : List ℕ → Bool) (cs : List (List ℕ)) (w : ℕ) (v : Verdict) → toldVerdict v ≡ weighed t cs w
+    → FindingBy t cs w v (v .finding)
+weighed-finding t cs w v told =
     by-test (leb (effort t cs) w)
     (λ within. by-first (firstShown t cs) refl (leb-true (effort t cs) w within))
-    (λ short. says-undecided (leb-false (effort t cs) w short)
-    (told-verdict-injective v (undecidedVerdict w)
-    (told ∙ weighed-short t cs w (leb-false (effort t cs) w short))))
+    (λ below.
+    let short = leb-false (effort t cs) w below in
+    by-verdict (undecidedVerdict w) (told ∙ weighed-short t cs w short) (undecided-by short))
   where
-    by-first : (o : Option (List ℕ)) → firstShown t cs ≡ o → effort t cs ≤ w → Says t cs w v
-    by-first (some c) e within =
-        says-live c within e (told-verdict-injective v (liveVerdict (effort t cs) c)
-        (told ∙ weighed-within t cs w within ∙ ap (settled (effort t cs)) e))
-    by-first none e within =
-        says-dead within e (told-verdict-injective v (deadVerdict (effort t cs))
-        (told ∙ weighed-within t cs w within ∙ ap (settled (effort t cs)) e))
+    by-verdict : (u : Verdict) → toldVerdict v ≡ toldVerdict u → (v ≡ u → FindingBy t cs w v (u .finding))
+        → FindingBy t cs w v (v .finding)
+    by-verdict u e finding =
+        let same = told-verdict-injective v u e in
+        subst (FindingBy t cs w v) (sym (ap (λ (x : Verdict). x .finding) same)) (finding same)
 
-pub judged-says : (b : Board) (s : State) (r : ℕ) (n : Which) (w : ℕ) (e : Winding) (v : Verdict)
-    → Judges b s r n w v → AcceptedWinding b s r n e → Says (shows (e .a) (e .b)) (chainsOf b s) w v
-judged-says b s r n w e v told taken = weighed-says _ _ w v (judged-weighed b s r n w e v told taken)
+    by-first : (o : Option (List ℕ)) → firstShown t cs ≡ o → effort t cs ≤ w → FindingBy t cs w v (v .finding)
+    by-first (some c) e within =
+        by-verdict (liveVerdict (effort t cs) c)
+        (told ∙ weighed-within t cs w within ∙ ap (settled (effort t cs)) e) (live-by c within e)
+    by-first none e within =
+        by-verdict (deadVerdict (effort t cs))
+        (told ∙ weighed-within t cs w within ∙ ap (settled (effort t cs)) e) (dead-by within e)
+
+pub judged-finding : (b : Board) (s : State) (r : ℕ) (n : Which) (w : ℕ) (e : Winding) (v : Verdict)
+    → Judges b s r n w v → AcceptedWinding b s r n e
+    → FindingBy (shows (e .a) (e .b)) (chainsOf b s) w v (v .finding)
+unfolding verdictBy
+judged-finding b s r n w e v told taken = weighed-finding _ _ w v (told ∙ sym (judging-by b s r n w (given e) taken))
 
 -- ---- live and listed are one
 
@@ -122,29 +124,18 @@ live-unlisted b s e fine off live =
     false≢true (sym (off (live .chain) (chain-listed b s (live .chain) fine (live .is-chain)))
     ∙ true-shows (e .a) (e .b) (live .chain) (live .showing))
 
--- ---- the findings are told apart
-
-abbrev rank : Finding → ℕ
-rank said.Live = 0
-rank said.Dead = 1
-rank said.Undecided = 2
-rank (said.Refused r) = 3
-
-pub ranked : (v u : Verdict) (f : Finding) → v ≡ u → v .finding ≡ f → rank (u .finding) ≡ rank f
-ranked v u f e h = ap rank (sym (ap (λ (x : Verdict). x .finding) e) ∙ h)
-
 -- ---- what stands after a chain in the list comes after it
 
-in-order-after : (k : List (List ℕ)) (c : List ℕ) (l : List (List ℕ)) → Sorted (k ++ (c ∷ l)) → All (Before c) l
-in-order-after [] c l h = h .0
-in-order-after (d ∷ k) c l h = in-order-after k c l (h .1)
+sorted-after : (k : List (List ℕ)) (c : List ℕ) (l : List (List ℕ)) → Sorted (k ++ (c ∷ l)) → All (Before c) l
+sorted-after [] c l h = h .0
+sorted-after (d ∷ k) c l h = sorted-after k c l (h .1)
 
 -- ---- the theorems
 
 module _ (b : Board) (s : State) (r : ℕ) (n : Which) (w : ℕ) (e : Winding) (v : Verdict) (told : Judges b s r n w v)
     (taken : AcceptedWinding b s r n e) where
   fine : boardFine b ≡ true
-  fine = judgeable-given b s r n e taken .0
+  fine = winding-for-given b s r n e taken .0
 
   found : (c : List ℕ) → firstShown (shows (e .a) (e .b)) (chainsOf b s) ≡ some c → IsLive b s e
   found c first =
@@ -154,49 +145,47 @@ module _ (b : Board) (s : State) (r : ℕ) (n : Which) (w : ℕ) (e : Winding) (
   not-found : firstShown (shows (e .a) (e .b)) (chainsOf b s) ≡ none → ¬ (IsLive b s e)
   not-found first = live-unlisted b s e fine (first-shown-none (shows (e .a) (e .b)) (chainsOf b s) first)
 
-  live-says : Says (shows (e .a) (e .b)) (chainsOf b s) w v
-      → (v .finding ≡ said.Live → IsLive b s e × (effortOf b s e ≤ w))
-      × (IsLive b s e × (effortOf b s e ≤ w) → v .finding ≡ said.Live)
-  live-says (says-live c within first is) = (λ h. (found c first, within), λ h. ap (λ (u : Verdict). u .finding) is)
-  live-says (says-dead within first is) = (
-    λ h. absurd (omega (arith, ranked v (deadVerdict (effortOf b s e)) said.Live is h)),
-    λ h. absurd
-        (not-found first (h .0)),
-  )
-  live-says (says-undecided short is) = (
-    λ h. absurd (omega (arith, ranked v (undecidedVerdict w) said.Live is h)),
-    λ h. absurd
-        (omega (arith, short, h .1)),
-  )
+  abbrev ComesTo : Finding → Type 0
+  ComesTo f = FindingBy (shows (e .a) (e .b)) (chainsOf b s) w v f
 
-  dead-says : Says (shows (e .a) (e .b)) (chainsOf b s) w v
-      → (v .finding ≡ said.Dead → ¬ (IsLive b s e) × (effortOf b s e ≤ w))
-      × (¬ (IsLive b s e) × (effortOf b s e ≤ w) → v .finding ≡ said.Dead)
-  dead-says (says-live c within first is) = (
-    λ h. absurd (omega (arith, ranked v (liveVerdict (effortOf b s e) c) said.Dead is h)),
-    λ h. absurd
-        (h .0 (found c first)),
-  )
-  dead-says (says-dead within first is) = (λ h. (not-found first, within), λ h. ap (λ (u : Verdict). u .finding) is)
-  dead-says (says-undecided short is) = (
-    λ h. absurd (omega (arith, ranked v (undecidedVerdict w) said.Dead is h)),
-    λ h. absurd
-        (omega (arith, short, h .1)),
-  )
+  comes-to : ComesTo (v .finding)
+  comes-to = judged-finding b s r n w e v told taken
 
-  undecided-says : Says (shows (e .a) (e .b)) (chainsOf b s) w v
-      → (v .finding ≡ said.Undecided → w < effortOf b s e) × (w < effortOf b s e → v .finding ≡ said.Undecided)
-  undecided-says (says-live c within first is) = (
-    λ h. absurd (omega (arith, ranked v (liveVerdict (effortOf b s e) c) said.Undecided is h)),
-    λ short. absurd
-        (omega (arith, short, within)),
-  )
-  undecided-says (says-dead within first is) = (
-    λ h. absurd (omega (arith, ranked v (deadVerdict (effortOf b s e)) said.Undecided is h)),
-    λ short. absurd
-        (omega (arith, short, within)),
-  )
-  undecided-says (says-undecided short is) = (λ h. short, λ h. ap (λ (u : Verdict). u .finding) is)
+  comes-to-this : (f : Finding) → v .finding ≡ f → ComesTo f
+  comes-to-this f h = subst ComesTo h comes-to
+
+  its-live : v .finding ≡ said.Live ↔ IsLive b s e × (effortOf b s e ≤ w)
+  its-live = (λ h. there (comes-to-this said.Live h), back (v .finding) comes-to)
+    where
+      there : ComesTo said.Live → IsLive b s e × (effortOf b s e ≤ w)
+      there (live-by c within first is) = (found c first, within)
+
+      back : (f : Finding) → ComesTo f → IsLive b s e × (effortOf b s e ≤ w) → f ≡ said.Live
+      back said.Live (live-by c within first is) h = refl
+      back said.Dead (dead-by within first is) h = absurd (not-found first (h .0))
+      back said.Undecided (undecided-by short is) h = absurd (omega (arith, short, h .1))
+
+  its-dead : v .finding ≡ said.Dead ↔ ¬ (IsLive b s e) × (effortOf b s e ≤ w)
+  its-dead = (λ h. there (comes-to-this said.Dead h), back (v .finding) comes-to)
+    where
+      there : ComesTo said.Dead → ¬ (IsLive b s e) × (effortOf b s e ≤ w)
+      there (dead-by within first is) = (not-found first, within)
+
+      back : (f : Finding) → ComesTo f → ¬ (IsLive b s e) × (effortOf b s e ≤ w) → f ≡ said.Dead
+      back said.Live (live-by c within first is) h = absurd (h .0 (found c first))
+      back said.Dead (dead-by within first is) h = refl
+      back said.Undecided (undecided-by short is) h = absurd (omega (arith, short, h .1))
+
+  its-undecided : v .finding ≡ said.Undecided ↔ w < effortOf b s e
+  its-undecided = (λ h. there (comes-to-this said.Undecided h), back (v .finding) comes-to)
+    where
+      there : ComesTo said.Undecided → w < effortOf b s e
+      there (undecided-by short is) = short
+
+      back : (f : Finding) → ComesTo f → w < effortOf b s e → f ≡ said.Undecided
+      back said.Live (live-by c within first is) short = absurd (omega (arith, short, within))
+      back said.Dead (dead-by within first is) short = absurd (omega (arith, short, within))
+      back said.Undecided (undecided-by under is) short = refl
 
   -- of a chain that shows the winding: it is the first shown, or stands after it in the list
   shown-later : (c d : List ℕ) → FirstAt (shows (e .a) (e .b)) (chainsOf b s) c → ChainOf b s d
@@ -216,78 +205,70 @@ module _ (b : Board) (s : State) (r : ℕ) (n : Which) (w : ℕ) (e : Winding) (
       place (inr (inr late)) =
           inr
           (all-member (Before c) (at .late) d
-          (in-order-after (at .early) c (at .late)
+          (sorted-after (at .early) c (at .late)
           (subst Sorted (at .split) (chains-sorted (joined (neighbours b s)) (b .counts .terminals)))) late)
 
-  shows-first : Says (shows (e .a) (e .b)) (chainsOf b s) w v → v .finding ≡ said.Live → FirstChain b s e v
-  shows-first (says-live c within first is) h =
-      let at = first-shown-at (shows (e .a) (e .b)) (chainsOf b s) c first in
-      let listed = first-shown-some (shows (e .a) (e .b)) (chainsOf b s) c first in
-      record {
-        chain = c;
-        its-length = ap (λ (u : Verdict). u .length) is;
-        its-places = ap (λ (u : Verdict). u .terminals) is;
-        is-chain = listed-chain b s c fine (listed .0);
-        showing = shows-true (e .a) (e .b) c (listed .1);
-        first = λ d chain shown. shown-later c d at chain shown;
-        early = at .early;
-        late = at .late;
-        among = at .split;
-        counted = ap (λ (u : Verdict). u .effort) is ∙ at .counted;
-      }
-  shows-first (says-dead within first is) h =
-      absurd (omega (arith, ranked v (deadVerdict (effortOf b s e)) said.Live is h))
-  shows-first (says-undecided short is) h = absurd (omega (arith, ranked v (undecidedVerdict w) said.Live is h))
+  its-first-chain : v .finding ≡ said.Live → FirstChain b s e v
+  its-first-chain h = shown-by (comes-to-this said.Live h)
+    where
+      shown-by : ComesTo said.Live → FirstChain b s e v
+      shown-by (live-by c within first is) =
+          let at = first-shown-at (shows (e .a) (e .b)) (chainsOf b s) c first in
+          let listed = first-shown-some (shows (e .a) (e .b)) (chainsOf b s) c first in
+          record {
+            chain = c;
+            its-length = ap (λ (u : Verdict). u .length) is;
+            its-places = ap (λ (u : Verdict). u .terminals) is;
+            is-chain = listed-chain b s c fine (listed .0);
+            showing = shows-true (e .a) (e .b) c (listed .1);
+            first = λ d chain shown. shown-later c d at chain shown;
+            early = at .early;
+            late = at .late;
+            among = at .split;
+            counted = ap (λ (u : Verdict). u .effort) is ∙ at .counted;
+          }
 
-  counts-all : Says (shows (e .a) (e .b)) (chainsOf b s) w v → v .finding ≡ said.Dead
-      → (v .effort ≡ length (chainsOf b s)) × ((v .length ≡ 0) × (v .terminals ≡ places []))
-  counts-all (says-live c within first is) h =
-      absurd (omega (arith, ranked v (liveVerdict (effortOf b s e) c) said.Dead is h))
-  counts-all (says-dead within first is) h = (
-    ap (λ (u : Verdict). u .effort) is ∙ effort-none (shows (e .a) (e .b)) (chainsOf b s) first,
-    (ap (λ (u : Verdict). u .length) is, ap (λ (u : Verdict). u .terminals) is),
-  )
-  counts-all (says-undecided short is) h = absurd (omega (arith, ranked v (undecidedVerdict w) said.Dead is h))
+  its-count : v .finding ≡ said.Dead → (v .effort ≡ length (chainsOf b s)) × ShowsNone v
+  its-count h = counted-by (comes-to-this said.Dead h)
+    where
+      counted-by : ComesTo said.Dead → (v .effort ≡ length (chainsOf b s)) × ShowsNone v
+      counted-by (dead-by within first is) = (
+        ap (λ (u : Verdict). u .effort) is ∙ effort-none (shows (e .a) (e .b)) (chainsOf b s) first,
+        (ap (λ (u : Verdict). u .length) is, ap (λ (u : Verdict). u .terminals) is),
+      )
 
-  reports-allowance : Says (shows (e .a) (e .b)) (chainsOf b s) w v → v .finding ≡ said.Undecided → (v .effort ≡ w)
-      × ((v .length ≡ 0) × (v .terminals ≡ places []))
-  reports-allowance (says-live c within first is) h =
-      absurd (omega (arith, ranked v (liveVerdict (effortOf b s e) c) said.Undecided is h))
-  reports-allowance (says-dead within first is) h =
-      absurd (omega (arith, ranked v (deadVerdict (effortOf b s e)) said.Undecided is h))
-  reports-allowance (says-undecided short is) h = (
-    ap (λ (u : Verdict). u .effort) is,
-    (
-      ap (λ (u : Verdict). u .length) is,
-      ap (λ (u : Verdict). u .terminals)
-          is,
-    ),
-  )
+  its-report : v .finding ≡ said.Undecided → (v .effort ≡ w) × ShowsNone v
+  its-report h = reported-by (comes-to-this said.Undecided h)
+    where
+      reported-by : ComesTo said.Undecided → (v .effort ≡ w) × ShowsNone v
+      reported-by (undecided-by short is) = (
+        ap (λ (u : Verdict). u .effort) is,
+        (ap (λ (u : Verdict). u .length) is, ap (λ (u : Verdict). u .terminals) is),
+      )
+
+  as-circuits : (v .finding ≡ said.Live → WindingCarries b s (e .a) (e .b))
+      × (v .finding ≡ said.Dead → ¬ (WindingCarries b s (e .a) (e .b)))
+  as-circuits =
+      let agree = live-is-carrying b s (e .a) (e .b) fine in
+      (λ live. agree .0 (its-live .0 live .0), λ dead carries. its-dead .0 dead .0 (agree .1 carries))
 
 pub live-exactly : LiveExactly
-live-exactly b s r n w e v told taken = live-says b s r n w e v told taken (judged-says b s r n w e v told taken)
+live-exactly = its-live
 
 pub dead-exactly : DeadExactly
-dead-exactly b s r n w e v told taken = dead-says b s r n w e v told taken (judged-says b s r n w e v told taken)
+dead-exactly = its-dead
 
 pub undecided-exactly : UndecidedExactly
-undecided-exactly b s r n w e v told taken =
-    undecided-says b s r n w e v told taken (judged-says b s r n w e v told taken)
+undecided-exactly = its-undecided
 
 pub live-shows : LiveShows
-live-shows b s r n w e v told taken = shows-first b s r n w e v told taken (judged-says b s r n w e v told taken)
+live-shows = its-first-chain
 
 pub dead-counts : DeadCounts
-dead-counts b s r n w e v told taken = counts-all b s r n w e v told taken (judged-says b s r n w e v told taken)
+dead-counts = its-count
 
 pub undecided-reports : UndecidedReports
-undecided-reports b s r n w e v told taken =
-    reports-allowance b s r n w e v told taken (judged-says b s r n w e v told taken)
+undecided-reports = its-report
 
 pub as-published : AsPublished
-as-published b s r n w e v told taken =
-    let agree = live-is-carrying b s (e .a) (e .b) (judgeable-given b s r n e taken .0) in (
-      λ live. agree .0 (live-exactly b s r n w e v told taken .0 live .0),
-      λ dead carries. dead-exactly b s r n w e v
-          told taken .0 dead .0 (agree .1 carries),
-    )
+as-published = as-circuits

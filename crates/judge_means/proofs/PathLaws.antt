@@ -1,5 +1,5 @@
 -- Laws that relate the places of a list, which the published model counts, to our words: its steps, its ending, its
--- beginning and that nothing stands twice. For Agreement.
+-- beginning and that nothing stands twice. For Circuits.
 use Prim.Native.Nat.{ℕ, zero, suc, _+_, _-_, _<_, _≤_}
 use native.Mathlib.Numerals.{add-one}
 use native.Mathlib.Omega.{arith}

@@ -12,7 +12,7 @@
 --     PathContainsConnection p x y     "∃ i ∈ {1 .. len p - 1} ∧ (p(i), p(i + 1)) = (c1, c2)"
 --     CurrentCarrying b s x y          "∃ p : Path • p ∈ availablePaths(pos, neg, n) ∧ PathContainsConnection(p, con)"
 --     WindingCarries b s x y           one of the connections of a winding between x and y is current carrying
--- Agreement, of a board that breaks no rule (`proofs/Agreement.antt`):
+-- Agreement, of a board that breaks no rule (`proofs/Circuits.antt`):
 --     PathsAreChains                   the available paths from pos to neg are exactly our chains that end at 1
 --     LiveIsCarrying                   a winding is live, by our chains, exactly if one of its connections is current
 --                                      carrying

@@ -1,20 +1,22 @@
 -- What live, dead and undecided mean, stated over the call `judge::judge`: whatever it answers under its promise. Rule
 -- book: "Live, with the first such chain shown, exactly if the winding is live and its effort is at most W. Dead
 -- exactly if it is dead and its effort is at most W. Undecided otherwise."
---     Judges b s r n w v     `judge` was called on board b, state s, winding n of relay r and allowance w, and answered
---                            v
+--     Judges b s r n w v            `judge` was called on board b, state s, winding n of relay r and allowance w, and
+--                                   answered v
 --     AcceptedWinding b s r n e     the call is not refused, and e is the winding judged
---     chainsOf b s           the list of all chains of board b in state s
---     TheChains              that list holds exactly the rule book's chains, in dictionary order, each once
---     IsLive b s e           "A winding between a and b is live if some chain ends at 1 and has a and b side by side,
---                            in either order"
---     effortOf b s e         its effort
+--     chainsOf b s                  the list of all chains of board b in state s
+--     ChainOf b s c                 c is a chain of board b in state s
+--     TheChains                     that list holds exactly the rule book's chains, in dictionary order, each once
+--     IsLive b s e                  "A winding between a and b is live if some chain ends at 1 and has a and b side by
+--                                   side, in either order"
+--     effortOf b s e                its effort
+--     OfEveryVerdict P              P holds of every verdict v, within the allowance w, on a winding e that is judged
 --     LiveExactly, DeadExactly, UndecidedExactly    the three verdicts
---     LiveShows              live shows the first chain that shows the winding, and the effort is the number of chains
---                            up to and including it
---     DeadCounts             dead reports the number of all chains
---     UndecidedReports       undecided reports W, and no chain
---     AsPublished            live is what document 000 calls current carrying, dead that it is not
+--     LiveShows                     live shows the first chain that shows the winding, and the effort is the number of
+--                                   chains up to and including it
+--     DeadCounts                    dead reports the number of all chains, and no chain
+--     UndecidedReports              undecided reports W, and no chain
+--     AsPublished                   live is what document 000 calls current carrying, dead that it is not
 use Prim.Native.Nat.{ℕ, _+_, _<_, _≤_}
 use mathlib.Core.Path.{_≡_}
 use mathlib.Core.Logic.{_⊎_, _↔_}
@@ -63,26 +65,21 @@ pub record AllChains (b : Board) (s : State) : Type 0 where
 abbrev pub TheChains : Type 0
 TheChains = (b : Board) (s : State) → boardFine b ≡ true → AllChains b s
 
-abbrev pub LiveExactly : Type 0
-LiveExactly =
+abbrev pub OfEveryVerdict : (Board → State → ℕ → Winding → Verdict → Type 0) → Type 0
+OfEveryVerdict P =
     (b : Board) (s : State) (r : ℕ) (n : Which) (w : ℕ) (e : Winding) (v : Verdict)
     → Judges b s r n w v
     → AcceptedWinding b s r n e
-    → v .finding ≡ said.Live ↔ IsLive b s e × (effortOf b s e ≤ w)
+    → P b s w e v
+
+abbrev pub LiveExactly : Type 0
+LiveExactly = OfEveryVerdict λ b s w e v. v .finding ≡ said.Live ↔ IsLive b s e × (effortOf b s e ≤ w)
 
 abbrev pub DeadExactly : Type 0
-DeadExactly =
-    (b : Board) (s : State) (r : ℕ) (n : Which) (w : ℕ) (e : Winding) (v : Verdict)
-    → Judges b s r n w v
-    → AcceptedWinding b s r n e
-    → v .finding ≡ said.Dead ↔ ¬ (IsLive b s e) × (effortOf b s e ≤ w)
+DeadExactly = OfEveryVerdict λ b s w e v. v .finding ≡ said.Dead ↔ ¬ (IsLive b s e) × (effortOf b s e ≤ w)
 
 abbrev pub UndecidedExactly : Type 0
-UndecidedExactly =
-    (b : Board) (s : State) (r : ℕ) (n : Which) (w : ℕ) (e : Winding) (v : Verdict)
-    → Judges b s r n w v
-    → AcceptedWinding b s r n e
-    → v .finding ≡ said.Undecided ↔ w < effortOf b s e
+UndecidedExactly = OfEveryVerdict λ b s w e v. v .finding ≡ said.Undecided ↔ w < effortOf b s e
 
 -- what a live verdict v on winding e shows: the first chain that shows it, and how many chains there are up to it
 pub record FirstChain (b : Board) (s : State) (e : Winding) (v : Verdict) : Type 0 where
@@ -98,33 +95,20 @@ pub record FirstChain (b : Board) (s : State) (e : Winding) (v : Verdict) : Type
   pub counted : v .effort ≡ length early + 1
 
 abbrev pub LiveShows : Type 0
-LiveShows =
-    (b : Board) (s : State) (r : ℕ) (n : Which) (w : ℕ) (e : Winding) (v : Verdict)
-    → Judges b s r n w v
-    → AcceptedWinding b s r n e
-    → v .finding ≡ said.Live
-    → FirstChain b s e v
+LiveShows = OfEveryVerdict λ b s w e v. v .finding ≡ said.Live → FirstChain b s e v
+
+-- no chain is shown
+abbrev pub ShowsNone : Verdict → Type 0
+ShowsNone v = (v .length ≡ 0) × (v .terminals ≡ places [])
 
 abbrev pub DeadCounts : Type 0
 DeadCounts =
-    (b : Board) (s : State) (r : ℕ) (n : Which) (w : ℕ) (e : Winding) (v : Verdict)
-    → Judges b s r n w v
-    → AcceptedWinding b s r n e
-    → v .finding ≡ said.Dead
-    → (v .effort ≡ length (chainsOf b s)) × ((v .length ≡ 0) × (v .terminals ≡ places []))
+    OfEveryVerdict λ b s w e v. v .finding ≡ said.Dead → (v .effort ≡ length (chainsOf b s)) × ShowsNone v
 
 abbrev pub UndecidedReports : Type 0
-UndecidedReports =
-    (b : Board) (s : State) (r : ℕ) (n : Which) (w : ℕ) (e : Winding) (v : Verdict)
-    → Judges b s r n w v
-    → AcceptedWinding b s r n e
-    → v .finding ≡ said.Undecided
-    → (v .effort ≡ w) × ((v .length ≡ 0) × (v .terminals ≡ places []))
+UndecidedReports = OfEveryVerdict λ b s w e v. v .finding ≡ said.Undecided → (v .effort ≡ w) × ShowsNone v
 
 abbrev pub AsPublished : Type 0
 AsPublished =
-    (b : Board) (s : State) (r : ℕ) (n : Which) (w : ℕ) (e : Winding) (v : Verdict)
-    → Judges b s r n w v
-    → AcceptedWinding b s r n e
-    → (v .finding ≡ said.Live → WindingCarries b s (e .a) (e .b))
+    OfEveryVerdict λ b s w e v. (v .finding ≡ said.Live → WindingCarries b s (e .a) (e .b))
     × (v .finding ≡ said.Dead → ¬ (WindingCarries b s (e .a) (e .b)))

@@ -13,8 +13,14 @@ pub enum Kind {
     Dropping(u8),
 }
 
-// The number of the kind that carries a button, and the highest kind number.
+// The numbers of the kinds that rules speak of, and the highest kind number.
 pub const BUTTON_KIND: u32 = 3;
+
+pub const REGULAR_KIND: u32 = 4;
+
+pub const DRAWING_KIND: u32 = 5;
+
+pub const DROPPING_KIND: u32 = 6;
 
 pub const LAST_KIND: u32 = 6;
 

@@ -16,12 +16,12 @@ use Rattle.state.proofs.StateLaws.{drawn-draw-other, drawn-drop-other, state-fi
 use Rattle.neighbours.specs.Neighbours.{neighbours}
 use Rattle.search.specs.declared.Winding.{Winding}
 use Rattle.search.specs.Verdicts as verdict
-use Rattle.search.proofs.VerdictLaws.{judged-larger}
+use Rattle.search.proofs.VerdictLaws.{verdict-by-larger}
 use Rattle.judge.specs.declared.Which.{Which}
 use Rattle.judge.specs.declared.Which.the-variants.{First, Second}
 use Rattle.judge.specs.RelayWindings.{windingOf}
 use Rattle.judge.specs.Judging.{judging}
-use Rattle.judge.proofs.JudgeLaws.{judgeable-sought, judging-by, judging-judged}
+use Rattle.judge.proofs.JudgeLaws.{winding-for-sought, judging-by, judging-judged}
 use Rattle.moves.specs.Steps.{Move, drew, dropped, rests, undecided, conflict, moveBy, findingOn, stepBy, stepOf}
 use Rattle.moves.specs.Steps.{made}
 use Rattle.moves.proofs.MotionLaws.{move-larger}
@@ -51,7 +51,7 @@ word-judging b s r n w fine fits = by-sought (windingOf n r (partsOf b)) refl
         (judging-judged b s r n w v (neighbours b s) fine fits e refl)
     by-sought (refused k p) e =
         word-missing (neighbours b s) b r n w k p e ∙ ap (λ (j : verdict.Verdict). j .finding)
-        (judging-by b s r n w (refused k p) (judgeable-sought b s r n fine fits ∙ e))
+        (judging-by b s r n w (refused k p) (winding-for-sought b s r n fine fits ∙ e))
 
 -- a larger allowance x changes no word but undecided
 pub word-larger : (near : List ℕ) (b : Board) (r : ℕ) (n : Which) (w x : ℕ) → w ≤ x
@@ -61,7 +61,7 @@ word-larger near b r n w x more = by-sought (windingOf n r (partsOf b)) refl
     by-sought : (o : Outcome Winding) → windingOf n r (partsOf b) ≡ o
         → (findingOn near b r n w ≡ given verdict.undecided) ⊎ (findingOn near b r n x ≡ findingOn near b r n w)
     by-sought (refused k p) e = inr (word-missing near b r n x k p e ∙ sym (word-missing near b r n w k p e))
-    by-sought (given v) e = either (judged-larger near (b .counts .terminals) v w x more)
+    by-sought (given v) e = either (verdict-by-larger near _ v w x more)
       where
         either : (verdict.verdictBy near (verdict.inSets (b .counts .terminals)) v w .finding ≡ given
             verdict.undecided)

@@ -24,7 +24,7 @@ use Rattle.search.specs.Verdicts as verdict
 use Rattle.judge.specs.declared.Which.{Which}
 use Rattle.judge.specs.declared.Which.the-variants.{First, Second}
 use Rattle.judge.specs.RelayWindings.{windingOf}
-use Rattle.judge.proofs.JudgeLaws.{judgeable-sought}
+use Rattle.judge.proofs.JudgeLaws.{winding-for-sought}
 use Rattle.judge_means.specs.Exactness.{IsLive}
 use Rattle.judge_means.proofs.Eleven.{the-winding}
 use Rattle.moves.specs.Steps.{Move, drew, dropped, rests, undecided, conflict}
@@ -56,7 +56,7 @@ module _ (b : Board) (w : ℕ) (s : State) (r : ℕ) (fine : boardFine b ≡ tru
   module _ (n : Which) (e : Winding) (found : windingOf n r (partsOf b) ≡ given e) where
     live-current : IsLive b s e ↔ CurrentThrough b s r n
     live-current =
-        let its = the-winding b s r n e (judgeable-sought b s r n fine fits ∙ found) in
+        let its = the-winding b s r n e (winding-for-sought b s r n fine fits ∙ found) in
         let agree = live-is-carrying b s (e .a) (e .b) fine in (
           λ live. carries-through b s r n e its (agree .0 live),
           λ current. agree .1

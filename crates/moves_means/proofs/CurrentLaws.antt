@@ -9,6 +9,7 @@ use Rattle.kinds.specs.declared.Kind.{Kind}
 use Rattle.kinds.specs.declared.Kind.the-variants.{Wire, Upper, Lower, Button, Regular, Drawing, Dropping}
 use Rattle.board.specs.declared.Part.{Part}
 use Rattle.board.specs.declared.Board.{Board}
+use Rattle.board.specs.Sorts.{carries}
 use Rattle.state.specs.declared.State.{State}
 use Rattle.neighbours.specs.Conduction.{conducts}
 use Rattle.neighbours.specs.Neighbours.{EndsAt}
@@ -22,6 +23,7 @@ use Rattle.judge_means.specs.Eleven.{ItsWinding}
 use Rattle.moves_means.specs.Guards.{CurrentThrough}
 
 winding-conducts : (s : State) (n : Which) (r : ℕ) (k : Kind) → isWinding n r k ≡ true → conducts s k ≡ true
+unfolding carries
 winding-conducts s n r Wire is = refl
 winding-conducts s First r (Upper m) is = absurd (false≢true is)
 winding-conducts s Second r (Upper m) is = absurd (false≢true is)

@@ -31,7 +31,7 @@ use Rattle.judge.specs.declared.Which.the-variants.{First, Second}
 use Rattle.judge.specs.RelayWindings.{windingOf}
 use Rattle.judge.specs.Judging.{windingFor, judging}
 use Rattle.judge.proofs.SoughtLaws.{winding-refused}
-use Rattle.judge.proofs.JudgeLaws.{judgeable-sought, judging-by}
+use Rattle.judge.proofs.JudgeLaws.{winding-for-sought, judging-by}
 use Rattle.judge_means.specs.Exactness.{Judges, AcceptedWinding, chainsOf, effortOf}
 use Rattle.judge_means.proofs.Exactness.{liveVerdict, deadVerdict, as-published}
 use Rattle.judge_means.proofs.Eleven.{eleven-exactly, the-winding}
@@ -78,7 +78,7 @@ module _ (b : Board) (w : ℕ) (s : State) (r : ℕ) (n : Which) (e : Winding)
       })
     where
       taken : AcceptedWinding b s r n e
-      taken = judgeable-sought b s r n fine fits ∙ found
+      taken = winding-for-sought b s r n fine fits ∙ found
 
       weighs : weighed (shows (e .a) (e .b)) (chainsOf b s) w ≡ judging b s r n w
       weighs = accepted-weighed taken
@@ -131,7 +131,7 @@ module _ (b : Board) (w : ℕ) (s : State) (r : ℕ) (fine : boardFine b ≡ tru
         by-sought (refused k p) missing =
             absurd
             (eleven
-            (eleven-exactly b s r n fine fits .0 (judgeable-sought b s r n fine fits
+            (eleven-exactly b s r n fine fits .0 (winding-for-sought b s r n fine fits
             ∙ winding-refused n r (partsOf b) k p missing)))
 
     pub first-word : r < b .counts .relays → HasWord b s r First w
@@ -148,5 +148,5 @@ module _ (b : Board) (w : ℕ) (s : State) (r : ℕ) (fine : boardFine b ≡ tru
         eleven-exactly b s r Second fine fits .1 (inr (refl, regular)) in (
           ap (λ (j : Verdict). j .finding) (sym (judging-by b s r Second w (refused noSuchWinding 0) missing)),
           λ e found. absurd
-              (refused-never noSuchWinding 0 e (sym missing ∙ judgeable-sought b s r Second fine fits ∙ found)),
+              (refused-never noSuchWinding 0 e (sym missing ∙ winding-for-sought b s r Second fine fits ∙ found)),
         )

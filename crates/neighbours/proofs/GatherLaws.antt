@@ -2,6 +2,7 @@
 -- along a board's first C parts. For the proofs of `bridge` and `neighbours`, and for `JoinedLaws`.
 use Prim.Native.Nat.{ℕ, _+_, _≤_, _<_}
 use mathlib.Core.Path.{_≡_, refl, sym, ap, _∙_}
+use mathlib.Core.Logic.{_⊎_, ⊎-elim}
 use mathlib.Core.Bool.{Bool, true, false, cond}
 use mathlib.Core.List.{List, [], _∷_}
 use lib.ListN.{length, getD, take, drop, length-set}
@@ -49,11 +50,6 @@ bridged-length s near p =
     either-length (conducts s (p .kind)) _ near
     (joining-length (joining near (p .a) (p .b)) (p .b) (p .a) ∙ joining-length near (p .a) (p .b))
 
-pub gathered-length : (s : State) (near : List ℕ) (ps : List Part) → length (gathered s near ps) ≡ length near
-gathered-length s near [] = ap length (gathered-none s near)
-gathered-length s near (p ∷ ps) =
-    ap length (gathered-next s near p ps) ∙ gathered-length s (bridged s near p) ps ∙ bridged-length s near p
-
 -- ---- a walk along the first n parts of l, or all of them if there are fewer: at place i, `all` is what the parts from
 -- there on make of the sets `near`
 
@@ -67,10 +63,8 @@ module _ (s : State) (near : List ℕ) (l : List Part) (n i : ℕ) (all : List �
       ∙ gathered-next s near (getD l i blank) (drop (i + 1) (take n l))
       ∙ ap (λ (k : List ℕ). gathered s k (drop (i + 1) (take n l))) (sym more)
 
-  -- all the parts that count have been passed
-  pub gather-walk-end : n ≤ i → near ≡ all
-  gather-walk-end past = sym (here ∙ ap (gathered s near) (taken-past blank l n i past) ∙ gathered-none s near)
-
-  -- all the places of the array have been passed
-  pub gather-walk-full : length l ≤ i → near ≡ all
-  gather-walk-full past = sym (here ∙ ap (gathered s near) (taken-full blank l n i past) ∙ gathered-none s near)
+  -- all the parts that count, or all the places of the array, have been passed
+  pub gather-walk-end : (n ≤ i) ⊎ (length l ≤ i) → near ≡ all
+  gather-walk-end past =
+      sym (here ∙ ap (gathered s near) (⊎-elim (taken-past blank l n i) (taken-full blank l n i) past)
+      ∙ gathered-none s near)

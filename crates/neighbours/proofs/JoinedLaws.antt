@@ -1,6 +1,6 @@
 -- The laws of which terminals are joined, which every crate above cites: in the sets of a board that breaks no rule, y
 -- is in the set of x exactly if a conducting part has x and y as its ends. So being joined goes both ways, and holds of
--- two different terminals of the board.
+-- terminals of the board.
 use Prim.Native.Nat.{ℕ, zero, suc, _≤_, _<_}
 use native.Mathlib.Omega.{arith}
 use mathlib.Core.Path.{_≡_, refl, sym, subst, ap, _∙_}
@@ -10,7 +10,7 @@ use mathlib.Core.List.{List, [], _∷_}
 use lib.Dec.{eqb, ltb}
 use lib.ListN.{length, getD, replicate, length-replicate}
 use lib.Seq.{set-out, getD-set-same, getD-set-other}
-use borrow.Author.Tests.{eqb-true, eqb-false, ltb-true, ltb-false, not-true}
+use borrow.Author.Tests.{eqb-true, eqb-false, ltb-true, ltb-false}
 use Rattle.lists.specs.Members.{_∈_}
 use Rattle.bits.specs.Sets.{member, including}
 use Rattle.bits.proofs.BoolLaws.{both-true, by-test}
@@ -19,14 +19,14 @@ use Rattle.board.specs.declared.Counts.{Counts}
 use Rattle.board.specs.declared.Part.{Part}
 use Rattle.board.specs.declared.Board.{Board}
 use Rattle.board.specs.Parts.{partsOf}
-use Rattle.board.specs.Rules.{partFits, boardFine}
+use Rattle.board.specs.Rules.{mostTerminals, partFits, boardFine}
 use Rattle.board.specs.Sorts.{partsFit}
 use Rattle.board.proofs.FineLaws.{fine-range, fine-parts-fit}
 use Rattle.state.specs.declared.State.{State}
 use Rattle.neighbours.specs.Conduction.{conducts}
 use Rattle.neighbours.specs.Neighbours.{EndsAt, Joined, joined, alone, joining, bridged, gathered, neighbours}
 use Rattle.neighbours.proofs.GatherLaws.{gathered-none, gathered-next, neighbours-gathered, bridged-conducting}
-use Rattle.neighbours.proofs.GatherLaws.{bridged-open, joining-length, bridged-length, gathered-length}
+use Rattle.neighbours.proofs.GatherLaws.{bridged-open, joining-length, bridged-length}
 
 -- ---- a part's two ends, in either order
 
@@ -112,10 +112,10 @@ module _ (s : State) (near : List ℕ) (p : Part) where
       (joining-kept near (p .a) (p .b) x y is))
       (λ off. bridged-off x y off ∙ is)
 
-  bridged-joins : (x y : ℕ) → length near ≡ 64 → conducts s (p .kind) ≡ true → EndsAt p x y → x < 64 → y < 64
-      → joined (bridged s near p) x y ≡ true
+  bridged-joins : (x y : ℕ) → length near ≡ mostTerminals → conducts s (p .kind) ≡ true → EndsAt p x y
+      → x < mostTerminals → y < mostTerminals → joined (bridged s near p) x y ≡ true
   bridged-joins x y long on =
-      ends-either p (λ u v. u < 64 → v < 64 → joined (bridged s near p) u v ≡ true)
+      ends-either p (λ u v. u < mostTerminals → v < mostTerminals → joined (bridged s near p) u v ≡ true)
       (λ a b. bridged-on (p .a) (p .b) on ∙ joining-kept (joining near (p .a) (p .b)) (p .b) (p .a) (p .a) (p .b)
       (joining-joins near (p .a) (p .b) (omega arith) b))
       (λ b a. bridged-on (p .b) (p .a) on ∙ joining-joins (joining near (p .a) (p .b)) (p .b) (p .a)
@@ -147,8 +147,9 @@ module _ (s : State) (x y : ℕ) where
   gathered-kept near (p ∷ ps) is =
       gathered-step near p ps ∙ gathered-kept (bridged s near p) ps (bridged-kept s near p x y is)
 
-  gathered-joins : (near : List ℕ) (ps : List Part) (p : Part) → p ∈ ps → length near ≡ 64
-      → conducts s (p .kind) ≡ true → EndsAt p x y → x < 64 → y < 64 → joined (gathered s near ps) x y ≡ true
+  gathered-joins : (near : List ℕ) (ps : List Part) (p : Part) → p ∈ ps → length near ≡ mostTerminals
+      → conducts s (p .kind) ≡ true → EndsAt p x y → x < mostTerminals → y < mostTerminals
+      → joined (gathered s near ps) x y ≡ true
   gathered-joins near [] p among long on ends inside also = absurd among
   gathered-joins near (q ∷ ps) p (inl same) long on ends inside also =
       gathered-step near q ps
@@ -175,38 +176,21 @@ fit-among c [] p fit among = absurd among
 fit-among c (q ∷ ps) p fit (inl same) = ap (partFits c) same ∙ both-true (partFits c q) _ fit .0
 fit-among c (q ∷ ps) p fit (inr among) = fit-among c ps p (both-true (partFits c q) _ fit .1) among
 
--- its ends are two different terminals of the board
-record TwoTerminals (c : Counts) (x y : ℕ) : Type 0 where
-  inside : x < c .terminals
-  also : y < c .terminals
-  apart : ¬ (x ≡ y)
-
-fit-apart : (c : Counts) (p : Part) → partFits c p ≡ true → TwoTerminals c (p .a) (p .b)
+-- its ends are terminals of the board
+fit-inside : (c : Counts) (p : Part) → partFits c p ≡ true → (p .a < c .terminals) × (p .b < c .terminals)
 unfolding partFits
-fit-apart c p fit =
-    let named = both-true _ _ fit in
-    let ends = both-true _ _ (named .0) in
-    let both = both-true _ _ (ends .0) in
-    record {
-      inside = ltb-true (p .a) (c .terminals) (both .0);
-      also = ltb-true (p .b) (c .terminals) (both .1);
-      apart = eqb-false (p .a) (p .b) (not-true _ (ends .1));
-    }
+fit-inside c p fit =
+    let both = both-true _ _ (both-true _ _ (both-true _ _ fit .0) .0) in
+    (ltb-true (p .a) (c .terminals) (both .0), ltb-true (p .b) (c .terminals) (both .1))
 
-ends-apart : (c : Counts) (p : Part) (x y : ℕ) → partFits c p ≡ true → EndsAt p x y → TwoTerminals c x y
-ends-apart c p x y fit =
-    let on = fit-apart c p fit in
-    ends-either p (TwoTerminals c) on
-    (record { inside = on .also; also = on .inside; apart = λ same. on .apart (sym same) }) x y
+-- ends that a part of the board has are terminals of it
+ends-inside : (b : Board) (p : Part) (x y : ℕ) → boardFine b ≡ true → p ∈ partsOf b → EndsAt p x y
+    → (x < b .counts .terminals) × (y < b .counts .terminals)
+ends-inside b p x y fine among =
+    let on = fit-inside (b .counts) p (fit-among (b .counts) (partsOf b) p (fine-parts-fit b fine) among) in
+    ends-either p (λ u v. (u < b .counts .terminals) × (v < b .counts .terminals)) on (on .1, on .0) x y
 
 -- ---- the sets of a board
-
-alone-length : length alone ≡ 64
-alone-length = length-replicate {A = ℕ} 64 0
-
-pub neighbours-length : (b : Board) (s : State) → length (neighbours b s) ≡ 64
-neighbours-length b s =
-    ap length (neighbours-gathered b s) ∙ gathered-length s alone (partsOf b) ∙ alone-length
 
 module _ (b : Board) (s : State) (x y : ℕ) where
   -- x and y are joined by a conducting part: what follows from such a part holds
@@ -214,7 +198,7 @@ module _ (b : Board) (s : State) (x y : ℕ) where
       → joined (neighbours b s) x y ≡ true → C
   joined-by use-part is =
       gathered-new s x y alone (partsOf b) use-part
-      (λ none. absurd (false≢true (sym (none-joined 64 x y) ∙ none)))
+      (λ none. absurd (false≢true (sym (none-joined mostTerminals x y) ∙ none)))
       (sym (ap (λ (k : List ℕ). joined k x y) (neighbours-gathered b s)) ∙ is)
 
   pub joined-part : joined (neighbours b s) x y ≡ true → Joined b s x y
@@ -223,27 +207,18 @@ module _ (b : Board) (s : State) (x y : ℕ) where
   part-joins : (p : Part) → boardFine b ≡ true → p ∈ partsOf b → conducts s (p .kind) ≡ true → EndsAt p x y
       → joined (neighbours b s) x y ≡ true
   part-joins p fine among on ends =
-      let range = fine-range b fine in
-      let both =
-      ends-apart (b .counts) p x y (fit-among (b .counts) (partsOf b) p (fine-parts-fit b fine) among) ends in
+      let most = fine-range b fine .most-terminals in
+      let inside = ends-inside b p x y fine among ends in
       ap (λ (k : List ℕ). joined k x y) (neighbours-gathered b s)
-      ∙ gathered-joins s x y alone (partsOf b) p among alone-length on ends
-      (omega (arith, range .most-terminals, both .inside)) (omega (arith, range .most-terminals, both .also))
+      ∙ gathered-joins s x y alone (partsOf b) p among (length-replicate {A = ℕ} mostTerminals 0) on ends
+      (omega (arith, most, inside .0)) (omega (arith, most, inside .1))
 
   pub part-joined : boardFine b ≡ true → Joined b s x y → joined (neighbours b s) x y ≡ true
   part-joined fine j = part-joins (j .part) fine (j .on-board) (j .conducting) (j .ends)
 
-  joined-ends : boardFine b ≡ true → joined (neighbours b s) x y ≡ true → TwoTerminals (b .counts) x y
-  joined-ends fine =
-      joined-by (λ p among on ends. ends-apart (b .counts) p x y
-      (fit-among (b .counts) (partsOf b) p (fine-parts-fit b fine) among) ends)
-
   pub joined-inside : boardFine b ≡ true → joined (neighbours b s) x y ≡ true → (x < b .counts .terminals)
       × (y < b .counts .terminals)
-  joined-inside fine is = (joined-ends fine is .inside, joined-ends fine is .also)
-
-  pub joined-apart : boardFine b ≡ true → joined (neighbours b s) x y ≡ true → ¬ (x ≡ y)
-  joined-apart fine is = joined-ends fine is .apart
+  joined-inside fine = joined-by (λ p among on ends. ends-inside b p x y fine among ends)
 
 joined-turned : (b : Board) (s : State) (x y : ℕ) → boardFine b ≡ true → joined (neighbours b s) x y ≡ true
     → joined (neighbours b s) y x ≡ true

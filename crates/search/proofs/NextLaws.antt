@@ -8,28 +8,29 @@ use mathlib.Core.List.{List, [], _++_}
 use Rattle.bits.specs.Sets.{member, firstFrom, lowestFrom}
 use Rattle.bits.proofs.BoolLaws.{by-test}
 use Rattle.bits.proofs.LowestLaws.{first-fewer}
+use Rattle.board.specs.Rules.{mostTerminals}
 use Rattle.chains.specs.ChainList.{tries}
 
 -- ---- the lowest member from x, which is n, up is m; y is the number of terminals t
 
-module _ (s t n x m y : ℕ) (start : n ≤ t) (most : t ≤ 64) (from : x ≡ n) (up : y ≡ t) (found : m ≡ lowestFrom s x)
-  where
-    lowest : m ≡ firstFrom (member s) (64 - n) n
-    unfolding lowestFrom
-    lowest = found ∙ ap (λ (k : ℕ). firstFrom (member s) (64 - k) k) from
+module _ (s t n x m y : ℕ) (start : n ≤ t) (most : t ≤ mostTerminals) (from : x ≡ n) (up : y ≡ t)
+    (found : m ≡ lowestFrom s x) where
+  lowest : m ≡ firstFrom (member s) (64 - n) n
+  unfolding lowestFrom
+  lowest = found ∙ ap (λ (k : ℕ). firstFrom (member s) (64 - k) k) from
 
-    pub next-none : y ≤ m → t ≡ firstFrom (member s) (t - n) n
-    next-none past =
-        let same : t ≡ n + (t - n) = omega (arith, start) in
-        same
-        ∙ sym (first-fewer (member s) (t - n) (64 - n) n (omega (arith, most)) .1
-        (omega (arith, past, up, start, lowest)))
+  pub next-none : y ≤ m → t ≡ firstFrom (member s) (t - n) n
+  next-none past =
+      let same : t ≡ n + (t - n) = omega (arith, start) in
+      same
+      ∙ sym (first-fewer (member s) (t - n) (64 - n) n (omega (arith, most)) .1
+      (omega (arith, past, up, start, lowest)))
 
-    pub next-some : m < y → m ≡ firstFrom (member s) (t - n) n
-    next-some below =
-        lowest
-        ∙ sym (first-fewer (member s) (t - n) (64 - n) n (omega (arith, most)) .0
-        (omega (arith, below, up, start, lowest)))
+  pub next-some : m < y → m ≡ firstFrom (member s) (t - n) n
+  next-some below =
+      lowest
+      ∙ sym (first-fewer (member s) (t - n) (64 - n) n (omega (arith, most)) .0
+      (omega (arith, below, up, start, lowest)))
 
 -- ---- the numbers passed over add no chain
 

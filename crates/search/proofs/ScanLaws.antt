@@ -11,6 +11,7 @@ use lib.Seq.{length-take-le}
 use borrow.Author.Tests.{leb-true, leb-false, le-leb, lt-leb}
 use Rattle.bits.proofs.BoolLaws.{by-test}
 use Rattle.number.specs.Outcomes.{given}
+use Rattle.board.specs.Rules.{mostTerminals}
 use Rattle.search.specs.declared.walk.Scan as code-scan
 use Rattle.search.specs.declared.walk.Scan.the-variants.{Showing, ShowingNone, AllowanceSpent}
 use Rattle.search.specs.declared.walk.Walked.{Walked}
@@ -21,47 +22,36 @@ use Rattle.search.specs.Walks.{toldWalked}
 
 -- ---- the verdict of a walk
 
-pub left-live : (r : Walked) (ps : List ℕ) (w : ℕ) → r .found ≡ Showing → LeftWithin (toldWalked r ps) w → r .left ≤ w
-left-live r ps w e h =
+-- what a walk left, once it is known what it found
+pub left-within : (r : Walked) (ps : List ℕ) (w : ℕ) (f : code-scan.Scan) → r .found ≡ f
+    → LeftWithin (toldWalked r ps) w
+    → LeftWithin (toldWalked (record { found = f; left = r .left; length = r .length }) ps) w
+left-within r ps w f e h =
     subst
     (λ (f : code-scan.Scan). LeftWithin (toldWalked (record { found = f; left = r .left; length = r .length }) ps)
     w) e h
 
-pub left-dead : (r : Walked) (ps : List ℕ) (w : ℕ) → r .found ≡ ShowingNone → LeftWithin (toldWalked r ps) w
-    → r .left ≤ w
-left-dead r ps w e h =
-    subst
-    (λ (f : code-scan.Scan). LeftWithin (toldWalked (record { found = f; left = r .left; length = r .length }) ps)
-    w) e h
-
-pub concluded-live : (r : Walked) (ps qs : List ℕ) (w : ℕ) → length ps ≡ 64 → r .length ≤ 64
+pub concluded-showing : (r : Walked) (ps qs : List ℕ) (w : ℕ) → length ps ≡ mostTerminals → r .length ≤ mostTerminals
     → qs ≡ places (take (r .length) ps) → r .found ≡ Showing
     → _≡_ {A = Verdict}
     (record { finding = given Finding.live; effort = w - r .left; length = r .length; places = qs })
     (concluded (toldWalked r ps) w)
-concluded-live r ps qs w room short shown e =
+concluded-showing r ps qs w room short shown e =
     let long : r .length ≡ length (take (r .length) ps) =
     sym (length-take-le (r .length) ps (omega (arith, room, short))) in
     ap (λ (k : ℕ). record { finding = given Finding.live; effort = w - r .left; length = k; places = qs }) long
-    ∙ ap
-    (λ (l : List ℕ). record {
-      finding = given Finding.live;
-      effort = w - r .left;
-      length =
-          length (take (r .length) ps);
-      places = l;
-    }) shown
-    ∙ rw e refl
+    ∙ rw (shown, e) refl
 
-pub concluded-dead : (r : Walked) (ps : List ℕ) (w : ℕ) → r .found ≡ ShowingNone
+pub concluded-none : (r : Walked) (ps : List ℕ) (w : ℕ) → r .found ≡ ShowingNone
     → _≡_ {A = Verdict}
-    (record { finding = given Finding.dead; effort = w - r .left; length = 0; places = replicate 64 0 })
+    (record { finding = given Finding.dead; effort = w - r .left; length = 0; places = replicate mostTerminals 0 })
     (concluded (toldWalked r ps) w)
 unfolding places
-concluded-dead r ps w e = rw e refl
+concluded-none r ps w e = rw e refl
 
 pub concluded-spent : (r : Walked) (ps : List ℕ) (w : ℕ) → r .found ≡ AllowanceSpent
-    → _≡_ {A = Verdict} (record { finding = given undecided; effort = w; length = 0; places = replicate 64 0 })
+    → _≡_ {A = Verdict}
+    (record { finding = given undecided; effort = w; length = 0; places = replicate mostTerminals 0 })
     (concluded (toldWalked r ps) w)
 unfolding places
 concluded-spent r ps w e = rw e refl
@@ -69,12 +59,12 @@ concluded-spent r ps w e = rw e refl
 -- ---- one list of chains after another
 
 -- a scan that found none in the first goes on to the second with what is left; any other is handed back
-abbrev pub after : Scan → (ℕ → Scan) → Scan
-after (showing c left) go = showing c left
-after (showing-none left) go = go left
-after allowance-spent go = allowance-spent
+abbrev pub carriedOn : Scan → (ℕ → Scan) → Scan
+carriedOn (showing c left) go = showing c left
+carriedOn (showing-none left) go = go left
+carriedOn allowance-spent go = allowance-spent
 
-pub scan-append : (s : List ℕ → Bool) (xs ys : List (List ℕ)) (w : ℕ) → scan s (xs ++ ys) w ≡ after (scan s xs w)
+pub scan-append : (s : List ℕ → Bool) (xs ys : List (List ℕ)) (w : ℕ) → scan s (xs ++ ys) w ≡ carriedOn (scan s xs w)
     (scan s ys)
 unfolding scan
 scan-append s [] ys w = refl

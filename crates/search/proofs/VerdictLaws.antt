@@ -1,6 +1,5 @@
 -- Laws of verdicts: what live, dead and undecided say of the chains, what the effort counts, that a verdict is known by
 -- what it tells, and that at most 64 terminals are looked at. What `search`, `judge` and the crates above them need.
--- Assumes nothing.
 use Prim.Native.Nat.{ℕ, _+_, _<_, _≤_}
 use native.Mathlib.Omega.{arith}
 use mathlib.Core.Path.{_≡_, refl, sym, ap, subst, _∙_}
@@ -14,14 +13,15 @@ use borrow.Author.Tests.{lt-ltb, le-ltb, le-leb, lt-leb, leb-true, leb-false}
 use Rattle.bits.proofs.BoolLaws.{by-test}
 use Rattle.lists.specs.Members.{_∈_, All}
 use Rattle.lists.proofs.MemberLaws.{all-member, member-append-right}
-use Rattle.number.specs.Outcomes.{given}
-use Rattle.number.proofs.OutcomeLaws.{refusal-equal}
+use Rattle.number.specs.Outcomes.{Outcome, given, refused}
+use Rattle.number.proofs.OutcomeLaws.{inverse-injective}
+use Rattle.board.specs.Rules.{mostTerminals}
 use Rattle.search.specs.declared.Winding.{Winding}
-use Rattle.search.specs.declared.Finding.{Finding}
+use Rattle.search.specs.declared.Finding as code-finding
 use Rattle.search.specs.declared.Finding.the-variants.{Live, Dead, Undecided, Refused}
 use Rattle.search.specs.declared.Verdict as code-verdict
-use Rattle.search.specs.Verdicts.{Verdict, undecided, firstShown, effort, settled, unsettled, weighed, verdictBy}
-use Rattle.search.specs.Verdicts.{inSets, toldFinding, toldVerdict}
+use Rattle.search.specs.Verdicts.{Finding, live, dead, undecided, Verdict, firstShown, effort, settled}
+use Rattle.search.specs.Verdicts.{unsettled, weighed, verdictBy, inSets, toldFinding, toldVerdict}
 
 -- ---- the verdict turns at the effort
 
@@ -45,11 +45,10 @@ weighed-larger s cs w x more =
     within : effort s cs ≤ w → weighed s cs x ≡ weighed s cs w
     within enough = weighed-within s cs x (omega (arith, enough, more)) ∙ sym (weighed-within s cs w enough)
 
-pub judged-larger : (near : List ℕ) (t : ℕ) (v : Winding) (w x : ℕ) → w ≤ x
-    → (verdictBy near (inSets t) v w .finding ≡ given undecided)
-    ⊎ (verdictBy near (inSets t) v x ≡ verdictBy near (inSets t) v w)
+pub verdict-by-larger : (near : List ℕ) (t : ℕ) (v : Winding) (w x : ℕ) → w ≤ x
+    → (verdictBy near t v w .finding ≡ given undecided) ⊎ (verdictBy near t v x ≡ verdictBy near t v w)
 unfolding verdictBy
-judged-larger near t v w x more = weighed-larger _ _ w x more
+verdict-by-larger near t v w x more = weighed-larger _ _ w x more
 
 -- ---- the first chain shown
 
@@ -135,27 +134,22 @@ effort-some s c cs = omega arith
 
 -- ---- the answer's cases are told apart
 
-told-finding-injective : (x y : Finding) → toldFinding x ≡ toldFinding y → x ≡ y
-told-finding-injective Live Live e = refl
-told-finding-injective Live Dead e = cc
-told-finding-injective Live Undecided e = cc
-told-finding-injective Live (Refused q) e = cc
-told-finding-injective Dead Live e = cc
-told-finding-injective Dead Dead e = refl
-told-finding-injective Dead Undecided e = cc
-told-finding-injective Dead (Refused q) e = cc
-told-finding-injective Undecided Live e = cc
-told-finding-injective Undecided Dead e = cc
-told-finding-injective Undecided Undecided e = refl
-told-finding-injective Undecided (Refused q) e = cc
-told-finding-injective (Refused r) Live e = cc
-told-finding-injective (Refused r) Dead e = cc
-told-finding-injective (Refused r) Undecided e = cc
-told-finding-injective (Refused r) (Refused q) e = ap Refused (refusal-equal r q (cc) (cc))
+-- the answer that tells a finding
+abbrev untold : Outcome Finding → code-finding.Finding
+untold (given live) = Live
+untold (given dead) = Dead
+untold (given undecided) = Undecided
+untold (refused n p) = Refused (record { number = n; place = p })
+
+untold-told : (f : code-finding.Finding) → untold (toldFinding f) ≡ f
+untold-told Live = refl
+untold-told Dead = refl
+untold-told Undecided = refl
+untold-told (Refused r) = refl
 
 pub told-verdict-injective : (x y : code-verdict.Verdict) → toldVerdict x ≡ toldVerdict y → x ≡ y
 told-verdict-injective x y e = λ i. record {
-  finding = told-finding-injective (x .finding) (y .finding) (λ j. e j .finding) i;
+  finding = inverse-injective toldFinding untold untold-told (x .finding) (y .finding) (λ j. e j .finding) i;
   effort = e i .effort;
   length = e i .length;
   terminals = e i .places;
@@ -163,12 +157,12 @@ told-verdict-injective x y e = λ i. record {
 
 -- ---- at most 64 terminals are looked at
 
-pub judged-most : (near : List ℕ) (t : ℕ) (v : Winding) (w : ℕ) → 64 < t → verdictBy near 64 v w ≡ verdictBy near
-    (inSets t) v w
+pub in-sets-most : (near : List ℕ) (t : ℕ) (v : Winding) (w : ℕ) → mostTerminals < t
+    → verdictBy near mostTerminals v w ≡ verdictBy near (inSets t) v w
 unfolding inSets
-judged-most near t v w more = rw (lt-ltb 64 t more) refl
+in-sets-most near t v w more = rw (lt-ltb mostTerminals t more) refl
 
-pub judged-given : (near : List ℕ) (t : ℕ) (v : Winding) (w : ℕ) → t ≤ 64 → verdictBy near t v w ≡ verdictBy near
-    (inSets t) v w
+pub in-sets-all : (near : List ℕ) (t : ℕ) (v : Winding) (w : ℕ) → t ≤ mostTerminals
+    → verdictBy near t v w ≡ verdictBy near (inSets t) v w
 unfolding inSets
-judged-given near t v w most = rw (le-ltb 64 t most) refl
+in-sets-all near t v w most = rw (le-ltb mostTerminals t most) refl

@@ -1,5 +1,5 @@
-// Judging a winding by the sets of neighbours: the search goes through the chains in dictionary order until one shows the
-// winding, none is left, or the allowance is spent.
+// Judging a winding by the sets of neighbours: the search goes through the chains in dictionary order until one shows
+// the winding, none is left, or the allowance is spent.
 ghost use mathlib.Core.Path.{_≡_};
 ghost use Rattle.search.specs.Verdicts.{verdictBy, inSets, toldVerdict};
 use board::MOST_TERMINALS;
@@ -33,8 +33,8 @@ pub struct Verdict {
     pub terminals: [u8; 64],
 }
 
-// Judges the winding on a board of so many terminals, joined as these sets say. The sets are of 64 terminals: of more, only
-// those are looked at.
+// Judges the winding on a board of so many terminals, joined as these sets say. The sets are of 64 terminals: of more,
+// only those are looked at.
 pub fn search(near: &[u64; 64], terminals: u8, winding: Winding, allowance: u32) -> Verdict
     ensures { λ r. ⌜ toldVerdict r ≡ verdictBy (now (near .entry)) (inSets terminals) winding allowance ⌝ }
 {

@@ -1,5 +1,5 @@
-// The chain walk: one function enters a terminal, another tries its next neighbour; they call each other, with unvisited
-// terminals and untried numbers falling.
+// The chain walk: one function enters a terminal, another tries its next neighbour; they call each other, with
+// unvisited terminals and untried numbers falling.
 use crate::Finding;
 use crate::PLACES;
 use crate::Verdict;
@@ -11,7 +11,8 @@ ghost use lib.ListN.{take};
 ghost use Rattle.bits.specs.Sets.{member, firstFrom};
 ghost use Rattle.board.specs.Rules.{mostTerminals};
 ghost use Rattle.search.specs.Verdicts.{places as placed, verdictBy, toldVerdict};
-ghost use Rattle.search.specs.Walks.{pathIn, Carries, WalkComes, entered, tried, concluded, LeftWithin, toldWalked};
+ghost use Rattle.search.specs.Walks.{pathIn, Carries, WalkComes, entered, tried, concluded};
+ghost use Rattle.search.specs.Walks.{LeftWithin, toldWalked};
 
 // Terminal 1.
 const MINUS: u8 = 1;
@@ -44,7 +45,8 @@ fn next_member(set: u64, n: u8, terminals: u8) -> u8
     }
 }
 
-// Enters the terminal at which the chain ends: counts the chain, looks whether it shows the winding, and goes on from it.
+// Enters the terminal at which the chain ends: counts the chain, looks whether it shows the winding, and goes on from
+// it.
 // The chain's terminals stand in the first of the lent places, and stay there.
 fn enter(
     near: &[u64; 64],
@@ -56,7 +58,8 @@ fn enter(
 ) -> Walked
     requires { ⌜ terminals ≤ mostTerminals ⌝ }
     requires { ⌜ Carries winding chain (now places) ⌝ }
-    ensures { λ r. ⌜ WalkComes r chain (now (places .entry)) (now (places .exit)) (entered (now (near .entry)) terminals winding (pathIn chain (now (places .entry))) left) ⌝ }
+    ensures { λ r. ⌜ WalkComes r chain (now (places .entry)) (now (places .exit))
+        (entered (now (near .entry)) terminals winding (pathIn chain (now (places .entry))) left) ⌝ }
 {
     let length = chain.length;
     if left == 0 {
@@ -105,7 +108,8 @@ fn try_next(
     requires { ⌜ Carries winding chain (now places) ⌝ }
     requires { ⌜ chain .length < terminals ⌝ }
     requires { ⌜ n ≤ terminals ⌝ }
-    ensures { λ r. ⌜ WalkComes r chain (now (places .entry)) (now (places .exit)) (tried (now (near .entry)) terminals winding (pathIn chain (now (places .entry))) n left) ⌝ }
+    ensures { λ r. ⌜ WalkComes r chain (now (places .entry)) (now (places .exit))
+        (tried (now (near .entry)) terminals winding (pathIn chain (now (places .entry))) n left) ⌝ }
 {
     let end = chain.end as usize;
     let unmet = bits::remaining(near[end], chain.met);

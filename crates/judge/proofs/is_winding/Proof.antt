@@ -7,7 +7,7 @@ returns : tie.Need-returns
 returns c = simp (c .before .enum-told .given .1, c .is-first .ensures)
 
 returns-2 : tie.Need-returns-2
-returns-2 c = simp (c .before .enum-told2 .given .1, c .is-second .ensures)
+returns-2 c = simp (c .before .enum-told2 .given .1, c .carries .ensures)
 
 pub is-winding-spec : {M : Type 1} → statement M
 is-winding-spec =

@@ -7,18 +7,18 @@ use mathlib.Core.Path.{sym, _∙_}
 use borrow.Author.Tests.{not-true, not-false}
 use Rattle.state.proofs.StateLaws.{usable-broken, usable-beyond}
 use Rattle.judge.proofs.SoughtLaws.{told-nowhere, told-between}
-use Rattle.judge.proofs.JudgeLaws.{judgeable-unusable, judgeable-sought, judging-by, judging-judged}
+use Rattle.judge.proofs.JudgeLaws.{winding-for-unusable, winding-for-sought, judging-by, judging-judged}
 
 returns : tie.Need-returns
 returns c =
     c .refuse .ensures ∙ judging-by _ _ _ _ _ _
-    (judgeable-unusable _ _ _ _ _ _
+    (winding-for-unusable _ _ _ _ _ _
     (usable-broken _ _ (sym (c .before .before .check .ensures) ∙ not-true _ (c .before .if1 .taken))))
 
 returns-2 : tie.Need-returns-2
 returns-2 c =
     c .refuse2 .ensures ∙ judging-by _ _ _ _ _ _
-    (judgeable-unusable _ _ _ _ _ _
+    (winding-for-unusable _ _ _ _ _ _
     (usable-beyond _ _ (sym (c .before .before .before .before .before .check .ensures)
     ∙ not-false _ (c .before .before .before .before .if1 .left))
     (sym (c .before .before .fits2 .ensures) ∙ not-true _ (c .before .if2 .taken))))
@@ -28,7 +28,7 @@ returns-3 c =
     let at-if1 = c .before .before .before .before .before .before .before in
     let at-check = at-if1 .before in
     c .refuse3 .ensures ∙ judging-by _ _ _ _ _ _
-    (judgeable-sought _ _ _ _ (sym (at-check .check .ensures) ∙ not-false _ (at-if1 .if1 .left))
+    (winding-for-sought _ _ _ _ (sym (at-check .check .ensures) ∙ not-false _ (at-if1 .if1 .left))
     (sym (c .before .before .before .before .before .fits2 .ensures)
     ∙ not-false _ (c .before .before .before .before .if2 .left))
     ∙ told-nowhere _ _ (c .before .enum-told .given .1) (c .before .before .before .winding .ensures))

@@ -4,19 +4,21 @@ use borrow.Author.Needs.{needs}
 use native.Mathlib.Omega.{arith}
 use Prim.Native.Nat.{_-_}
 use mathlib.Core.Path.{_≡_, refl, sym, _∙_}
+use mathlib.Core.Logic.{inl, inr}
 use lib.ListN.{length, length-map, take, drop}
+use Rattle.board.specs.Parts.{mostParts}
 use Rattle.neighbours.specs.Neighbours.{alone, gathered}
-use Rattle.neighbours.proofs.GatherLaws.{neighbours-gathered, gather-walk-on, gather-walk-end, gather-walk-full}
+use Rattle.neighbours.proofs.GatherLaws.{neighbours-gathered, gather-walk-on, gather-walk-end}
 use Rattle.neighbours.proofs.neighbours.Statement.{statement}
 use Rattle.neighbours.proofs.neighbours.Tie as tie
 
 abbrev Inv-loop : tie.InvT-loop
 Inv-loop state parts count near₀ i₀ near i =
-    (length parts ≡ 256)
+    (length parts ≡ mostParts)
     × (gathered state alone (take count parts) ≡ gathered state near (drop i (take count parts)))
 
 abbrev μ-loop : tie.MeasureT-loop
-μ-loop state parts count near₀ i₀ near i = 256 - i
+μ-loop state parts count near₀ i₀ near i = mostParts - i
 
 loop-holds : tie.Need-loop-holds Inv-loop μ-loop
 loop-holds c = (sym (length-map (c .before .args .board .parts) _) ∙ c .before .good .0 .1 .1 .1 .0 .1 .0 .1, refl)
@@ -25,15 +27,14 @@ returns : tie.Need-returns Inv-loop μ-loop
 returns c =
     let loop = c .before .before .loop in
     let args = c .before .before .before .before .args in
-    gather-walk-full (args .state) (loop .near) (args .board .parts) (args .board .counts .parts) (loop .i) _
-    (loop .inv .1) (omega (arith, loop .inv .0, c .if1 .taken))
+    gather-walk-end (args .state) (loop .near) (args .board .parts) (args .board .counts .parts) (loop .i) _
+    (loop .inv .1) (inr (omega (arith, loop .inv .0, c .if1 .taken)))
     ∙ sym (neighbours-gathered (args .board) (args .state))
 
 loop-again : tie.Need-loop-again Inv-loop μ-loop
 loop-again c =
-    let entry = c .before .before .before .before .before .before in
     let loop = c .before .before .before .before .loop in
-    let args = entry .args in (
+    let args = c .before .before .before .before .before .before .args in (
       loop .inv .0,
       gather-walk-on (args .state) (loop .near) (args .board .parts) (args .board .counts .parts) (loop .i) _
           (loop .inv .1) (c .bridge .result) (omega (arith, c .before .before .before .loop-test .taken))
@@ -41,7 +42,8 @@ loop-again c =
     )
 
 returns-2 : tie.Need-returns-2 Inv-loop μ-loop
-returns-2 c = gather-walk-end _ _ _ _ _ _ (c .before .loop .inv .1) (c .loop-test .left) ∙ sym (neighbours-gathered _ _)
+returns-2 c =
+    gather-walk-end _ _ _ _ _ _ (c .before .loop .inv .1) (inl (c .loop-test .left)) ∙ sym (neighbours-gathered _ _)
 
 pub neighbours-spec : {M : Type 1} → statement M
 neighbours-spec =
