@@ -35,7 +35,7 @@ use Rattle.moves_means.specs.ByChains.{Undecided, Decided, RegularComes,
 use Rattle.moves_means.specs.ByChains.{SteelByChains}
 use Rattle.moves_means.proofs.CurrentLaws.{through-carries, carries-through}
 use Rattle.moves_means.proofs.ComesLaws.{drawn-apart, regular-one}
-use Rattle.moves_means.proofs.WordLaws.{WordSays, first-word, second-missing}
+use Rattle.moves_means.proofs.FindingLaws.{FindingSays, first-finding, second-missing}
 use Rattle.moves_means.proofs.SingleMoves.{move-exactly}
 
 -- ---- a guard of both sorts, of a relay of one sort
@@ -92,7 +92,7 @@ module _ (b : Board) (w : ℕ) (s : State) (r : ℕ) (fine : boardFine b ≡ tru
     through = live-current First e found
 
     -- one that is decided and not without current is live
-    decided-live : (x : verdict.Finding) → WordSays b s r First x w → ¬ (NeedsMore b s r w)
+    decided-live : (x : verdict.Finding) → FindingSays b s r First x w → ¬ (NeedsMore b s r w)
         → ¬ (¬ (CurrentThrough b s r First)) → IsLive b s e
     decided-live verdict.live says enough held = through .1 (says .1)
     decided-live verdict.dead says enough held = absurd (held (says .1))
@@ -108,7 +108,7 @@ module _ (b : Board) (w : ℕ) (s : State) (r : ℕ) (fine : boardFine b ≡ tru
         let guard = regular-guard r (partsOf b) regular drop in
         (enough-decided First e found enough, guard .0, λ live. guard .1 (through .0 live))
     regular-chains rests (enough, (one, (no-draw, no-drop))) =
-        let first = first-word b w s r fine fits below in (
+        let first = first-finding b w s r fine fits below in (
           enough-decided First e found enough,
           by-test (isDrawn s r)
               (λ on. inl (

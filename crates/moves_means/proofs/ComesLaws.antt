@@ -15,12 +15,12 @@ use Rattle.search.specs.Verdicts as verdict
 use Rattle.judge.specs.declared.Which.{Which}
 use Rattle.judge.specs.declared.Which.the-variants.{First, Second}
 use Rattle.moves.specs.Steps.{Move, drew, dropped, rests, undecided, conflict, regularMove, steelMove}
-use Rattle.moves.proofs.MotionLaws.{regular-undecided, regular-live, regular-dead, steel-undecided}
-use Rattle.moves.proofs.MotionLaws.{steel-undecided-second, steel-conflict, steel-draws, steel-drops, steel-rests}
+use Rattle.moves.proofs.MoveLaws.{regular-undecided, regular-live, regular-dead, steel-undecided}
+use Rattle.moves.proofs.MoveLaws.{steel-undecided-second, steel-conflict, steel-draws, steel-drops, steel-rests}
 use Rattle.moves_means.specs.Guards.{CanDrawRegular, CanDropRegular, CanDrawSteel, CanDropSteel, CanDraw, CanDrop}
 use Rattle.moves_means.specs.Guards.{BothCurrents}
 use Rattle.moves_means.specs.SingleMoves.{NeedsMore, Comes}
-use Rattle.moves_means.proofs.WordLaws.{Within, WordSays}
+use Rattle.moves_means.proofs.FindingLaws.{Within, FindingSays}
 
 module _ (b : Board) (w : ℕ) (s : State) (r : ℕ) where
   pub drawn-apart : isDrawn s r ≡ true → isDrawn s r ≡ false → ⊥
@@ -48,7 +48,7 @@ module _ (b : Board) (w : ℕ) (s : State) (r : ℕ) where
     regular-drop (there, inr (sort, drop)) = absurd (omega (arith, regular .0, sort .0))
 
     pub regular-comes : (d : Bool) (x : verdict.Finding) → isDrawn s r ≡ d → Within b s r Second w
-        → WordSays b s r First x w → Comes b s r (regularMove d (given x)) w
+        → FindingSays b s r First x w → Comes b s r (regularMove d (given x)) w
     regular-comes d verdict.undecided is second needs =
         subst (λ (m : Move). Comes b s r m w) (regular-undecided d (given verdict.undecided) refl) needs
     regular-comes true verdict.live is second (first, current) =
@@ -79,8 +79,8 @@ module _ (b : Board) (w : ℕ) (s : State) (r : ℕ) where
     steel-drop (there, inl (sort, drop)) = absurd (omega (arith, steel .0, sort .0))
     steel-drop (there, inr (sort, drop)) = drop
 
-    pub steel-comes : (d : Bool) (x y : verdict.Finding) → isDrawn s r ≡ d → WordSays b s r First x w
-        → WordSays b s r Second y w → Comes b s r (steelMove d (given x) (given y)) w
+    pub steel-comes : (d : Bool) (x y : verdict.Finding) → isDrawn s r ≡ d → FindingSays b s r First x w
+        → FindingSays b s r Second y w → Comes b s r (steelMove d (given x) (given y)) w
     steel-comes d verdict.undecided y is needs second =
         subst (λ (m : Move). Comes b s r m w) (steel-undecided d (given verdict.undecided) (given y) refl) needs
     steel-comes d verdict.live verdict.undecided is first needs =
@@ -147,29 +147,29 @@ module _ (b : Board) (w : ℕ) (s : State) (r : ℕ) where
       dropped-drawn (there, inl (sort, guard)) = guard .0
       dropped-drawn (there, inr (sort, guard)) = guard .0
 
-  pub comes-once : (m k : Move) → Comes b s r m w → Comes b s r k w → m ≡ k
-  comes-once undecided undecided x y = refl
-  comes-once undecided conflict x y = absurd (y .0 x)
-  comes-once undecided drew x y = absurd (y .0 x)
-  comes-once undecided dropped x y = absurd (y .0 x)
-  comes-once undecided rests x y = absurd (y .0 x)
-  comes-once conflict undecided x y = absurd (x .0 y)
-  comes-once conflict conflict x y = refl
-  comes-once conflict drew x y = absurd (y .1 .0 (x .1))
-  comes-once conflict dropped x y = absurd (y .1 .0 (x .1))
-  comes-once conflict rests x y = absurd (y .1 .0 (x .1))
-  comes-once drew undecided x y = absurd (x .0 y)
-  comes-once drew conflict x y = absurd (x .1 .0 (y .1))
-  comes-once drew drew x y = refl
-  comes-once drew dropped x y = absurd (draw-not-drop (x .1 .1) (y .1 .1))
-  comes-once drew rests x y = absurd (y .1 .1 .0 (x .1 .1))
-  comes-once dropped undecided x y = absurd (x .0 y)
-  comes-once dropped conflict x y = absurd (x .1 .0 (y .1))
-  comes-once dropped drew x y = absurd (draw-not-drop (y .1 .1) (x .1 .1))
-  comes-once dropped dropped x y = refl
-  comes-once dropped rests x y = absurd (y .1 .1 .1 (x .1 .1))
-  comes-once rests undecided x y = absurd (x .0 y)
-  comes-once rests conflict x y = absurd (x .1 .0 (y .1))
-  comes-once rests drew x y = absurd (x .1 .1 .0 (y .1 .1))
-  comes-once rests dropped x y = absurd (x .1 .1 .1 (y .1 .1))
-  comes-once rests rests x y = refl
+  pub comes-exclusive : (m k : Move) → Comes b s r m w → Comes b s r k w → m ≡ k
+  comes-exclusive undecided undecided x y = refl
+  comes-exclusive undecided conflict x y = absurd (y .0 x)
+  comes-exclusive undecided drew x y = absurd (y .0 x)
+  comes-exclusive undecided dropped x y = absurd (y .0 x)
+  comes-exclusive undecided rests x y = absurd (y .0 x)
+  comes-exclusive conflict undecided x y = absurd (x .0 y)
+  comes-exclusive conflict conflict x y = refl
+  comes-exclusive conflict drew x y = absurd (y .1 .0 (x .1))
+  comes-exclusive conflict dropped x y = absurd (y .1 .0 (x .1))
+  comes-exclusive conflict rests x y = absurd (y .1 .0 (x .1))
+  comes-exclusive drew undecided x y = absurd (x .0 y)
+  comes-exclusive drew conflict x y = absurd (x .1 .0 (y .1))
+  comes-exclusive drew drew x y = refl
+  comes-exclusive drew dropped x y = absurd (draw-not-drop (x .1 .1) (y .1 .1))
+  comes-exclusive drew rests x y = absurd (y .1 .1 .0 (x .1 .1))
+  comes-exclusive dropped undecided x y = absurd (x .0 y)
+  comes-exclusive dropped conflict x y = absurd (x .1 .0 (y .1))
+  comes-exclusive dropped drew x y = absurd (draw-not-drop (y .1 .1) (x .1 .1))
+  comes-exclusive dropped dropped x y = refl
+  comes-exclusive dropped rests x y = absurd (y .1 .1 .1 (x .1 .1))
+  comes-exclusive rests undecided x y = absurd (x .0 y)
+  comes-exclusive rests conflict x y = absurd (x .1 .0 (y .1))
+  comes-exclusive rests drew x y = absurd (x .1 .1 .0 (y .1 .1))
+  comes-exclusive rests dropped x y = absurd (x .1 .1 .1 (y .1 .1))
+  comes-exclusive rests rests x y = refl

@@ -24,12 +24,12 @@ step-seen b w near s₀ s q r m gathered same number is =
     is ∙ step-by b w s q near (gathered ∙ ap (neighbours b) same) ∙ ap (λ (k : ℕ). stepOf b s k w) number
 
 -- the arm of `match` for the relays that move
-pub motion-moves : (m : code-move.Move) → (tagOf the-type m ≡ 0) ⊎ (tagOf the-type m ≡ 1) → Moving (toldMove m)
-motion-moves Drew e = inl refl
-motion-moves Dropped e = inr refl
-motion-moves Rests (inl e) = absurd (let z : _≡_ {A = ℕ} 2 0 = e in omega arith)
-motion-moves Rests (inr e) = absurd (let z : _≡_ {A = ℕ} 2 1 = e in omega arith)
-motion-moves Undecided (inl e) = absurd (let z : _≡_ {A = ℕ} 3 0 = e in omega arith)
-motion-moves Undecided (inr e) = absurd (let z : _≡_ {A = ℕ} 3 1 = e in omega arith)
-motion-moves Conflict (inl e) = absurd (let z : _≡_ {A = ℕ} 4 0 = e in omega arith)
-motion-moves Conflict (inr e) = absurd (let z : _≡_ {A = ℕ} 4 1 = e in omega arith)
+pub told-moving : (m : code-move.Move) → (tagOf the-type m ≡ 0) ⊎ (tagOf the-type m ≡ 1) → Moving (toldMove m)
+told-moving Drew e = inl refl
+told-moving Dropped e = inr refl
+told-moving Rests (inl e) = absurd (let z : _≡_ {A = ℕ} 2 0 = e in omega arith)
+told-moving Rests (inr e) = absurd (let z : _≡_ {A = ℕ} 2 1 = e in omega arith)
+told-moving Undecided (inl e) = absurd (let z : _≡_ {A = ℕ} 3 0 = e in omega arith)
+told-moving Undecided (inr e) = absurd (let z : _≡_ {A = ℕ} 3 1 = e in omega arith)
+told-moving Conflict (inl e) = absurd (let z : _≡_ {A = ℕ} 4 0 = e in omega arith)
+told-moving Conflict (inr e) = absurd (let z : _≡_ {A = ℕ} 4 1 = e in omega arith)

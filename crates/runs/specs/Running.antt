@@ -16,7 +16,7 @@ use Prim.Native.Nat.{ℕ}
 use mathlib.Core.List.{List, _++_}
 use lib.Dec.{leb}
 use lib.ListN.{length, drop}
-use Rattle.number.specs.Outcomes.{Outcome, given, refused, _>>=_, _>>_, unless}
+use Rattle.number.specs.Outcomes.{Outcome, given, refused, _>>_, unless}
 use Rattle.number.specs.Refusals.{logTooLong}
 use Rattle.board.specs.declared.Board.{Board}
 use Rattle.state.specs.declared.State.{State}

@@ -20,7 +20,7 @@ use Rattle.runs_means.specs.LongerRuns.{movesOf}
 use Rattle.runs_means.proofs.AnswerLaws.{accepted-ran, answer-word, answer-moves, answer-state, answer-relay}
 use Rattle.runs_means.proofs.AnswerLaws.{answer-bytes, answer-log}
 use Rattle.runs_means.specs.Courses.{Ended, RunMeans, RunExactly}
-use Rattle.runs_means.proofs.RunMeans.{Says, run-says, ended-once}
+use Rattle.runs_means.proofs.RunMeans.{Says, run-says, ended-exclusive}
 
 -- an answer a that tells, place by place, what the run x says
 says-means : (b : Board) (s : State) (w : ℕ) (log : List ℕ) (a : Ran) (l : List ℕ) (x : Run)
@@ -42,7 +42,7 @@ says-means b s w log a l x says word moves state relay bytes room after = record
       λ e. (
         told-ended e,
         λ end. word ∙ ap given
-            (ended-once b w (length log) (a .moves) (a .state) (a .relay) (x .word) e here end),
+            (ended-exclusive b w (length log) (a .moves) (a .state) (a .relay) (x .word) e here end),
       );
   stable = λ told r below. told-ended idle told .1 r below .1 .1;
 }

@@ -12,7 +12,7 @@ use Rattle.state.specs.States.{stateFine}
 use Rattle.moves.specs.Steps as step
 use Rattle.moves.proofs.StepLaws.{made-fits}
 use Rattle.moves_means.specs.Guards.{CanDraw, CanDrop}
-use Rattle.moves_means.proofs.ComesLaws.{comes-once}
+use Rattle.moves_means.proofs.ComesLaws.{comes-exclusive}
 use Rattle.runs.specs.Looks.{Ending, idle, spent, undecided, conflict, Look, quiet, halts, makes, byteOf, lookFrom}
 use Rattle.runs.specs.Runs.{noRelay, Run, ends, logged, runOf}
 use Rattle.runs.proofs.RunLaws.{run-quiet, run-halts, run-spent, run-moves}
@@ -154,16 +154,16 @@ module _ (b : Board) (w : ℕ) where
   -- where all rest, what a relay came to is that it rests
   rests-stopped : (s : State) (r : ℕ) (e : Ending) → Resting b s (b .counts .relays) w → Stopped s r e → idle ≡ e
   rests-stopped s r e rest x =
-      ap wordBy (comes-once b w s r step.rests (x .motion) (rest r (x .stops .0)) (x .stops .1 .1)) ∙ x .says
+      ap wordBy (comes-exclusive b w s r step.rests (x .motion) (rest r (x .stops .0)) (x .stops .1 .1)) ∙ x .says
 
-  causes-once : (s : State) (r : ℕ) (d e : Ending) → ((idle ≡ d) × Resting b s (b .counts .relays) w)
+  causes-exclusive : (s : State) (r : ℕ) (d e : Ending) → ((idle ≡ d) × Resting b s (b .counts .relays) w)
       ⊎ Stopped s r d → ((idle ≡ e) × Resting b s (b .counts .relays) w) ⊎ Stopped s r e → d ≡ e
-  causes-once s r d e (inl x) (inl y) = sym (x .0) ∙ y .0
-  causes-once s r d e (inl x) (inr y) = sym (x .0) ∙ rests-stopped s r e (x .1) y
-  causes-once s r d e (inr x) (inl y) = sym (rests-stopped s r d (y .1) x) ∙ y .0
-  causes-once s r d e (inr x) (inr y) =
-      sym (x .says) ∙ ap wordBy (comes-once b w s r (x .motion) (y .motion) (x .stops .1 .1) (y .stops .1 .1))
+  causes-exclusive s r d e (inl x) (inl y) = sym (x .0) ∙ y .0
+  causes-exclusive s r d e (inl x) (inr y) = sym (x .0) ∙ rests-stopped s r e (x .1) y
+  causes-exclusive s r d e (inr x) (inl y) = sym (rests-stopped s r d (y .1) x) ∙ y .0
+  causes-exclusive s r d e (inr x) (inr y) =
+      sym (x .says) ∙ ap wordBy (comes-exclusive b w s r (x .motion) (y .motion) (x .stops .1 .1) (y .stops .1 .1))
       ∙ y .says
 
-  pub ended-once : (n k : ℕ) (s : State) (r : ℕ) (d e : Ending) → Ended b n k s r d w → Ended b n k s r e w → d ≡ e
-  ended-once n k s r d e x y = causes-once s r d e (ended-by n k s r d x) (ended-by n k s r e y)
+  pub ended-exclusive : (n k : ℕ) (s : State) (r : ℕ) (d e : Ending) → Ended b n k s r d w → Ended b n k s r e w → d ≡ e
+  ended-exclusive n k s r d e x y = causes-exclusive s r d e (ended-by n k s r d x) (ended-by n k s r e y)

@@ -10,7 +10,7 @@ use lib.ListN.{length}
 use Rattle.moves.specs.Steps.{made, toldMove, stepper}
 use Rattle.runs.specs.Runs.{runOf}
 use Rattle.runs.specs.Running.{ran}
-use Rattle.runs.proofs.SeenLaws.{step-seen, motion-moves}
+use Rattle.runs.proofs.SeenLaws.{step-seen, told-moving}
 use Rattle.runs.proofs.CourseLaws.{Course, ScanSoFar, course-starts, scan-starts, scan-rests, course-idle}
 use Rattle.runs.proofs.CourseLaws.{course-undecided, course-conflict, course-spent, course-moves}
 
@@ -67,7 +67,7 @@ run-again c =
     course-moves _ _ _ _ _ _ _ _ _ (at-scan .scan .inv) _ _ (at-run .run .inv) (toldMove (at-step .step .result)) _
     _ (at-if1 .if1 .left) (step-seen _ _ _ _ _ _ _ _ (at-neighbours .neighbours .ensures)
     (at-scan .scan .inv .same-state) (at-wide .wide .ensures .0) (at-step .step .ensures))
-    (motion-moves (at-step .step .result) (c .before .before .before .before .match .keys4))
+    (told-moving (at-step .step .result) (c .before .before .before .before .match .keys4))
     (omega (
       arith,
       ap length (at-scan .scan .inv .same-log),
@@ -134,7 +134,7 @@ returns-4 c =
     (c .before .before .before .before .before .if1 .left)
     (step-seen _ _ _ _ _ _ _ _ (at-neighbours .neighbours .ensures) (at-scan .scan .inv .same-state)
     (c .before .before .before .wide .ensures .0) (at-step .step .ensures))
-    (motion-moves (at-step .step .result) (c .before .match .keys4))
+    (told-moving (at-step .step .result) (c .before .match .keys4))
     (omega (arith, ap length (at-scan .scan .inv .same-log), at-run .run .inv .long, c .if2 .taken))
 
 pub follow-spec : {M : Type 1} → statement M
