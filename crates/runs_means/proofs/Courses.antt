@@ -44,7 +44,7 @@ says-means b s w log a l x says word moves state relay bytes room after = record
         λ end. word ∙ ap given
             (ended-exclusive b w (length log) (a .moves) (a .state) (a .relay) (x .word) e here end),
       );
-  stable = λ told r below. told-ended idle told .1 r below .1 .1;
+  stable = λ told r below. let rest = told-ended idle told .1 r below in (rest .2, rest .3);
 }
   where
     here : Ended b (length log) (a .moves) (a .state) (a .relay) (x .word) w

@@ -24,36 +24,28 @@ module _ (b : Board) (w : ℕ) where
 
   -- of the relays below the one that stopped the look no guard holds
   unguarded : (s : State) (r : ℕ) → Resting b s r w → (q : ℕ) → q < r → ¬ (CanDraw b s q) × ¬ (CanDrop b s q)
-  unguarded s r rest q below = rest q below .1 .1
+  unguarded s r rest q below = (rest q below .2, rest q below .3)
 
   stopped-moves : (s : State) (m : step.Move) (r : ℕ) → LookMeans b w s (makes m r)
       → LowestMove b s (byteOf r m) (step.made s r m) w
-  stopped-moves s step.drew r stopped =
-      record {
+  stopped-moves s m r (inl (is, stopped)) =
+      rw is (record {
         relay = r;
-        made = inl (refl, (stopped, refl));
-        guarded = inl (stopped .1 .1 .1 .1);
-        lowest =
-            unguarded s r (stopped .1 .0);
-      }
-  stopped-moves s step.dropped r stopped =
-      record {
+        made = inl (refl, stopped, refl);
+        guarded = inl (stopped .2 .2);
+        lowest = unguarded s r (stopped .1);
+      })
+  stopped-moves s m r (inr (is, stopped)) =
+      rw is (record {
         relay = r;
-        made = inr (refl, (stopped, refl));
-        guarded = inr (stopped .1 .1 .1 .1);
-        lowest =
-            unguarded s r (stopped .1 .0);
-      }
-  stopped-moves s step.rests r never = absurd never
-  stopped-moves s step.undecided r never = absurd never
-  stopped-moves s step.conflict r never = absurd never
+        made = inr (refl, stopped, refl);
+        guarded = inr (stopped .2 .2);
+        lowest = unguarded s r (stopped .1);
+      })
 
   stopped-below : (s : State) (m : step.Move) (r : ℕ) → LookMeans b w s (makes m r) → r < b .counts .relays
-  stopped-below s step.drew r stopped = stopped .0
-  stopped-below s step.dropped r stopped = stopped .0
-  stopped-below s step.rests r never = absurd never
-  stopped-below s step.undecided r never = absurd never
-  stopped-below s step.conflict r never = absurd never
+  stopped-below s m r (inl (is, stopped)) = stopped .0
+  stopped-below s m r (inr (is, stopped)) = stopped .0
 
   -- ---- the whole run
 
@@ -67,17 +59,12 @@ module _ (b : Board) (w : ℕ) where
   says-ends n s e r h = record { follows = refl; ended = h }
 
   halts-ended : (n : ℕ) (s : State) (e : Ending) (r : ℕ) → LookMeans b w s (halts e r) → Ended b n 0 s r e w
-  halts-ended n s idle r never = absurd never
-  halts-ended n s spent r never = absurd never
-  halts-ended n s undecided r stopped = stopped
-  halts-ended n s conflict r stopped = stopped
+  halts-ended n s e r (inl (is, stopped)) = rw is stopped
+  halts-ended n s e r (inr (is, stopped)) = rw is stopped
 
   full-ended : (s : State) (m : step.Move) (r : ℕ) → LookMeans b w s (makes m r) → Ended b 0 0 s r spent w
-  full-ended s step.drew r stopped = (refl, inl stopped)
-  full-ended s step.dropped r stopped = (refl, inr stopped)
-  full-ended s step.rests r never = absurd never
-  full-ended s step.undecided r never = absurd never
-  full-ended s step.conflict r never = absurd never
+  full-ended s m r (inl (is, stopped)) = (refl, inl stopped)
+  full-ended s m r (inr (is, stopped)) = (refl, inr stopped)
 
   -- one move more, and room for one more
   ended-more : (n k : ℕ) (s : State) (r : ℕ) (e : Ending) → Ended b n k s r e w → Ended b (suc n) (suc k) s r e w
@@ -91,7 +78,7 @@ module _ (b : Board) (w : ℕ) where
   unfolding Follows
   says-logged n s c t x move on =
       record {
-        follows = (t, (move, on .follows));
+        follows = (t, move, on .follows);
         ended = ended-more n (length (x .bytes)) (x .state) (x .relay)
             (x .word) (on .ended);
       }
@@ -138,23 +125,23 @@ module _ (b : Board) (w : ℕ) where
   wordBy step.conflict = conflict
 
   record Stopped (s : State) (r : ℕ) (e : Ending) : Type 0 where
-    motion : step.Move
-    stops : StoppedBy b s r motion w
-    says : wordBy motion ≡ e
+    move : step.Move
+    stops : StoppedBy b s r move w
+    says : wordBy move ≡ e
 
   ended-by : (n k : ℕ) (s : State) (r : ℕ) (e : Ending) → Ended b n k s r e w
       → ((idle ≡ e) × Resting b s (b .counts .relays) w) ⊎ Stopped s r e
   ended-by n k s r idle h = inl (refl, h .1)
   ended-by n k s r spent h =
-      inr (⊎-elim (λ x. record { motion = step.drew; stops = x; says = refl })
-      (λ x. record { motion = step.dropped; stops = x; says = refl }) (h .1))
-  ended-by n k s r undecided h = inr (record { motion = step.undecided; stops = h; says = refl })
-  ended-by n k s r conflict h = inr (record { motion = step.conflict; stops = h; says = refl })
+      inr (⊎-elim (λ x. record { move = step.drew; stops = x; says = refl })
+      (λ x. record { move = step.dropped; stops = x; says = refl }) (h .1))
+  ended-by n k s r undecided h = inr (record { move = step.undecided; stops = h; says = refl })
+  ended-by n k s r conflict h = inr (record { move = step.conflict; stops = h; says = refl })
 
   -- where all rest, what a relay came to is that it rests
   rests-stopped : (s : State) (r : ℕ) (e : Ending) → Resting b s (b .counts .relays) w → Stopped s r e → idle ≡ e
   rests-stopped s r e rest x =
-      ap wordBy (comes-exclusive b w s r step.rests (x .motion) (rest r (x .stops .0)) (x .stops .1 .1)) ∙ x .says
+      ap wordBy (comes-exclusive b w s r step.rests (x .move) (rest r (x .stops .0)) (x .stops .2)) ∙ x .says
 
   causes-exclusive : (s : State) (r : ℕ) (d e : Ending) → ((idle ≡ d) × Resting b s (b .counts .relays) w)
       ⊎ Stopped s r d → ((idle ≡ e) × Resting b s (b .counts .relays) w) ⊎ Stopped s r e → d ≡ e
@@ -162,7 +149,7 @@ module _ (b : Board) (w : ℕ) where
   causes-exclusive s r d e (inl x) (inr y) = sym (x .0) ∙ rests-stopped s r e (x .1) y
   causes-exclusive s r d e (inr x) (inl y) = sym (rests-stopped s r d (y .1) x) ∙ y .0
   causes-exclusive s r d e (inr x) (inr y) =
-      sym (x .says) ∙ ap wordBy (comes-exclusive b w s r (x .motion) (y .motion) (x .stops .1 .1) (y .stops .1 .1))
+      sym (x .says) ∙ ap wordBy (comes-exclusive b w s r (x .move) (y .move) (x .stops .2) (y .stops .2))
       ∙ y .says
 
   pub ended-exclusive : (n k : ℕ) (s : State) (r : ℕ) (d e : Ending) → Ended b n k s r d w → Ended b n k s r e w → d ≡ e
