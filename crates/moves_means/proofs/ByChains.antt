@@ -48,8 +48,7 @@ module _ (b : Board) (w : ℕ) (s : State) (r : ℕ) (fine : boardFine b ≡ tru
         let its = the-winding b s r n e (judgeable-sought b s r n fine fits ∙ found) in
         let agree = live-is-carrying b s (e .a) (e .b) fine in (
           λ live. carries-through b s r n e its (agree .0 live),
-          λ current. agree .1
-              (through-carries b s r n e its current),
+          λ current. agree .1 (through-carries b s r n e its current),
         )
 
     undecided-needs : Undecided b s e w → NeedsMore b s r w

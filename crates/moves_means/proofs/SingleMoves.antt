@@ -78,6 +78,5 @@ move-exactly b s r w a m moves taken =
     let same : toldMoveAnswer (a .answer) ≡ given m → stepOf b s r w ≡ m =
     λ says. given-injective (stepOf b s r w) m (sym answers ∙ says) in (
       (λ says. exactly .0 (same says), λ comes. answers ∙ ap given (exactly .1 comes)),
-      λ says. leaves
-          ∙ ap (made s r) (same says),
+      λ says. leaves ∙ ap (made s r) (same says),
     )

@@ -25,8 +25,7 @@ onward log m x =
       moves = m + length (x .bytes);
       state = x .state;
       relay = x .relay;
-      log =
-          sets log m (x .bytes);
+      log = sets log m (x .bytes);
     }
 
 -- what is told of a run that ends after m moves with the word w
@@ -93,8 +92,7 @@ onward-logged log m c x =
       moves = sum i;
       state = x .state;
       relay = x .relay;
-      log =
-          sets (set log m c) (next i) (x .bytes);
+      log = sets (set log m c) (next i) (x .bytes);
     }
 
 module _ {f g : Stepper} {k : ℕ} {log₀ log : List ℕ} {m₀ m : ℕ} {s₀ s : State} {r : ℕ}

@@ -80,8 +80,7 @@ told-ran-injective x y k l e = (
   λ i. record {
     word = told-ending-injective (x .word) (y .word) (λ j. e j .word) i;
     moves = e i .moves;
-    state =
-        e i .state;
+    state = e i .state;
     relay = e i .relay;
   },
   λ i. e i .log,

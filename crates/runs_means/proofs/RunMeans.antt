@@ -15,7 +15,8 @@ use Rattle.moves_means.specs.Guards.{CanDraw, CanDrop}
 use Rattle.moves_means.proofs.ComesLaws.{comes-exclusive}
 use Rattle.runs.specs.Looks.{Ending, idle, spent, undecided, conflict, Look, quiet, halts, makes, byteOf, lookFrom}
 use Rattle.runs.specs.Runs.{noRelay, Run, ends, logged, runOf}
-use Rattle.runs.proofs.RunLaws.{run-quiet, run-halts, run-spent, run-moves}
+use Rattle.runs.proofs.RunLaws.{run-holds}
+use Rattle.runs.proofs.RunFits.{look-makes-below}
 use Rattle.runs_means.specs.Courses.{LowestMove, Follows, Resting, StoppedBy, Ended}
 use Rattle.runs_means.proofs.LookMeans.{LookMeans, look-means}
 
@@ -42,10 +43,6 @@ module _ (b : Board) (w : ℕ) where
         guarded = inr (stopped .2 .2);
         lowest = unguarded s r (stopped .1);
       })
-
-  stopped-below : (s : State) (m : step.Move) (r : ℕ) → LookMeans b w s (makes m r) → r < b .counts .relays
-  stopped-below s m r (inl (is, stopped)) = stopped .0
-  stopped-below s m r (inr (is, stopped)) = stopped .0
 
   -- ---- the whole run
 
@@ -79,40 +76,24 @@ module _ (b : Board) (w : ℕ) where
   says-logged n s c t x move on =
       record {
         follows = (t, move, on .follows);
-        ended = ended-more n (length (x .bytes)) (x .state) (x .relay)
-            (x .word) (on .ended);
+        ended = ended-more n (length (x .bytes)) (x .state) (x .relay) (x .word) (on .ended);
       }
 
   module _ (fine : boardFine b ≡ true) where
-    abbrev run : ℕ → State → Run
-    run n s = runOf (step.stepper b w) (b .counts .relays) n s
+    means : (s : State) (l : Look) → lookFrom (step.stepper b w) s (b .counts .relays) 0 ≡ l
+        → stateFine (b .counts) s ≡ true → LookMeans b w s l
+    means s l e fits = subst (LookMeans b w s) e (look-means b w s fine fits)
 
-    abbrev look : State → Look
-    look s = lookFrom (step.stepper b w) s (b .counts .relays) 0
-
-    -- a look that comes to no move ends the run, whatever its room
-    says-look : (n : ℕ) (s : State) (l : Look) → look s ≡ l → LookMeans b w s l
-        → ((m : step.Move) (r : ℕ) → look s ≡ makes m r → LookMeans b w s (makes m r) → Says n s (run n s))
-        → Says n s (run n s)
-    says-look n s quiet e means on =
-        subst (Says n s) (sym (run-quiet (step.stepper b w) (b .counts .relays) s n e))
-        (says-ends n s idle noRelay (refl, means))
-    says-look n s (halts h r) e means on =
-        subst (Says n s) (sym (run-halts (step.stepper b w) (b .counts .relays) s n h r e))
-        (says-ends n s h r (halts-ended n s h r means))
-    says-look n s (makes m r) e means on = on m r e means
-
-    pub run-says : (n : ℕ) (s : State) → stateFine (b .counts) s ≡ true → Says n s (run n s)
-    run-says zero s fits =
-        says-look zero s (look s) refl (look-means b w s fine fits)
-        (λ m r e means. subst (Says zero s) (sym (run-spent (step.stepper b w) (b .counts .relays) s m r e))
-        (says-ends zero s spent r (full-ended s m r means)))
-    run-says (suc n) s fits =
-        says-look (suc n) s (look s) refl (look-means b w s fine fits)
-        (λ m r e means.
-        subst (Says (suc n) s) (sym (run-moves (step.stepper b w) (b .counts .relays) s n m r e))
-        (says-logged n s (byteOf r m) (step.made s r m) (run n (step.made s r m)) (stopped-moves s m r means)
-        (run-says n (step.made s r m) (made-fits (b .counts) s r m fits (stopped-below s m r means)))))
+    pub run-says : (n : ℕ) (s : State) → stateFine (b .counts) s ≡ true
+        → Says n s (runOf (step.stepper b w) (b .counts .relays) n s)
+    run-says =
+        run-holds (step.stepper b w) (b .counts .relays) (λ n s x. stateFine (b .counts) s ≡ true → Says n s x)
+        (λ n s e fits. says-ends n s idle noRelay (refl, means s quiet e fits))
+        (λ n s h r e fits. says-ends n s h r (halts-ended n s h r (means s (halts h r) e fits)))
+        (λ s m r e fits. says-ends zero s spent r (full-ended s m r (means s (makes m r) e fits)))
+        (λ n s m r x e on fits.
+        says-logged n s (byteOf r m) (step.made s r m) x (stopped-moves s m r (means s (makes m r) e fits))
+        (on (made-fits (b .counts) s r m fits (look-makes-below (step.stepper b w) s (b .counts .relays) m r e))))
 
   -- ---- of one run only one word can be said
 
