@@ -74,17 +74,19 @@ pub step-by : (b : Board) (s : State) (r w : ℕ) (near : List ℕ) (m : Move) �
 unfolding stepOf
 step-by b s r w near m gathered is = rw gathered at is
 
-pub step-findings : (near : List ℕ) (b : Board) (d k : Bool) (r w : ℕ) (x y : Outcome verdict.Finding) → k ≡ d
-    → x ≡ findingOn near b r First w → y ≡ findingOn near b r Second w → moveBy k x y ≡ stepBy near b d r w
+-- by the findings on its windings
+pub step-findings : (near : List ℕ) (b : Board) (d k : Bool) (r w : ℕ) (x y : Outcome verdict.Finding) (m : Move)
+    → k ≡ d → x ≡ findingOn near b r First w → y ≡ findingOn near b r Second w → m ≡ moveBy k x y
+    → m ≡ stepBy near b d r w
 unfolding stepBy
-step-findings near b d k r w x y is e f = rw (is, e, f) refl
+step-findings near b d k r w x y m drawn e f is = rw (drawn, e, f) at is
 
 -- "its winding is always judged, with W": what a step goes by is what the call `judge` says
 pub step-judging : (b : Board) (w : ℕ) (s : State) (r : ℕ) → boardFine b ≡ true → stateFine (b .counts) s ≡ true
     → stepOf b s r w ≡ moveBy (isDrawn s r) (judging b s r First w .finding) (judging b s r Second w .finding)
 step-judging b w s r fine fits =
-    sym (step-by b s r w (neighbours b s) _ refl (step-findings (neighbours b s) b (isDrawn s r) (isDrawn s r) r w _ _
-    refl (sym (finding-judging b s r First w fine fits)) (sym (finding-judging b s r Second w fine fits))))
+    sym (step-by b s r w (neighbours b s) _ refl (step-findings (neighbours b s) b (isDrawn s r) (isDrawn s r) r w _ _ _
+    refl (sym (finding-judging b s r First w fine fits)) (sym (finding-judging b s r Second w fine fits)) refl))
 
 -- a step that is not undecided is the same at every larger allowance x
 pub step-larger : (b : Board) (w x : ℕ) (s : State) (r : ℕ) → w ≤ x → (stepOf b s r w ≡ undecided)

@@ -2,14 +2,12 @@
 use borrow.Author.Needs.{needs}
 use Rattle.moves.proofs.step.Statement.{statement}
 use Rattle.moves.proofs.step.Tie as tie
-use mathlib.Core.Path.{_∙_}
 use Rattle.moves.proofs.StepLaws.{step-findings}
 
 returns : tie.Need-returns
 returns c =
-    c .move-by .ensures
-    ∙ step-findings _ _ _ _ _ _ _ _ (c .before .before .before .has .ensures) (c .before .before .finding-on .ensures)
-    (c .before .finding-on2 .ensures)
+    step-findings _ _ _ _ _ _ _ _ _ (c .before .before .before .has .ensures) (c .before .before .finding-on .ensures)
+    (c .before .finding-on2 .ensures) (c .move-by .ensures)
 
 pub step-spec : {M : Type 1} → statement M
 step-spec =
