@@ -119,7 +119,8 @@ module _ (b : Board) (w : ℕ) (s : State) (r : ℕ) (n : Which) (e : Winding)
 module _ (b : Board) (w : ℕ) (s : State) (r : ℕ) (fine : boardFine b ≡ true) (fits : stateFine (b .counts) s ≡ true)
   where
     -- each winding of a relay has a finding, but the second one of a regular relay
-    winding-finding : (n : Which) → r < b .counts .relays → ¬ ((n ≡ Second) × isRegular r (partsOf b)) → HasFinding b s r n w
+    winding-finding : (n : Which) → r < b .counts .relays → ¬ ((n ≡ Second) × isRegular r (partsOf b))
+        → HasFinding b s r n w
     winding-finding n below there = by-sought (windingOf n r (partsOf b)) refl
       where
         eleven : (b .counts .relays ≤ r) ⊎ ((n ≡ Second) × isRegular r (partsOf b)) → ⊥

@@ -64,8 +64,10 @@ step-means b w s r fine fits below =
 
 pub step-exactly : StepExactly
 step-exactly b w s r m fine fits below =
-    let means = step-means b w s r fine fits below in
-    (λ is. subst (λ (m : Move). Comes b s r m w) is means, λ comes. comes-exclusive b w s r (stepOf b s r w) m means comes)
+    let means = step-means b w s r fine fits below in (
+      λ is. subst (λ (m : Move). Comes b s r m w) is means,
+      λ comes. comes-exclusive b w s r (stepOf b s r w) m means comes,
+    )
 
 pub move-exactly : MoveExactly
 move-exactly b s r w a m moves taken =
