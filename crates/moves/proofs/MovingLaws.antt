@@ -5,9 +5,9 @@ use mathlib.Core.Path.{_≡_, refl, ap}
 use mathlib.Core.Bool.{true}
 use lib.Dec.{ltb}
 use borrow.Author.Tests.{lt-ltb, le-ltb, ltb-true}
-use Rattle.number.specs.Outcomes.{given, refused}
+use Rattle.number.specs.Outcomes.{Outcome, given, refused}
 use Rattle.number.specs.Refusals.{noSuchWinding}
-use Rattle.number.proofs.OutcomeLaws.{refusal-equal, both-given, asked}
+use Rattle.number.proofs.OutcomeLaws.{inverse-injective, both-given, asked}
 use Rattle.board.specs.declared.Board.{Board}
 use Rattle.board.specs.Rules.{boardFine}
 use Rattle.state.specs.declared.State.{State}
@@ -18,7 +18,7 @@ use Rattle.moves.specs.declared.Move.the-variants.{Drew, Dropped, Rests,
 use Rattle.moves.specs.declared.MoveAnswer.{MoveAnswer}
 use Rattle.moves.specs.declared.MoveAnswer.the-variants.{Says, Refused}
 use Rattle.moves.specs.declared.Moved.{Moved}
-use Rattle.moves.specs.Steps.{Move, stepOf, made, toldMove}
+use Rattle.moves.specs.Steps.{Move, drew, dropped, rests, undecided, conflict, stepOf, made, toldMove}
 use Rattle.moves.specs.Moving.{movable, moving, toldMoveAnswer, toldMoved}
 
 module _ (b : Board) (s : State) (r : ℕ) where
@@ -54,38 +54,33 @@ module _ (b : Board) (s : State) (r : ℕ) where
 
 -- ---- the answer's cases are told apart
 
+abbrev untoldMove : Move → code-move.Move
+untoldMove drew = Drew
+untoldMove dropped = Dropped
+untoldMove rests = Rests
+untoldMove undecided = Undecided
+untoldMove conflict = Conflict
+
+move-told-back : (x : code-move.Move) → untoldMove (toldMove x) ≡ x
+move-told-back Drew = refl
+move-told-back Dropped = refl
+move-told-back Rests = refl
+move-told-back Undecided = refl
+move-told-back Conflict = refl
+
 pub told-move-injective : (x y : code-move.Move) → toldMove x ≡ toldMove y → x ≡ y
-told-move-injective Drew Drew e = refl
-told-move-injective Drew Dropped e = cc
-told-move-injective Drew Rests e = cc
-told-move-injective Drew Undecided e = cc
-told-move-injective Drew Conflict e = cc
-told-move-injective Dropped Drew e = cc
-told-move-injective Dropped Dropped e = refl
-told-move-injective Dropped Rests e = cc
-told-move-injective Dropped Undecided e = cc
-told-move-injective Dropped Conflict e = cc
-told-move-injective Rests Drew e = cc
-told-move-injective Rests Dropped e = cc
-told-move-injective Rests Rests e = refl
-told-move-injective Rests Undecided e = cc
-told-move-injective Rests Conflict e = cc
-told-move-injective Undecided Drew e = cc
-told-move-injective Undecided Dropped e = cc
-told-move-injective Undecided Rests e = cc
-told-move-injective Undecided Undecided e = refl
-told-move-injective Undecided Conflict e = cc
-told-move-injective Conflict Drew e = cc
-told-move-injective Conflict Dropped e = cc
-told-move-injective Conflict Rests e = cc
-told-move-injective Conflict Undecided e = cc
-told-move-injective Conflict Conflict e = refl
+told-move-injective = inverse-injective toldMove untoldMove move-told-back
 
 told-move-answer-injective : (x y : MoveAnswer) → toldMoveAnswer x ≡ toldMoveAnswer y → x ≡ y
-told-move-answer-injective (Says m) (Says k) e = ap Says (told-move-injective m k (cc))
-told-move-answer-injective (Says m) (Refused q) e = cc
-told-move-answer-injective (Refused r) (Says k) e = cc
-told-move-answer-injective (Refused r) (Refused q) e = ap Refused (refusal-equal r q (cc) (cc))
+told-move-answer-injective = inverse-injective toldMoveAnswer untold back
+  where
+    untold : Outcome Move → MoveAnswer
+    untold (given m) = Says (untoldMove m)
+    untold (refused n p) = Refused (record { number = n; place = p })
+
+    back : (x : MoveAnswer) → untold (toldMoveAnswer x) ≡ x
+    back (Says m) = ap Says (move-told-back m)
+    back (Refused r) = refl
 
 pub told-moved-injective : (x y : Moved) → toldMoved x ≡ toldMoved y → x ≡ y
 told-moved-injective x y e =

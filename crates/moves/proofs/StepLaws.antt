@@ -2,7 +2,7 @@
 -- undecided; a move changes that relay and nothing else. Runs go by these and by nothing of the definition's text.
 use Prim.Native.Nat.{ℕ, _≤_, _<_}
 use mathlib.Core.Path.{_≡_, refl, sym, ap, _∙_}
-use mathlib.Core.Logic.{_⊎_, inl, inr}
+use mathlib.Core.Logic.{_⊎_, inl, inr, ⊎-elim}
 use mathlib.Core.Bool.{Bool, true}
 use mathlib.Core.List.{List}
 use Rattle.number.specs.Outcomes.{Outcome, given, refused}
@@ -11,7 +11,7 @@ use Rattle.board.specs.declared.Board.{Board}
 use Rattle.board.specs.Parts.{partsOf}
 use Rattle.board.specs.Rules.{boardFine}
 use Rattle.state.specs.declared.State.{State}
-use Rattle.state.specs.States.{isDrawn, isPushed, stateFine}
+use Rattle.state.specs.States.{isDrawn, isPushed, withDrawn, withDropped, stateFine}
 use Rattle.state.proofs.StateLaws.{drawn-draw-other, drawn-drop-other, state-fits-draw, state-fits-drop}
 use Rattle.neighbours.specs.Neighbours.{neighbours}
 use Rattle.search.specs.declared.Winding.{Winding}
@@ -24,104 +24,98 @@ use Rattle.judge.specs.Judging.{judging}
 use Rattle.judge.proofs.JudgeLaws.{winding-for-sought, judging-by, judging-judged}
 use Rattle.moves.specs.Steps.{Move, drew, dropped, rests, undecided, conflict, moveBy, findingOn, stepBy, stepOf}
 use Rattle.moves.specs.Steps.{made}
-use Rattle.moves.proofs.MotionLaws.{move-larger}
+use Rattle.moves.proofs.MoveLaws.{move-larger}
 
 -- ---- one winding
 
--- the word on the winding, where it is known what the search for it gave
+-- the finding on the winding, where it is known which winding that is
 module _ (near : List ℕ) (b : Board) (r : ℕ) (n : Which) (w : ℕ) where
-  pub word-missing : (k p : ℕ) → windingOf n r (partsOf b) ≡ refused k p → findingOn near b r n w ≡ refused k p
+  pub finding-missing : (k p : ℕ) → windingOf n r (partsOf b) ≡ refused k p → findingOn near b r n w ≡ refused k p
   unfolding findingOn
-  word-missing k p e = rw e refl
+  finding-missing k p e = rw e refl
 
-  pub word-judged : (v : Winding) → windingOf n r (partsOf b) ≡ given v
+  pub finding-judged : (v : Winding) → windingOf n r (partsOf b) ≡ given v
       → findingOn near b r n w ≡ verdict.verdictBy near (verdict.inSets (b .counts .terminals)) v w .finding
   unfolding findingOn
-  word-judged v e = rw e refl
+  finding-judged v e = rw e refl
 
--- on a board and in a state that are not refused, the word is that of the call `judge`
-pub word-judging : (b : Board) (s : State) (r : ℕ) (n : Which) (w : ℕ) → boardFine b ≡ true
+-- on a board and in a state that are not refused, the finding is that of the call `judge`
+pub finding-judging : (b : Board) (s : State) (r : ℕ) (n : Which) (w : ℕ) → boardFine b ≡ true
     → stateFine (b .counts) s ≡ true → findingOn (neighbours b s) b r n w ≡ judging b s r n w .finding
-word-judging b s r n w fine fits = by-sought (windingOf n r (partsOf b)) refl
+finding-judging b s r n w fine fits = by-sought (windingOf n r (partsOf b)) refl
   where
     by-sought : (o : Outcome Winding) → windingOf n r (partsOf b) ≡ o → findingOn (neighbours b s) b r n w ≡ judging
         b s r n w .finding
     by-sought (given v) e =
-        word-judged (neighbours b s) b r n w v e ∙ ap (λ (j : verdict.Verdict). j .finding)
+        finding-judged (neighbours b s) b r n w v e ∙ ap (λ (j : verdict.Verdict). j .finding)
         (judging-judged b s r n w v (neighbours b s) fine fits e refl)
     by-sought (refused k p) e =
-        word-missing (neighbours b s) b r n w k p e ∙ ap (λ (j : verdict.Verdict). j .finding)
+        finding-missing (neighbours b s) b r n w k p e ∙ ap (λ (j : verdict.Verdict). j .finding)
         (judging-by b s r n w (refused k p) (winding-for-sought b s r n fine fits ∙ e))
 
--- a larger allowance x changes no word but undecided
-pub word-larger : (near : List ℕ) (b : Board) (r : ℕ) (n : Which) (w x : ℕ) → w ≤ x
+-- a larger allowance x changes no finding but undecided
+pub finding-larger : (near : List ℕ) (b : Board) (r : ℕ) (n : Which) (w x : ℕ) → w ≤ x
     → (findingOn near b r n w ≡ given verdict.undecided) ⊎ (findingOn near b r n x ≡ findingOn near b r n w)
-word-larger near b r n w x more = by-sought (windingOf n r (partsOf b)) refl
+finding-larger near b r n w x more = by-sought (windingOf n r (partsOf b)) refl
   where
     by-sought : (o : Outcome Winding) → windingOf n r (partsOf b) ≡ o
         → (findingOn near b r n w ≡ given verdict.undecided) ⊎ (findingOn near b r n x ≡ findingOn near b r n w)
-    by-sought (refused k p) e = inr (word-missing near b r n x k p e ∙ sym (word-missing near b r n w k p e))
-    by-sought (given v) e = either (verdict-by-larger near _ v w x more)
-      where
-        either : (verdict.verdictBy near (verdict.inSets (b .counts .terminals)) v w .finding ≡ given
-            verdict.undecided)
-            ⊎ (verdict.verdictBy near (verdict.inSets (b .counts .terminals)) v x ≡ verdict.verdictBy near
-            (verdict.inSets (b .counts .terminals)) v w) → (findingOn near b r n w ≡ given verdict.undecided)
-            ⊎ (findingOn near b r n x ≡ findingOn near b r n w)
-        either (inl u) = inl (word-judged near b r n w v e ∙ u)
-        either (inr same) =
-            inr (word-judged near b r n x v e ∙ ap (λ (j : verdict.Verdict). j .finding) same
-            ∙ sym (word-judged near b r n w v e))
+    by-sought (refused k p) e = inr (finding-missing near b r n x k p e ∙ sym (finding-missing near b r n w k p e))
+    by-sought (given v) e =
+        rw (finding-judged near b r n w v e, finding-judged near b r n x v e)
+        (⊎-elim inl (λ same. inr (ap (λ (j : verdict.Verdict). j .finding) same))
+        (verdict-by-larger near _ v w x more))
 
 -- ---- the step
 
-pub step-by : (b : Board) (w : ℕ) (s : State) (r : ℕ) (near : List ℕ) → near ≡ neighbours b s
-    → stepBy near b (isDrawn s r) r w ≡ stepOf b s r w
+-- by the sets that were gathered in the state
+pub step-by : (b : Board) (s : State) (r w : ℕ) (near : List ℕ) (m : Move) → near ≡ neighbours b s
+    → m ≡ stepBy near b (isDrawn s r) r w → m ≡ stepOf b s r w
 unfolding stepOf
-step-by b w s r near e = ap (λ (k : List ℕ). stepBy k b (isDrawn s r) r w) e
+step-by b s r w near m gathered is = rw gathered at is
 
-pub step-words : (near : List ℕ) (b : Board) (d k : Bool) (r w : ℕ) (x y : Outcome verdict.Finding) → k ≡ d
-    → x ≡ findingOn near b r First w → y ≡ findingOn near b r Second w → moveBy k x y ≡ stepBy near b d r w
+-- by the findings on its windings
+pub step-findings : (near : List ℕ) (b : Board) (d k : Bool) (r w : ℕ) (x y : Outcome verdict.Finding) (m : Move)
+    → k ≡ d → x ≡ findingOn near b r First w → y ≡ findingOn near b r Second w → m ≡ moveBy k x y
+    → m ≡ stepBy near b d r w
 unfolding stepBy
-step-words near b d k r w x y is e f = rw (is, e, f) refl
+step-findings near b d k r w x y m drawn e f is = rw (drawn, e, f) at is
 
 -- "its winding is always judged, with W": what a step goes by is what the call `judge` says
 pub step-judging : (b : Board) (w : ℕ) (s : State) (r : ℕ) → boardFine b ≡ true → stateFine (b .counts) s ≡ true
     → stepOf b s r w ≡ moveBy (isDrawn s r) (judging b s r First w .finding) (judging b s r Second w .finding)
 step-judging b w s r fine fits =
-    sym (step-by b w s r (neighbours b s) refl)
-    ∙ sym (step-words (neighbours b s) b (isDrawn s r) (isDrawn s r) r w _ _ refl
-    (sym (word-judging b s r First w fine fits)) (sym (word-judging b s r Second w fine fits)))
+    sym (step-by b s r w (neighbours b s) _ refl (step-findings (neighbours b s) b (isDrawn s r) (isDrawn s r) r w _ _ _
+    refl (sym (finding-judging b s r First w fine fits)) (sym (finding-judging b s r Second w fine fits)) refl))
 
 -- a step that is not undecided is the same at every larger allowance x
 pub step-larger : (b : Board) (w x : ℕ) (s : State) (r : ℕ) → w ≤ x → (stepOf b s r w ≡ undecided)
     ⊎ (stepOf b s r x ≡ stepOf b s r w)
 unfolding stepOf stepBy
 step-larger b w x s r more =
-    move-larger (isDrawn s r) _ _ _ _ (word-larger (neighbours b s) b r First w x more)
-    (word-larger (neighbours b s) b r Second w x more)
+    move-larger (isDrawn s r) _ _ _ _ (finding-larger (neighbours b s) b r First w x more)
+    (finding-larger (neighbours b s) b r Second w x more)
 
 -- ---- "A move changes that relay and nothing else"
 
+-- what holds of the state with the relay drawn, with it dropped and as it was, holds after every move
+made-holds : (P : State → Type 0) (s : State) (r : ℕ) (m : Move) → P (withDrawn s r) → P (withDropped s r) → P s
+    → P (made s r m)
+made-holds P s r drew draws drops stays = draws
+made-holds P s r dropped draws drops stays = drops
+made-holds P s r rests draws drops stays = stays
+made-holds P s r undecided draws drops stays = stays
+made-holds P s r conflict draws drops stays = stays
+
 pub made-other : (s : State) (r : ℕ) (m : Move) (q : ℕ) → (q ≡ r → ⊥) → isDrawn (made s r m) q ≡ isDrawn s q
-made-other s r drew q other = drawn-draw-other s r q other
-made-other s r dropped q other = drawn-drop-other s r q other
-made-other s r rests q other = refl
-made-other s r undecided q other = refl
-made-other s r conflict q other = refl
+made-other s r m q other =
+    made-holds (λ t. isDrawn t q ≡ isDrawn s q) s r m (drawn-draw-other s r q other) (drawn-drop-other s r q other) refl
 
 pub made-pushed : (s : State) (r : ℕ) (m : Move) (q : ℕ) → isPushed (made s r m) q ≡ isPushed s q
-made-pushed s r drew q = refl
-made-pushed s r dropped q = refl
-made-pushed s r rests q = refl
-made-pushed s r undecided q = refl
-made-pushed s r conflict q = refl
+made-pushed s r m q = made-holds (λ t. isPushed t q ≡ isPushed s q) s r m refl refl refl
 
 -- a state that fits a board still fits it
 pub made-fits : (c : Counts) (s : State) (r : ℕ) (m : Move) → stateFine c s ≡ true → r < c .relays
     → stateFine c (made s r m) ≡ true
-made-fits c s r drew fine below = state-fits-draw c s r fine below
-made-fits c s r dropped fine below = state-fits-drop c s r fine
-made-fits c s r rests fine below = fine
-made-fits c s r undecided fine below = fine
-made-fits c s r conflict fine below = fine
+made-fits c s r m fine below =
+    made-holds (λ t. stateFine c t ≡ true) s r m (state-fits-draw c s r fine below) (state-fits-drop c s r fine) fine

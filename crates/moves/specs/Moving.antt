@@ -1,12 +1,12 @@
 -- A single move of a named relay, as a call. Rule book, calls: "15, 14, 13, 11, 7, 12, 16, those that apply"; "A single
 -- move of a named relay answers drew, dropped, rests, undecided or conflict, and changes the state only for the first
 -- two"; "A refused call returns the number, place 0 and the state it was given".
---     movable b s r        what stands against moving relay r of board b in state s: refusals 15, 14, 11
---     moving b s r w       the call
+--     movable b s r                what stands against moving relay r of board b in state s: refusals 15, 14, 11
+--     moving b s r w               the call
 --     toldMoveAnswer, toldMoved    the answer's cases in the rule book's words and numbers
 use Prim.Native.Nat.{ℕ}
 use lib.Dec.{ltb}
-use Rattle.number.specs.Outcomes.{Outcome, given, refused, _>>=_, _>>_, unless}
+use Rattle.number.specs.Outcomes.{Outcome, given, refused, _>>_, unless}
 use Rattle.number.specs.Refusals.{noSuchWinding}
 use Rattle.board.specs.declared.Board.{Board}
 use Rattle.state.specs.declared.State.{State}

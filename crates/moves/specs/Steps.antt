@@ -33,7 +33,7 @@ use Rattle.judge.specs.declared.Which.{Which}
 use Rattle.judge.specs.declared.Which.the-variants.{First, Second}
 use Rattle.judge.specs.RelayWindings.{windingOf}
 use Rattle.moves.specs.declared.Move as code-move
-use Rattle.moves.specs.declared.Move.the-variants as motion
+use Rattle.moves.specs.declared.Move.the-variants as said
 
 pub data Move : Type 0 where
   drew dropped rests undecided conflict : Move
@@ -93,8 +93,8 @@ made s r undecided = s
 made s r conflict = s
 
 abbrev pub toldMove : code-move.Move → Move
-toldMove motion.Drew = drew
-toldMove motion.Dropped = dropped
-toldMove motion.Rests = rests
-toldMove motion.Undecided = undecided
-toldMove motion.Conflict = conflict
+toldMove said.Drew = drew
+toldMove said.Dropped = dropped
+toldMove said.Rests = rests
+toldMove said.Undecided = undecided
+toldMove said.Conflict = conflict

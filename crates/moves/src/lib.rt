@@ -1,10 +1,11 @@
 // Moves of a relay: what it does in a state, and the call that moves a named relay.
 ghost use mathlib.Core.Path.{_≡_};
-ghost use mathlib.Core.Bool.{_&&_, cond};
+ghost use mathlib.Core.Bool.{_&&_, _||_, cond};
 ghost use Rattle.number.specs.Outcomes.{refused};
 ghost use Rattle.state.specs.States.{isDrawn};
 ghost use Rattle.search.specs.Verdicts.{toldFinding};
-ghost use Rattle.moves.specs.Steps.{drew, dropped, rests, isLive, isUndecided, isMissing, regularMove, steelMove, findingOn, stepBy, made, toldMove};
+ghost use Rattle.moves.specs.Steps.{drew, dropped, rests, isLive, isUndecided, isMissing, toldMove};
+ghost use Rattle.moves.specs.Steps.{regularMove, steelMove, moveBy, findingOn, stepBy, made};
 ghost use Rattle.moves.specs.Moving.{moving, toldMoved};
 use board::Board;
 use judge::Sought;
@@ -73,6 +74,17 @@ fn is_missing(finding: Finding) -> bool
     }
 }
 
+// Whether a winding of the two was judged undecided.
+fn either_undecided(drawing: Finding, dropping: Finding) -> bool
+    ensures { λ r. ⌜ r ≡ (isUndecided (toldFinding drawing) || isUndecided (toldFinding dropping)) ⌝ }
+{
+    if is_undecided(drawing) {
+        true
+    } else {
+        is_undecided(dropping)
+    }
+}
+
 // Whether both windings were judged live.
 fn both_live(drawing: Finding, dropping: Finding) -> bool
     ensures { λ r. ⌜ r ≡ (isLive (toldFinding drawing) && isLive (toldFinding dropping)) ⌝ }
@@ -101,10 +113,7 @@ fn regular(drawn: bool, winding: Finding) -> Move
 fn steel(drawn: bool, drawing: Finding, dropping: Finding) -> Move
     ensures { λ r. ⌜ toldMove r ≡ steelMove drawn (toldFinding drawing) (toldFinding dropping) ⌝ }
 {
-    if is_undecided(drawing) {
-        return Move::Undecided;
-    }
-    if is_undecided(dropping) {
+    if either_undecided(drawing, dropping) {
         return Move::Undecided;
     }
     if both_live(drawing, dropping) {
@@ -133,6 +142,19 @@ fn drops(drawn: bool) -> Move
     if drawn { Move::Dropped } else { Move::Rests }
 }
 
+// What a relay comes to by its first and its second winding: with a second one it is steel. What the board lacks rests.
+fn move_by(drawn: bool, first: Finding, second: Finding) -> Move
+    ensures { λ r. ⌜ toldMove r ≡ moveBy drawn (toldFinding first) (toldFinding second) ⌝ }
+{
+    if is_missing(first) {
+        return Move::Rests;
+    }
+    if is_missing(second) {
+        return regular(drawn, first);
+    }
+    steel(drawn, first, second)
+}
+
 // That winding of a relay, judged by the sets of neighbours within the allowance.
 fn finding_on(near: &[u64; 64], board: Board, relay: u32, which: Which, allowance: u32) -> Finding
     ensures { λ r. ⌜ toldFinding r ≡ findingOn (now (near .entry)) board relay which allowance ⌝ }
@@ -148,20 +170,14 @@ fn finding_on(near: &[u64; 64], board: Board, relay: u32, which: Which, allowanc
     verdict.finding
 }
 
-// What a relay comes to in this state, by the sets of neighbours within the allowance. What the board lacks rests.
+// What a relay comes to in this state, by the sets of neighbours within the allowance.
 pub fn step(near: &[u64; 64], board: Board, state: State, relay: u32, allowance: u32) -> Move
     ensures { λ r. ⌜ toldMove r ≡ stepBy (now (near .entry)) board (isDrawn state relay) relay allowance ⌝ }
 {
     let drawn = bits::has(state.drawn, relay);
     let first = finding_on(near, board, relay, Which::First, allowance);
     let second = finding_on(near, board, relay, Which::Second, allowance);
-    if is_missing(first) {
-        return Move::Rests;
-    }
-    if is_missing(second) {
-        return regular(drawn, first);
-    }
-    steel(drawn, first, second)
+    move_by(drawn, first, second)
 }
 
 // The state after a relay came to this: drawn, dropped, or as it was.

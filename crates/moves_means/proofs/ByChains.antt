@@ -5,13 +5,11 @@ use native.Mathlib.Omega.{arith}
 use mathlib.Core.Path.{_≡_, sym, subst, _∙_}
 use mathlib.Core.Logic.{_⊎_, _↔_, inl, inr}
 use mathlib.Core.Bool.{true}
-use mathlib.Core.List.{List}
 use lib.Dec.{leb}
 use borrow.Author.Tests.{leb-true, leb-false}
 use Rattle.bits.proofs.BoolLaws.{by-test}
 use Rattle.number.specs.Outcomes.{given}
 use Rattle.number.proofs.OutcomeLaws.{given-injective}
-use Rattle.board.specs.declared.Part.{Part}
 use Rattle.board.specs.declared.Board.{Board}
 use Rattle.board.specs.Parts.{partsOf}
 use Rattle.board.specs.Rules.{boardFine}
@@ -29,25 +27,16 @@ use Rattle.judge_means.specs.Exactness.{IsLive}
 use Rattle.judge_means.proofs.Eleven.{the-winding}
 use Rattle.moves.specs.Steps.{Move, drew, dropped, rests, undecided, conflict}
 use Rattle.moves.proofs.MovingLaws.{movable-given}
-use Rattle.moves_means.specs.Guards.{CurrentThrough, BothCurrents}
+use Rattle.moves_means.specs.Guards.{CurrentThrough}
 use Rattle.moves_means.specs.SingleMoves.{NeedsMore, Comes}
 use Rattle.moves_means.specs.ByChains.{Undecided, Decided, RegularComes, SteelComes, RegularByChains}
 use Rattle.moves_means.specs.ByChains.{SteelByChains}
 use Rattle.moves_means.proofs.CurrentLaws.{through-carries, carries-through}
-use Rattle.moves_means.proofs.ComesLaws.{drawn-apart, regular-one}
-use Rattle.moves_means.proofs.WordLaws.{WordSays, first-word, second-missing}
+use Rattle.moves_means.proofs.ComesLaws.{regular-guard, steel-guard, regular-one, regular-draws, regular-drops}
+use Rattle.moves_means.proofs.ComesLaws.{regular-held, regular-rests, steel-draws, steel-drops, steel-held}
+use Rattle.moves_means.proofs.ComesLaws.{steel-rests}
+use Rattle.moves_means.proofs.FindingLaws.{FindingSays, first-finding, second-missing}
 use Rattle.moves_means.proofs.SingleMoves.{move-exactly}
-
--- ---- a guard of both sorts, of a relay of one sort
-
-module _ {P Q : Type 0} (r : ℕ) (ps : List Part) where
-  regular-guard : isRegular r ps → (isRegular r ps × P) ⊎ (isSteel r ps × Q) → P
-  regular-guard regular (inl (sort, guard)) = guard
-  regular-guard regular (inr (sort, guard)) = absurd (omega (arith, regular .0, sort .0))
-
-  steel-guard : isSteel r ps → (isRegular r ps × P) ⊎ (isSteel r ps × Q) → Q
-  steel-guard steel (inl (sort, guard)) = absurd (omega (arith, steel .0, sort .0))
-  steel-guard steel (inr (sort, guard)) = guard
 
 module _ (b : Board) (w : ℕ) (s : State) (r : ℕ) (fine : boardFine b ≡ true) (fits : stateFine (b .counts) s ≡ true)
     (below : r < b .counts .relays) where
@@ -59,8 +48,7 @@ module _ (b : Board) (w : ℕ) (s : State) (r : ℕ) (fine : boardFine b ≡ tru
         let its = the-winding b s r n e (winding-for-sought b s r n fine fits ∙ found) in
         let agree = live-is-carrying b s (e .a) (e .b) fine in (
           λ live. carries-through b s r n e its (agree .0 live),
-          λ current. agree .1
-              (through-carries b s r n e its current),
+          λ current. agree .1 (through-carries b s r n e its current),
         )
 
     undecided-needs : Undecided b s e w → NeedsMore b s r w
@@ -92,7 +80,7 @@ module _ (b : Board) (w : ℕ) (s : State) (r : ℕ) (fine : boardFine b ≡ tru
     through = live-current First e found
 
     -- one that is decided and not without current is live
-    decided-live : (x : verdict.Finding) → WordSays b s r First x w → ¬ (NeedsMore b s r w)
+    decided-live : (x : verdict.Finding) → FindingSays b s r First x w → ¬ (NeedsMore b s r w)
         → ¬ (¬ (CurrentThrough b s r First)) → IsLive b s e
     decided-live verdict.live says enough held = through .1 (says .1)
     decided-live verdict.dead says enough held = absurd (held (says .1))
@@ -101,19 +89,19 @@ module _ (b : Board) (w : ℕ) (s : State) (r : ℕ) (fine : boardFine b ≡ tru
     regular-chains : (m : Move) → Comes b s r m w → RegularComes b s r e m w
     regular-chains undecided needs = regular-undecided needs
     regular-chains conflict (enough, both) = regular-one b w s r below regular both
-    regular-chains drew (enough, (one, (there, draw))) =
-        let guard = regular-guard r (partsOf b) regular draw in
+    regular-chains drew (enough, one, draw) =
+        let guard = regular-guard (partsOf b) regular draw in
         (enough-decided First e found enough, guard .0, through .1 (guard .1))
-    regular-chains dropped (enough, (one, (there, drop))) =
-        let guard = regular-guard r (partsOf b) regular drop in
+    regular-chains dropped (enough, one, drop) =
+        let guard = regular-guard (partsOf b) regular drop in
         (enough-decided First e found enough, guard .0, λ live. guard .1 (through .0 live))
-    regular-chains rests (enough, (one, (no-draw, no-drop))) =
-        let first = first-word b w s r fine fits below in (
+    regular-chains rests (enough, one, no-draw, no-drop) =
+        let first = first-finding b w s r fine fits below in (
           enough-decided First e found enough,
           by-test (isDrawn s r)
               (λ on. inl (
                 on,
-                decided-live (first .word) (first .says) enough
+                decided-live (first .finding) (first .says) enough
                     (λ still. no-drop (below, inl (regular, (on, still)))),
               ))
               (λ off. inr (off, λ live. no-draw (below, inl (regular, (off, through .0 live))))),
@@ -122,35 +110,14 @@ module _ (b : Board) (w : ℕ) (s : State) (r : ℕ) (fine : boardFine b ≡ tru
     chains-regular : (m : Move) → RegularComes b s r e m w → Comes b s r m w
     chains-regular undecided more = undecided-needs First e found more
     chains-regular conflict never = absurd never
-    chains-regular drew (decided, off, live) = (
-      regular-enough decided,
-      (regular-one b w s r below regular, (below, inl (regular, (off, through .0 live)))),
-    )
-    chains-regular dropped (decided, on, dead) = (
-      regular-enough decided,
-      (regular-one b w s r below regular, (below, inl (regular, (on, λ current. dead (through .1 current))))),
-    )
-    chains-regular rests (decided, inl (on, live)) = (
-      regular-enough decided,
-      (
-        regular-one b w s r below regular,
-        (
-          λ draw. drawn-apart b w s r on (regular-guard r (partsOf b) regular (draw .1) .0),
-          λ drop. regular-guard r (partsOf b) regular (drop .1) .1 (through .0 live),
-        ),
-      ),
-    )
-    chains-regular rests (decided, inr (off, dead)) = (
-      regular-enough decided,
-      (
-        regular-one b w s r below regular,
-        (
-          λ draw. dead (through .1 (regular-guard r (partsOf b) regular (draw .1) .1)),
-          λ drop. drawn-apart b w s
-              r (regular-guard r (partsOf b) regular (drop .1) .0) off,
-        ),
-      ),
-    )
+    chains-regular drew (decided, off, live) =
+        regular-draws b w s r below regular (regular-enough decided) off (through .0 live)
+    chains-regular dropped (decided, on, dead) =
+        regular-drops b w s r below regular (regular-enough decided) on (λ current. dead (through .1 current))
+    chains-regular rests (decided, inl (on, live)) =
+        regular-held b w s r below regular (regular-enough decided) on (through .0 live)
+    chains-regular rests (decided, inr (off, dead)) =
+        regular-rests b w s r below regular (regular-enough decided) off (λ current. dead (through .1 current))
 
   -- ---- a steel relay
 
@@ -177,34 +144,31 @@ module _ (b : Board) (w : ℕ) (s : State) (r : ℕ) (fine : boardFine b ≡ tru
     drops : IsLive b s f ↔ CurrentThrough b s r Second
     drops = live-current Second f second
 
-    steel-one : ¬ (IsLive b s e × IsLive b s f) → ¬ (BothCurrents b s r)
-    steel-one one both = one (draws .1 (both .1 .1 .0), drops .1 (both .1 .1 .1))
-
     steel-chains : (m : Move) → Comes b s r m w → SteelComes b s r e f m w
     steel-chains undecided needs = steel-undecided needs
     steel-chains conflict (enough, both) = (
       enough-decided First e first enough,
       enough-decided Second f second enough,
-      draws .1 (both .1 .1 .0),
-      drops .1 (both .1 .1 .1),
+      draws .1 (both .2),
+      drops .1 (both .3),
     )
-    steel-chains drew (enough, (one, (there, draw))) =
-        let guard = steel-guard r (partsOf b) steel draw in (
+    steel-chains drew (enough, one, draw) =
+        let guard = steel-guard (partsOf b) steel draw in (
           enough-decided First e first enough,
           enough-decided Second f second enough,
           guard .0,
           draws .1 (guard .1),
-          λ live. one (below, (steel, (guard .1, drops .0 live))),
+          λ live. one (below, steel, guard .1, drops .0 live),
         )
-    steel-chains dropped (enough, (one, (there, drop))) =
-        let guard = steel-guard r (partsOf b) steel drop in (
+    steel-chains dropped (enough, one, drop) =
+        let guard = steel-guard (partsOf b) steel drop in (
           enough-decided First e first enough,
           enough-decided Second f second enough,
           guard .0,
           drops .1 (guard .1),
-          λ live. one (below, (steel, (draws .0 live, guard .1))),
+          λ live. one (below, steel, draws .0 live, guard .1),
         )
-    steel-chains rests (enough, (one, (no-draw, no-drop))) = (
+    steel-chains rests (enough, one, no-draw, no-drop) = (
       enough-decided First e first enough,
       enough-decided Second f second enough,
       by-test (isDrawn s r)
@@ -216,37 +180,17 @@ module _ (b : Board) (w : ℕ) (s : State) (r : ℕ) (fine : boardFine b ≡ tru
     chains-steel undecided (inl more) = undecided-needs First e first more
     chains-steel undecided (inr more) = undecided-needs Second f second more
     chains-steel conflict (drawing, dropping, live, also) =
-        (steel-enough drawing dropping, (below, (steel, (draws .0 live, drops .0 also))))
-    chains-steel drew (drawing, dropping, off, live, dead) = (
-      steel-enough drawing dropping,
-      (steel-one (λ both. dead (both .1)), (below, inr (steel, (off, draws .0 live)))),
-    )
-    chains-steel dropped (drawing, dropping, on, live, dead) = (
-      steel-enough drawing dropping,
-      (steel-one (λ both. dead (both .0)), (below, inr (steel, (on, drops .0 live)))),
-    )
-    chains-steel rests (drawing, dropping, inl (on, dead)) = (
-      steel-enough drawing dropping,
-      (
-        steel-one (λ both. dead (both .1)),
-        (
-          λ draw. drawn-apart b w s r on (steel-guard r (partsOf b) steel (draw .1) .0),
-          λ drop. dead
-              (drops .1 (steel-guard r (partsOf b) steel (drop .1) .1)),
-        ),
-      ),
-    )
-    chains-steel rests (drawing, dropping, inr (off, dead)) = (
-      steel-enough drawing dropping,
-      (
-        steel-one (λ both. dead (both .0)),
-        (
-          λ draw. dead (draws .1 (steel-guard r (partsOf b) steel (draw .1) .1)),
-          λ drop. drawn-apart b w s r
-              (steel-guard r (partsOf b) steel (drop .1) .0) off,
-        ),
-      ),
-    )
+        (steel-enough drawing dropping, (below, steel, draws .0 live, drops .0 also))
+    chains-steel drew (drawing, dropping, off, live, dead) =
+        steel-draws b w s r below steel (steel-enough drawing dropping) off (draws .0 live)
+        (λ current. dead (drops .1 current))
+    chains-steel dropped (drawing, dropping, on, live, dead) =
+        steel-drops b w s r below steel (steel-enough drawing dropping) on (drops .0 live)
+        (λ current. dead (draws .1 current))
+    chains-steel rests (drawing, dropping, inl (on, dead)) =
+        steel-held b w s r below steel (steel-enough drawing dropping) on (λ current. dead (drops .1 current))
+    chains-steel rests (drawing, dropping, inr (off, dead)) =
+        steel-rests b w s r below steel (steel-enough drawing dropping) off (λ current. dead (draws .1 current))
 
 -- ---- the theorems
 

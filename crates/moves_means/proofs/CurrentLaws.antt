@@ -59,8 +59,7 @@ module _ (b : Board) (s : State) (r : ℕ) (n : Which) (e : Winding) (its : ItsW
         of-relay = its .is-winding;
         from = x;
         to = y;
-        actual =
-            actual;
+        actual = actual;
         carrying = carrying;
       }
 

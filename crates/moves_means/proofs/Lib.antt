@@ -1,6 +1,6 @@
 -- The theorems of specs/, each in a file of its statement's name, after the laws that it goes by.
 pub mod CurrentLaws
-pub mod WordLaws
+pub mod FindingLaws
 pub mod ComesLaws
 pub mod SingleMoves
 pub mod ByChains

@@ -19,40 +19,39 @@ use Rattle.judge.specs.declared.Which.the-variants.{First, Second}
 use Rattle.judge.specs.Judging.{judging}
 use Rattle.moves.specs.Steps.{Move, moveBy, stepOf, made}
 use Rattle.moves.specs.Moving.{toldMoveAnswer, toldMoved}
-use Rattle.moves.proofs.MotionLaws.{move-regular, move-steel}
 use Rattle.moves.proofs.StepLaws.{step-judging}
 use Rattle.moves.proofs.MovingLaws.{movable-given, moving-moved}
 use Rattle.moves_means.specs.SingleMoves.{Comes, StepExactly, MoveExactly}
-use Rattle.moves_means.proofs.WordLaws.{first-word, second-word, second-missing}
-use Rattle.moves_means.proofs.ComesLaws.{regular-comes, steel-comes, comes-once}
+use Rattle.moves_means.proofs.FindingLaws.{first-finding, second-finding, second-missing}
+use Rattle.moves_means.proofs.ComesLaws.{regular-comes, steel-comes, comes-exclusive}
 
 -- ---- a step, by the sort of the relay
 
 module _ (b : Board) (w : ℕ) (s : State) (r : ℕ) (fine : boardFine b ≡ true) (fits : stateFine (b .counts) s ≡ true)
     (below : r < b .counts .relays) where
-  -- a step goes by the words x and y on the relay's windings
-  words-mean : (x y : Outcome Finding) (m : Move) → judging b s r First w .finding ≡ x
-      → judging b s r Second w .finding ≡ y → moveBy (isDrawn s r) x y ≡ m → Comes b s r m w
-      → Comes b s r (stepOf b s r w) w
-  words-mean x y m e f is comes =
-      let steps : stepOf b s r w ≡ m = cc (step-judging b w s r fine fits, e, f, is) in
-      subst (λ (m : Move). Comes b s r m w) (sym steps) comes
+  -- a step goes by the findings x and y on the relay's windings
+  findings-mean : (x y : Outcome Finding) → judging b s r First w .finding ≡ x → judging b s r Second w .finding ≡ y
+      → Comes b s r (moveBy (isDrawn s r) x y) w → Comes b s r (stepOf b s r w) w
+  findings-mean x y e f comes =
+      let steps : moveBy (isDrawn s r) x y ≡ stepOf b s r w = cc (step-judging b w s r fine fits, e, f) in
+      subst (λ (m : Move). Comes b s r m w) steps comes
 
   regular-means : isRegular r (partsOf b) → Comes b s r (stepOf b s r w) w
+  unfolding moveBy
   regular-means regular =
-      let first = first-word b w s r fine fits below in
+      let first = first-finding b w s r fine fits below in
       let second = second-missing b w s r fine fits regular in
-      words-mean (given (first .word)) (refused noSuchWinding 0) _ (first .judged) (second .0)
-      (move-regular (isDrawn s r) (given (first .word)) (refused noSuchWinding 0) refl refl)
-      (regular-comes b w s r below regular (isDrawn s r) (first .word) refl (second .1) (first .says))
+      findings-mean (given (first .finding)) (refused noSuchWinding 0) (first .judged) (second .0)
+      (regular-comes b w s r below regular (isDrawn s r) (first .finding) refl (second .1) (first .says))
 
   steel-means : isSteel r (partsOf b) → Comes b s r (stepOf b s r w) w
+  unfolding moveBy
   steel-means steel =
-      let first = first-word b w s r fine fits below in
-      let second = second-word b w s r fine fits below steel in
-      words-mean (given (first .word)) (given (second .word)) _ (first .judged) (second .judged)
-      (move-steel (isDrawn s r) (given (first .word)) (given (second .word)) refl refl)
-      (steel-comes b w s r below steel (isDrawn s r) (first .word) (second .word) refl (first .says) (second .says))
+      let first = first-finding b w s r fine fits below in
+      let second = second-finding b w s r fine fits below steel in
+      findings-mean (given (first .finding)) (given (second .finding)) (first .judged) (second .judged)
+      (steel-comes b w s r below steel (isDrawn s r) (first .finding) (second .finding) refl (first .says)
+      (second .says))
 
 -- of what a relay comes to `Comes` holds
 pub step-means : (b : Board) (w : ℕ) (s : State) (r : ℕ) → boardFine b ≡ true → stateFine (b .counts) s ≡ true
@@ -65,8 +64,10 @@ step-means b w s r fine fits below =
 
 pub step-exactly : StepExactly
 step-exactly b w s r m fine fits below =
-    let means = step-means b w s r fine fits below in
-    (λ is. subst (λ (m : Move). Comes b s r m w) is means, λ comes. comes-once b w s r (stepOf b s r w) m means comes)
+    let means = step-means b w s r fine fits below in (
+      λ is. subst (λ (m : Move). Comes b s r m w) is means,
+      λ comes. comes-exclusive b w s r (stepOf b s r w) m means comes,
+    )
 
 pub move-exactly : MoveExactly
 move-exactly b s r w a m moves taken =
@@ -79,6 +80,5 @@ move-exactly b s r w a m moves taken =
     let same : toldMoveAnswer (a .answer) ≡ given m → stepOf b s r w ≡ m =
     λ says. given-injective (stepOf b s r w) m (sym answers ∙ says) in (
       (λ says. exactly .0 (same says), λ comes. answers ∙ ap given (exactly .1 comes)),
-      λ says. leaves
-          ∙ ap (made s r) (same says),
+      λ says. leaves ∙ ap (made s r) (same says),
     )

@@ -1,6 +1,6 @@
 -- The guards for drawing and dropping a relay, in the words of documents 000 and 002, over a board in a state. Document
 -- 000 has regular relays only; document 002 has both sorts. 002's current is a conducting path through components; here
--- it is 000's current (`published/specs/Circuits.antt`): through the first winding for 002's regular and drawing
+-- it is 000's current (`judge_means/specs/Circuits.antt`): through the first winding for 002's regular and drawing
 -- current, through the second for its dropping current. That a steel relay is two windings is the rule book's; 002's
 -- "no current can propagate from input to input through the relay" is not a rule of our boards. Neither paper's guards
 -- go by an allowance.
@@ -70,4 +70,4 @@ Stable b s = (r : ℕ) → r < b .counts .relays → ¬ (CanDraw b s r) × ¬ (C
 
 abbrev pub BothCurrents : Board → State → ℕ → Type 0
 BothCurrents b s r =
-    (r < b .counts .relays) × (isSteel r (partsOf b) × (CurrentThrough b s r First × CurrentThrough b s r Second))
+    (r < b .counts .relays) × isSteel r (partsOf b) × CurrentThrough b s r First × CurrentThrough b s r Second

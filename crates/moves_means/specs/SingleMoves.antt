@@ -35,9 +35,9 @@ pub record NeedsMore (b : Board) (s : State) (r w : ℕ) : Type 0 where
 abbrev pub Comes : Board → State → ℕ → Move → ℕ → Type 0
 Comes b s r undecided w = NeedsMore b s r w
 Comes b s r conflict w = ¬ (NeedsMore b s r w) × BothCurrents b s r
-Comes b s r drew w = ¬ (NeedsMore b s r w) × (¬ (BothCurrents b s r) × CanDraw b s r)
-Comes b s r dropped w = ¬ (NeedsMore b s r w) × (¬ (BothCurrents b s r) × CanDrop b s r)
-Comes b s r rests w = ¬ (NeedsMore b s r w) × (¬ (BothCurrents b s r) × (¬ (CanDraw b s r) × ¬ (CanDrop b s r)))
+Comes b s r drew w = ¬ (NeedsMore b s r w) × ¬ (BothCurrents b s r) × CanDraw b s r
+Comes b s r dropped w = ¬ (NeedsMore b s r w) × ¬ (BothCurrents b s r) × CanDrop b s r
+Comes b s r rests w = ¬ (NeedsMore b s r w) × ¬ (BothCurrents b s r) × ¬ (CanDraw b s r) × ¬ (CanDrop b s r)
 
 abbrev pub StepExactly : Type 0
 StepExactly =

@@ -4,7 +4,6 @@
 use Prim.Native.Nat.{ℕ, suc, _+_, _-_, _<_, _≤_}
 use native.Mathlib.Omega.{arith}
 use mathlib.Core.Path.{_≡_, refl, sym, ap, _∙_}
-use mathlib.Core.Logic.{_⊎_, inl, inr}
 use mathlib.Core.List.{List, _++_}
 use lib.ListN.{length, drop, set, length-set}
 use lib.Seq.{sets, sets-eq}
@@ -26,17 +25,16 @@ onward log m x =
       moves = m + length (x .bytes);
       state = x .state;
       relay = x .relay;
-      log =
-          sets log m (x .bytes);
+      log = sets log m (x .bytes);
     }
 
 -- what is told of a run that ends after m moves with the word w
 abbrev pub stopped : Ending → ℕ → State → ℕ → List ℕ → Ran
 stopped w m s r log = record { word = given w; moves = m; state = s; relay = r; log = log }
 
--- a relay that draws or drops
+-- a relay that draws or drops: the look comes to that move
 abbrev pub Moving : step.Move → Type 0
-Moving mv = (mv ≡ step.drew) ⊎ (mv ≡ step.dropped)
+Moving mv = (r : ℕ) (next : Look) → decides mv r next ≡ makes mv r
 
 -- after m moves, in state s with this log, `all` is still what is told of the whole run
 pub record Course (f : Stepper) (k : ℕ) (all : Ran) (room : ℕ) (log : List ℕ) (m : ℕ) (s : State) : Type 0 where
@@ -44,12 +42,14 @@ pub record Course (f : Stepper) (k : ℕ) (all : Ran) (room : ℕ) (log : List �
   pub within : m ≤ room
   pub goes : all ≡ onward log m (runOf f k (room - m) s)
 
--- at relay r of the scan: nothing has changed since it began, and the look from 0 is the look from r
-pub record ScanSoFar (f : Stepper) (k : ℕ) (log₀ : List ℕ) (m₀ : ℕ) (s₀ : State) (log : List ℕ) (m : ℕ) (s : State)
+-- at relay r of the scan: nothing has changed since it began, what g sees of a relay is its step, and the look from 0
+-- is the look from r
+pub record ScanSoFar (f g : Stepper) (k : ℕ) (log₀ : List ℕ) (m₀ : ℕ) (s₀ : State) (log : List ℕ) (m : ℕ) (s : State)
     (r : ℕ) : Type 0 where
   pub same-log : log₀ ≡ log
   pub same-moves : m₀ ≡ m
   pub same-state : s₀ ≡ s
+  pub seen : (q : ℕ) → g s q ≡ f s q
   pub look : lookFrom f s k 0 ≡ lookFrom f s (k - r) r
 
 ran-onward : (x : Run) (log : List ℕ) → length (x .bytes) ≤ length log → ran x log ≡ onward log 0 x
@@ -71,10 +71,17 @@ course-starts f k log s =
           ∙ ap (λ (n : ℕ). onward log 0 (runOf f k n s)) whole;
     }
 
-pub scan-starts : (f : Stepper) (k : ℕ) (log : List ℕ) (m : ℕ) (s : State) → ScanSoFar f k log m s log m s 0
-scan-starts f k log m s =
+pub scan-starts : (f g : Stepper) (k : ℕ) (log : List ℕ) (m : ℕ) (s : State) → ((q : ℕ) → g s q ≡ f s q)
+    → ScanSoFar f g k log m s log m s 0
+scan-starts f g k log m s seen =
     let whole : k ≡ k - 0 = omega arith in
-    record { same-log = refl; same-moves = refl; same-state = refl; look = ap (λ (n : ℕ). lookFrom f s n 0) whole }
+    record {
+      same-log = refl;
+      same-moves = refl;
+      same-state = refl;
+      seen = seen;
+      look = ap (λ (n : ℕ). lookFrom f s n 0) whole;
+    }
 
 onward-logged : (log : List ℕ) (m c : ℕ) (x : Run) → onward log m (logged c x) ≡ onward (set log m c) (m + 1) x
 onward-logged log m c x =
@@ -85,33 +92,34 @@ onward-logged log m c x =
       moves = sum i;
       state = x .state;
       relay = x .relay;
-      log =
-          sets (set log m c) (next i) (x .bytes);
+      log = sets (set log m c) (next i) (x .bytes);
     }
 
-decides-moves : (mv : step.Move) (r : ℕ) (next : Look) → Moving mv → decides mv r next ≡ makes mv r
-decides-moves mv r next (inl e) = rw e refl
-decides-moves mv r next (inr e) = rw e refl
+module _ {f g : Stepper} {k : ℕ} {log₀ log : List ℕ} {m₀ m : ℕ} {s₀ s : State} {r : ℕ}
+    (scan : ScanSoFar f g k log₀ m₀ s₀ log m s r) where
+  -- the relay that is looked at, as number q, is seen to come to mv, and decides
+  decided : {mv : step.Move} {q : ℕ} → r < k → q ≡ r → mv ≡ g s q
+      → lookFrom f s k 0 ≡ decides mv r (lookFrom f s (k - (r + 1)) (r + 1))
+  decided below number is =
+      scan .look ∙ look-decides f s k r _ below (is ∙ scan .seen _ ∙ ap (λ (q : ℕ). f s q) number)
 
-module _ (f : Stepper) (k : ℕ) (log₀ : List ℕ) (m₀ : ℕ) (s₀ : State) (log : List ℕ) (m : ℕ) (s : State) (r : ℕ)
-    (scan : ScanSoFar f k log₀ m₀ s₀ log m s r) where
-  -- the relay that is looked at decides
-  decided : (mv : step.Move) → r < k → mv ≡ f s r → lookFrom f s k 0 ≡ decides mv r (lookFrom f s (k - (r + 1)) (r + 1))
-  decided mv below is = scan .look ∙ look-decides f s k r mv below is
-
-  pub scan-rests : r < k → step.rests ≡ f s r → ScanSoFar f k log₀ m₀ s₀ log m s (r + 1)
-  scan-rests below is =
+  pub scan-rests : {mv : step.Move} {q : ℕ} → r < k → q ≡ r → mv ≡ g s q → mv ≡ step.rests
+      → ScanSoFar f g k log₀ m₀ s₀ log m s (r + 1)
+  scan-rests below number is rests =
       record {
         same-log = scan .same-log;
         same-moves = scan .same-moves;
         same-state = scan .same-state;
-        look =
-            decided step.rests below is;
+        seen = scan .seen;
+        look = decided below number (sym rests ∙ is);
       }
 
-  module _ (all : Ran) (room : ℕ) (course : Course f k all room log₀ m₀ s₀) where
+  module _ {all : Ran} {room : ℕ} (course : Course f k all room log₀ m₀ s₀) where
     here : Course f k all room log m s
     here = rw (sym (scan .same-log), sym (scan .same-moves), sym (scan .same-state)) course
+
+    pub scan-long : length log ≡ room
+    scan-long = here .long
 
     ends-here : (w : Ending) (q : ℕ) → runOf f k (room - m) s ≡ ends w s q → stopped w m s q log ≡ all
     ends-here w q stops =
@@ -121,34 +129,36 @@ module _ (f : Stepper) (k : ℕ) (log₀ : List ℕ) (m₀ : ℕ) (s₀ : State)
     pub course-idle : k ≤ r → stopped idle m s noRelay log ≡ all
     course-idle past = ends-here idle noRelay (run-quiet f k s (room - m) (scan .look ∙ look-quiet f s k r past))
 
-    pub course-undecided : r < k → step.undecided ≡ f s r → stopped undecided m s r log ≡ all
-    course-undecided below is =
-        ends-here undecided r (run-halts f k s (room - m) undecided r (decided step.undecided below is))
+    module _ {mv : step.Move} {q : ℕ} (below : r < k) (number : q ≡ r) (is : mv ≡ g s q) where
+      pub course-undecided : mv ≡ step.undecided → stopped undecided m s r log ≡ all
+      course-undecided e =
+          ends-here undecided r (run-halts f k s (room - m) undecided r (decided below number (sym e ∙ is)))
 
-    pub course-conflict : r < k → step.conflict ≡ f s r → stopped conflict m s r log ≡ all
-    course-conflict below is =
-        ends-here conflict r (run-halts f k s (room - m) conflict r (decided step.conflict below is))
+      pub course-conflict : mv ≡ step.conflict → stopped conflict m s r log ≡ all
+      course-conflict e =
+          ends-here conflict r (run-halts f k s (room - m) conflict r (decided below number (sym e ∙ is)))
 
-    moves-here : (mv : step.Move) → r < k → mv ≡ f s r → Moving mv → lookFrom f s k 0 ≡ makes mv r
-    moves-here mv below is move = decided mv below is ∙ decides-moves mv r _ move
+      moves-here : Moving mv → lookFrom f s k 0 ≡ makes mv r
+      moves-here move = decided below number is ∙ move r _
 
-    pub course-spent : (mv : step.Move) → r < k → mv ≡ f s r → Moving mv → room ≤ m → stopped spent m s r log ≡ all
-    course-spent mv below is move full =
-        let none : room - m ≡ 0 = omega arith in
-        ends-here spent r (rw none (run-spent f k s mv r (moves-here mv below is move)))
+      pub course-spent : Moving mv → length log ≤ m → stopped spent m s r log ≡ all
+      course-spent move full =
+          let none : room - m ≡ 0 = omega (arith, here .long, full) in
+          ends-here spent r (rw none (run-spent f k s mv r (moves-here move)))
 
-    -- the move is made and logged
-    pub course-moves : (mv : step.Move) (c : ℕ) (t : State) → r < k → mv ≡ f s r → Moving mv → m < room
-        → c ≡ byteOf r mv → t ≡ step.made s r mv → Course f k all room (set log m c) (m + 1) t
-    course-moves mv c t below is move free byte leaves =
-        let more : room - m ≡ suc (room - (m + 1)) = omega arith in
-        record {
-          long = length-set log m c ∙ here .long;
-          within = omega arith;
-          goes =
-              here .goes
-              ∙ ap (onward log m) (ap (λ (n : ℕ). runOf f k n s) more ∙ run-moves f k s (room - (m + 1)) mv r
-              (moves-here mv below is move))
-              ∙ onward-logged log m (byteOf r mv) (runOf f k (room - (m + 1)) (step.made s r mv))
-              ∙ rw (byte, leaves) refl;
-        }
+      -- the move is made and logged
+      pub course-moves : {c : ℕ} {t : State} {p : ℕ} → Moving mv → m < length log → c ≡ byteOf r mv → p ≡ r
+          → t ≡ step.made s p mv → Course f k all room (set log m c) (m + 1) t
+      course-moves {c} move free byte same leaves =
+          let free : m < room = omega (arith, here .long, free) in
+          let more : room - m ≡ suc (room - (m + 1)) = omega arith in
+          record {
+            long = length-set log m c ∙ here .long;
+            within = omega arith;
+            goes =
+                here .goes
+                ∙ ap (onward log m) (ap (λ (n : ℕ). runOf f k n s) more ∙ run-moves f k s (room - (m + 1)) mv r
+                (moves-here move))
+                ∙ onward-logged log m (byteOf r mv) (runOf f k (room - (m + 1)) (step.made s r mv))
+                ∙ rw (byte, leaves, same) refl;
+          }

@@ -2,15 +2,16 @@
 -- are the board's.
 use Prim.Native.Nat.{ℕ, zero, suc, _+_, _<_, _≤_}
 use native.Mathlib.Omega.{arith}
-use mathlib.Core.Path.{_≡_}
+use mathlib.Core.Path.{_≡_, subst}
 use mathlib.Core.Bool.{true}
 use Rattle.board.specs.declared.Counts.{Counts}
 use Rattle.state.specs.declared.State.{State}
 use Rattle.state.specs.States.{stateFine}
 use Rattle.moves.specs.Steps as step
 use Rattle.moves.proofs.StepLaws.{made-fits}
-use Rattle.runs.specs.Looks.{Stepper, Look, quiet, halts, makes, byteOf, decides, lookFrom, spent}
-use Rattle.runs.specs.Runs.{Run, ends, logged, settle, runOf}
+use Rattle.runs.specs.Looks.{Stepper, Look, quiet, halts, makes, decides, lookFrom}
+use Rattle.runs.specs.Runs.{runOf}
+use Rattle.runs.proofs.RunLaws.{run-holds}
 
 -- ---- the relay that moves is one of the k that were looked at
 
@@ -33,25 +34,14 @@ look-below f s k zero r most = tt
 look-below f s k (suc n) r most =
     decides-below k (f s r) r (lookFrom f s n (suc r)) (omega arith) (look-below f s k n (suc r) (omega arith))
 
--- ---- what holds of a state before a run still holds after it
+pub look-makes-below : (f : Stepper) (s : State) (k : ℕ) (m : step.Move) (r : ℕ) → lookFrom f s k 0 ≡ makes m r → r < k
+look-makes-below f s k m r is = subst (MovesBelow k) is (look-below f s k k 0 (omega arith))
 
-module _ (c : Counts) where
-  abbrev Fits : State → Type 0
-  Fits s = stateFine c s ≡ true
+-- ---- the run
 
-  settle-fits : (l : Look) (s : State) (go : step.Move → ℕ → Run) → Fits s → MovesBelow (c .relays) l
-      → ((m : step.Move) (r : ℕ) → r < c .relays → Fits (go m r .state)) → Fits (settle l s go .state)
-  settle-fits quiet s go fits below on = fits
-  settle-fits (halts e r) s go fits below on = fits
-  settle-fits (makes m r) s go fits below on = on m r below
-
-  pub run-fits : (f : Stepper) (n : ℕ) (s : State) → Fits s → Fits (runOf f (c .relays) n s .state)
-  unfolding runOf
-  run-fits f zero s fits =
-      settle-fits (lookFrom f s (c .relays) 0) s (λ m r. ends spent s r) fits
-      (look-below f s (c .relays) (c .relays) 0 (omega arith)) (λ m r below. fits)
-  run-fits f (suc n) s fits =
-      settle-fits (lookFrom f s (c .relays) 0) s
-      (λ m r. logged (byteOf r m) (runOf f (c .relays) n (step.made s r m))) fits
-      (look-below f s (c .relays) (c .relays) 0 (omega arith))
-      (λ m r below. run-fits f n (step.made s r m) (made-fits c s r m fits below))
+pub run-fits : (c : Counts) (f : Stepper) (n : ℕ) (s : State) → stateFine c s ≡ true
+    → stateFine c (runOf f (c .relays) n s .state) ≡ true
+run-fits c f =
+    run-holds f (c .relays) (λ n s x. stateFine c s ≡ true → stateFine c (x .state) ≡ true) (λ n s e fits. fits)
+    (λ n s w r e fits. fits) (λ s m r e fits. fits)
+    (λ n s m r x e on fits. on (made-fits c s r m fits (look-makes-below f s (c .relays) m r e)))

@@ -1,9 +1,9 @@
 -- What the scan sees of a relay is its step: for the proof of `course::follow`, the one place where a run meets the
 -- definition of a step, by its laws.
-use Prim.Native.Nat.{ℕ}
+use Prim.Native.Nat.{ℕ, _<_}
 use native.Mathlib.Omega.{arith}
 use denote.Enum.Declared.{tagOf}
-use mathlib.Core.Path.{_≡_, refl, ap, _∙_}
+use mathlib.Core.Path.{_≡_, refl}
 use mathlib.Core.Logic.{_⊎_, inl, inr}
 use mathlib.Core.List.{List}
 use Rattle.board.specs.declared.Board.{Board}
@@ -13,23 +13,28 @@ use Rattle.neighbours.specs.Neighbours.{neighbours}
 use Rattle.moves.proofs.Move.{the-type}
 use Rattle.moves.specs.declared.Move as code-move
 use Rattle.moves.specs.declared.Move.the-variants.{Drew, Dropped, Rests, Undecided, Conflict}
-use Rattle.moves.specs.Steps.{Move, stepBy, stepOf, toldMove}
+use Rattle.moves.specs.Steps.{stepBy, stepper, toldMove}
 use Rattle.moves.proofs.StepLaws.{step-by}
+use Rattle.runs.specs.Looks.{Stepper}
 use Rattle.runs.proofs.CourseLaws.{Moving}
 
--- relay r, looked at as number q in state s by the sets `near` that were gathered in the same state s₀
-pub step-seen : (b : Board) (w : ℕ) (near : List ℕ) (s₀ s : State) (q r : ℕ) (m : Move) → near ≡ neighbours b s₀
-    → s₀ ≡ s → q ≡ r → m ≡ stepBy near b (isDrawn s q) q w → m ≡ stepOf b s r w
-step-seen b w near s₀ s q r m gathered same number is =
-    is ∙ step-by b w s q near (gathered ∙ ap (neighbours b) same) ∙ ap (λ (k : ℕ). stepOf b s k w) number
+first-two : (n : ℕ) → (n ≡ 0) ⊎ (n ≡ 1) → n < 2
+first-two n (inl e) = omega arith
+first-two n (inr e) = omega arith
+
+-- what the sets `near` let see of a relay
+abbrev pub seeing : Board → List ℕ → ℕ → Stepper
+seeing b near w s q = stepBy near b (isDrawn s q) q w
+
+-- it is the relay's step, where they were gathered in the same state
+pub step-seen : (b : Board) (near : List ℕ) (w : ℕ) (s : State) → near ≡ neighbours b s → (q : ℕ)
+    → seeing b near w s q ≡ stepper b w s q
+step-seen b near w s gathered q = step-by b s q w near _ gathered refl
 
 -- the arm of `match` for the relays that move
-pub motion-moves : (m : code-move.Move) → (tagOf the-type m ≡ 0) ⊎ (tagOf the-type m ≡ 1) → Moving (toldMove m)
-motion-moves Drew e = inl refl
-motion-moves Dropped e = inr refl
-motion-moves Rests (inl e) = absurd (let z : _≡_ {A = ℕ} 2 0 = e in omega arith)
-motion-moves Rests (inr e) = absurd (let z : _≡_ {A = ℕ} 2 1 = e in omega arith)
-motion-moves Undecided (inl e) = absurd (let z : _≡_ {A = ℕ} 3 0 = e in omega arith)
-motion-moves Undecided (inr e) = absurd (let z : _≡_ {A = ℕ} 3 1 = e in omega arith)
-motion-moves Conflict (inl e) = absurd (let z : _≡_ {A = ℕ} 4 0 = e in omega arith)
-motion-moves Conflict (inr e) = absurd (let z : _≡_ {A = ℕ} 4 1 = e in omega arith)
+pub told-moving : (m : code-move.Move) → (tagOf the-type m ≡ 0) ⊎ (tagOf the-type m ≡ 1) → Moving (toldMove m)
+told-moving Drew e = λ r next. refl
+told-moving Dropped e = λ r next. refl
+told-moving Rests e = absurd (omega (arith, first-two 2 e))
+told-moving Undecided e = absurd (omega (arith, first-two 3 e))
+told-moving Conflict e = absurd (omega (arith, first-two 4 e))

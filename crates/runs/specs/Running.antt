@@ -4,19 +4,19 @@
 -- it (255 for idle). Log bytes beyond the moves made stay unwritten."
 --     longestLog             the longest log that a run takes (13)
 --     runnable b s log       what stands against a run: refusals 15, 14, 13
---     Ran                   the answer and the log afterwards
+--     Ran                    the answer and the log afterwards
 --     ran x log              what the run x tells over the lent log: its bytes, then the log's own beyond them
 --     unrun n p s log        what a refused run tells
 --     runOn b n s w          the run of the board's relays from state s, each winding within the allowance w, with room
 --                            for n moves
 --     ranOn b s log o w      what is told, by what stands against the run
 --     running b s log w      the call
---     toldEnding, toldRan      the answer's cases in the rule book's words and numbers
+--     toldEnding, toldRan    the answer's cases in the rule book's words and numbers
 use Prim.Native.Nat.{ℕ}
 use mathlib.Core.List.{List, _++_}
 use lib.Dec.{leb}
 use lib.ListN.{length, drop}
-use Rattle.number.specs.Outcomes.{Outcome, given, refused, _>>=_, _>>_, unless}
+use Rattle.number.specs.Outcomes.{Outcome, given, refused, _>>_, unless}
 use Rattle.number.specs.Refusals.{logTooLong}
 use Rattle.board.specs.declared.Board.{Board}
 use Rattle.state.specs.declared.State.{State}
@@ -50,8 +50,7 @@ ran x log =
       moves = length (x .bytes);
       state = x .state;
       relay = x .relay;
-      log = x .bytes
-          ++ drop (length (x .bytes)) log;
+      log = x .bytes ++ drop (length (x .bytes)) log;
     }
 
 abbrev pub unrun : ℕ → ℕ → State → List ℕ → Ran

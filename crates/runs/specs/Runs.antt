@@ -11,7 +11,7 @@
 use Prim.Native.Nat.{ℕ, zero, suc}
 use mathlib.Core.List.{List, [], _∷_}
 use Rattle.state.specs.declared.State.{State}
-use Rattle.moves.specs.Steps.{Move, made, stepper}
+use Rattle.moves.specs.Steps.{Move, made}
 use Rattle.runs.specs.Looks.{Stepper, Ending, idle, spent, Look, quiet, halts, makes, byteOf, lookFrom}
 
 abbrev pub noRelay : ℕ

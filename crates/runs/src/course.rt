@@ -36,8 +36,8 @@ fn byte(relay: u8, motion: Move) -> u8
     }
 }
 
-// Looks at the relays from 0 up; the first that does not rest decides: a move is made and logged and it looks again, and
-// anything else stops the run.
+// Looks at the relays from 0 up; the first that does not rest decides: a move is made and logged and it looks again,
+// and anything else stops the run.
 pub fn follow(board: Board, state: State, log: &mut [u8], allowance: u32) -> Ran
     requires { ⌜ board .counts .relays ≤ mostRelays ⌝ }
     ensures { λ r. ⌜ toldRan r (now (log .exit)) ≡ ran (runOn board (length (now (log .entry))) state allowance) (now (log .entry)) ⌝ }

@@ -1,5 +1,5 @@
-// A run of a board over a lent log: the relays are looked at from 0 up, the first that can move is moved, and so on until
-// all rest, one is undecided or in conflict, or a move finds the log full.
+// A run of a board over a lent log: the relays are looked at from 0 up, the first that can move is moved, and so on
+// until all rest, one is undecided or in conflict, or a move finds the log full.
 ghost use mathlib.Core.Path.{_≡_};
 ghost use mathlib.Core.List.{[]};
 ghost use Rattle.runs.specs.Running.{unrun, running, toldRan};

@@ -2,7 +2,7 @@
 use Prim.Native.Nat.{ℕ, _≤_}
 use native.Mathlib.Omega.{arith}
 use mathlib.Core.Path.{_≡_, sym, ap, subst, _∙_}
-use mathlib.Core.List.{List, _++_}
+use mathlib.Core.List.{List}
 use lib.ListN.{length, drop}
 use lib.Seq.{drop-append-seam}
 use Rattle.number.specs.Outcomes.{given}
@@ -13,55 +13,47 @@ use Rattle.moves.specs.Steps.{stepper}
 use Rattle.runs.specs.declared.Ran.{Ran}
 use Rattle.runs.specs.Looks.{Ending, idle}
 use Rattle.runs.specs.Runs.{Run}
-use Rattle.runs.specs.Running.{toldEnding, runOn}
+use Rattle.runs.specs.Running.{ran, toldEnding, toldRan, runOn}
 use Rattle.runs.proofs.RunLaws.{run-room}
 use Rattle.runs.proofs.RunningLaws.{runnable-given}
-use Rattle.runs_means.specs.LongerRuns.{movesOf}
 use Rattle.runs_means.proofs.AnswerLaws.{accepted-ran, answer-word, answer-moves, answer-state, answer-relay}
 use Rattle.runs_means.proofs.AnswerLaws.{answer-bytes, answer-log}
 use Rattle.runs_means.specs.Courses.{Ended, RunMeans, RunExactly}
-use Rattle.runs_means.proofs.RunMeans.{Says, run-says, ended-once}
+use Rattle.runs_means.proofs.RunMeans.{Says, run-says, ended-exclusive}
 
--- an answer a that tells, place by place, what the run x says
-says-means : (b : Board) (s : State) (w : ℕ) (log : List ℕ) (a : Ran) (l : List ℕ) (x : Run)
-    → Says b w (length log) s x
-    → toldEnding (a .word) ≡ given (x .word)
-    → a .moves ≡ length (x .bytes)
-    → a .state ≡ x .state
-    → a .relay ≡ x .relay
-    → movesOf a l ≡ x .bytes
-    → length (x .bytes) ≤ length log
-    → l ≡ x .bytes ++ drop (length (x .bytes)) log
-    → RunMeans b s log w a l
-says-means b s w log a l x says word moves state relay bytes room after = record {
-  moved = rw (bytes, state) (says .follows);
-  counted = ap length bytes ∙ sym moves;
-  room = omega (arith, moves, room);
-  kept = rw moves (ap (drop (length (x .bytes))) after ∙ drop-append-seam (x .bytes) (drop (length (x .bytes)) log));
-  ended =
-      λ e. (
-        told-ended e,
-        λ end. word ∙ ap given
-            (ended-once b w (length log) (a .moves) (a .state) (a .relay) (x .word) e here end),
-      );
-  stable = λ told r below. told-ended idle told .1 r below .1 .1;
-}
-  where
-    here : Ended b (length log) (a .moves) (a .state) (a .relay) (x .word) w
-    here = rw (moves, state, relay) (says .ended)
+-- an answer a that tells of the run x means what x says
+module _ (b : Board) (s : State) (w : ℕ) (log : List ℕ) (a : Ran) (l : List ℕ) (x : Run)
+    (told : toldRan a l ≡ ran x log) (says : Says b w (length log) s x) where
+  here : Ended b (length log) (a .moves) (a .state) (a .relay) (x .word) w
+  here = rw (answer-moves a l x log told, answer-state a l x log told, answer-relay a l x log told) (says .ended)
 
-    told-ended : (e : Ending) → toldEnding (a .word) ≡ given e → Ended b (length log) (a .moves) (a .state)
-        (a .relay) e w
-    told-ended e told =
-        subst (λ (y : Ending). Ended b (length log) (a .moves) (a .state) (a .relay) y w)
-        (given-injective (x .word) e (sym word ∙ told)) here
+  told-ended : (e : Ending) → toldEnding (a .word) ≡ given e → Ended b (length log) (a .moves) (a .state) (a .relay) e w
+  told-ended e is =
+      subst (λ (y : Ending). Ended b (length log) (a .moves) (a .state) (a .relay) y w)
+      (given-injective (x .word) e (sym (answer-word a l x log told) ∙ is)) here
+
+  says-means : length (x .bytes) ≤ length log → RunMeans b s log w a l
+  says-means room =
+      let moves = answer-moves a l x log told in
+      let bytes = answer-bytes a l x log told in
+      record {
+        moved = rw (bytes, answer-state a l x log told) (says .follows);
+        counted = ap length bytes ∙ sym moves;
+        room = omega (arith, moves, room);
+        kept = rw moves (ap (drop (length (x .bytes))) (answer-log a l x log told)
+            ∙ drop-append-seam (x .bytes) (drop (length (x .bytes)) log));
+        ended =
+            λ e. (
+              told-ended e,
+              λ end. answer-word a l x log told ∙ ap given
+                  (ended-exclusive b w (length log) (a .moves) (a .state) (a .relay) (x .word) e here end),
+            );
+        stable = λ is r below. let rest = told-ended idle is .1 r below in (rest .2, rest .3);
+      }
 
 pub run-exactly : RunExactly
 run-exactly b s w log a l told taken =
     let fine = runnable-given b s log taken in
-    let x = runOn b (length log) s w in
-    let is = accepted-ran b s w log a l told taken in
-    says-means b s w log a l x (run-says b w (fine .0) (length log) s (fine .1))
-    (answer-word a l x log is) (answer-moves a l x log is) (answer-state a l x log is) (answer-relay a l x log is)
-    (answer-bytes a l x log is)
-    (run-room (stepper b w) (b .counts .relays) (length log) s) (answer-log a l x log is)
+    says-means b s w log a l (runOn b (length log) s w) (accepted-ran b s w log a l told taken)
+    (run-says b w (fine .0) (length log) s (fine .1))
+    (run-room (stepper b w) (b .counts .relays) (length log) s)

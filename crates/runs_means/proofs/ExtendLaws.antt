@@ -19,7 +19,10 @@ Settles f g = (s : State) (r : ℕ) → (f s r ≡ step.undecided) ⊎ (g s r �
 
 -- a run that ends with this word is the same with more room and more allowance
 abbrev pub Final : Ending → Type 0
-Final e = (e ≡ idle) ⊎ (e ≡ conflict)
+Final idle = Unit {0}
+Final conflict = Unit {0}
+Final spent = ⊥
+Final undecided = ⊥
 
 -- the run y starts with every move of x, and is the same run where x's word is final
 pub record GoesOn (x y : Run) : Type 0 where
@@ -74,14 +77,6 @@ goes-on-logged c x y on =
       stands = λ final. ap (logged c) (on .stands final);
     }
 
-spent-unfinal : Final spent → ⊥
-spent-unfinal (inl e) = let z : _≡_ {A = ℕ} 0 1 = cc in omega arith
-spent-unfinal (inr e) = let z : _≡_ {A = ℕ} 0 1 = cc in omega arith
-
-undecided-unfinal : Final undecided → ⊥
-undecided-unfinal (inl e) = let z : _≡_ {A = ℕ} 0 1 = cc in omega arith
-undecided-unfinal (inr e) = let z : _≡_ {A = ℕ} 0 1 = cc in omega arith
-
 -- ---- the second run goes on from the first
 
 module _ (f g : Stepper) (settles : Settles f g) (k : ℕ) where
@@ -97,12 +92,12 @@ module _ (f g : Stepper) (settles : Settles f g) (k : ℕ) where
       by-look (makes mv r) e d = on mv r e d
 
       by-looks : Looks f g s k 0 → GoesOn (runOf f k n s) (runOf g k m s)
-      by-looks (inl (q, u)) = goes-on-unfinal _ _ undecided s q (run-halts f k s n undecided q u) undecided-unfinal
+      by-looks (inl (q, u)) = goes-on-unfinal _ _ undecided s q (run-halts f k s n undecided q u) (λ never. never)
       by-looks (inr same) = by-look (lookFrom f s k 0) refl same
 
   pub run-goes-on : (n m : ℕ) (s : State) → n ≤ m → GoesOn (runOf f k n s) (runOf g k m s)
   run-goes-on zero m s more =
-      goes-on-look zero m s (λ mv r e d. goes-on-unfinal _ _ spent s r (run-spent f k s mv r e) spent-unfinal)
+      goes-on-look zero m s (λ mv r e d. goes-on-unfinal _ _ spent s r (run-spent f k s mv r e) (λ never. never))
   run-goes-on (suc n) zero s more = absurd (omega arith)
   run-goes-on (suc n) (suc m) s more =
       goes-on-look (suc n) (suc m) s (λ mv r e d. rw (run-moves f k s n mv r e, run-moves g k s m mv r d)

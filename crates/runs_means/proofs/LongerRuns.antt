@@ -17,8 +17,8 @@ use Rattle.runs_means.proofs.ExtendLaws.{Final, GoesOn, run-goes-on}
 use Rattle.runs_means.proofs.AnswerLaws.{accepted-ran, answer-word, answer-bytes, answer-unique}
 
 stands-final : (a : Ran) (x : Run) → toldEnding (a .word) ≡ given (x .word) → Stands a → Final (x .word)
-stands-final a x told (inl e) = inl (given-injective _ _ (sym told ∙ ap toldEnding e))
-stands-final a x told (inr e) = inr (given-injective _ _ (sym told ∙ ap toldEnding e))
+stands-final a x told (inl e) = rw (given-injective (x .word) _ (sym told ∙ ap toldEnding e)) tt
+stands-final a x told (inr e) = rw (given-injective (x .word) _ (sym told ∙ ap toldEnding e)) tt
 
 -- the answers tell what holds of the runs
 answer-extends : (a c : Ran) (l k : List ℕ) (x y : Run) (log long : List ℕ) → toldRan a l ≡ ran x log

@@ -3,6 +3,7 @@
 use Prim.Native.Nat.{ℕ, zero, suc, _+_, _-_, _<_, _≤_}
 use native.Mathlib.Omega.{arith}
 use mathlib.Core.Path.{_≡_, refl, sym, subst}
+use mathlib.Core.Logic.{_⊎_, inl, inr}
 use mathlib.Core.Bool.{true}
 use lib.Dec.{ltb}
 use borrow.Author.Tests.{ltb-true, ltb-false}
@@ -14,21 +15,16 @@ use Rattle.state.specs.States.{stateFine}
 use Rattle.moves.specs.Steps as step
 use Rattle.moves_means.specs.SingleMoves.{Comes}
 use Rattle.moves_means.proofs.SingleMoves.{step-means}
-use Rattle.runs.specs.Looks.{Look, quiet, halts, makes, idle, spent, undecided, conflict, decides, lookFrom}
+use Rattle.runs.specs.Looks.{Look, quiet, halts, makes, undecided, conflict, decides, lookFrom}
 use Rattle.runs.proofs.LookLaws.{look-quiet, look-decides}
 use Rattle.runs_means.specs.Courses.{Resting, StoppedBy}
 
 abbrev pub LookMeans : Board → ℕ → State → Look → Type 0
 LookMeans b w s quiet = Resting b s (b .counts .relays) w
-LookMeans b w s (halts idle r) = ⊥
-LookMeans b w s (halts spent r) = ⊥
-LookMeans b w s (halts undecided r) = StoppedBy b s r step.undecided w
-LookMeans b w s (halts conflict r) = StoppedBy b s r step.conflict w
-LookMeans b w s (makes step.drew r) = StoppedBy b s r step.drew w
-LookMeans b w s (makes step.dropped r) = StoppedBy b s r step.dropped w
-LookMeans b w s (makes step.rests r) = ⊥
-LookMeans b w s (makes step.undecided r) = ⊥
-LookMeans b w s (makes step.conflict r) = ⊥
+LookMeans b w s (halts e r) =
+    ((e ≡ undecided) × StoppedBy b s r step.undecided w) ⊎ ((e ≡ conflict) × StoppedBy b s r step.conflict w)
+LookMeans b w s (makes m r) =
+    ((m ≡ step.drew) × StoppedBy b s r step.drew w) ⊎ ((m ≡ step.dropped) × StoppedBy b s r step.dropped w)
 
 module _ (b : Board) (w : ℕ) (s : State) where
   resting-none : Resting b s 0 w
@@ -49,11 +45,11 @@ module _ (b : Board) (w : ℕ) (s : State) where
   -- relay r comes to m, all below it rest, and the relays after it mean what they say
   decides-means : (m : step.Move) (r : ℕ) (next : Look) → r < b .counts .relays → Resting b s r w → Comes b s r m w
       → (Resting b s (r + 1) w → LookMeans b w s next) → LookMeans b w s (decides m r next)
-  decides-means step.drew r next below rest here later = (below, (rest, here))
-  decides-means step.dropped r next below rest here later = (below, (rest, here))
+  decides-means step.drew r next below rest here later = inl (refl, (below, rest, here))
+  decides-means step.dropped r next below rest here later = inr (refl, (below, rest, here))
   decides-means step.rests r next below rest here later = later (resting-more r rest here)
-  decides-means step.undecided r next below rest here later = (below, (rest, here))
-  decides-means step.conflict r next below rest here later = (below, (rest, here))
+  decides-means step.undecided r next below rest here later = inl (refl, (below, rest, here))
+  decides-means step.conflict r next below rest here later = inr (refl, (below, rest, here))
 
   module _ (fine : boardFine b ≡ true) (fits : stateFine (b .counts) s ≡ true) where
     -- n relays are left to look at

@@ -12,10 +12,11 @@ use Rattle.state.specs.States.{stateFine}
 use Rattle.moves.specs.Steps as step
 use Rattle.moves.proofs.StepLaws.{made-fits}
 use Rattle.moves_means.specs.Guards.{CanDraw, CanDrop}
-use Rattle.moves_means.proofs.ComesLaws.{comes-once}
+use Rattle.moves_means.proofs.ComesLaws.{comes-exclusive}
 use Rattle.runs.specs.Looks.{Ending, idle, spent, undecided, conflict, Look, quiet, halts, makes, byteOf, lookFrom}
 use Rattle.runs.specs.Runs.{noRelay, Run, ends, logged, runOf}
-use Rattle.runs.proofs.RunLaws.{run-quiet, run-halts, run-spent, run-moves}
+use Rattle.runs.proofs.RunLaws.{run-holds}
+use Rattle.runs.proofs.RunFits.{look-makes-below}
 use Rattle.runs_means.specs.Courses.{LowestMove, Follows, Resting, StoppedBy, Ended}
 use Rattle.runs_means.proofs.LookMeans.{LookMeans, look-means}
 
@@ -24,36 +25,24 @@ module _ (b : Board) (w : ℕ) where
 
   -- of the relays below the one that stopped the look no guard holds
   unguarded : (s : State) (r : ℕ) → Resting b s r w → (q : ℕ) → q < r → ¬ (CanDraw b s q) × ¬ (CanDrop b s q)
-  unguarded s r rest q below = rest q below .1 .1
+  unguarded s r rest q below = (rest q below .2, rest q below .3)
 
   stopped-moves : (s : State) (m : step.Move) (r : ℕ) → LookMeans b w s (makes m r)
       → LowestMove b s (byteOf r m) (step.made s r m) w
-  stopped-moves s step.drew r stopped =
-      record {
+  stopped-moves s m r (inl (is, stopped)) =
+      rw is (record {
         relay = r;
-        made = inl (refl, (stopped, refl));
-        guarded = inl (stopped .1 .1 .1 .1);
-        lowest =
-            unguarded s r (stopped .1 .0);
-      }
-  stopped-moves s step.dropped r stopped =
-      record {
+        made = inl (refl, stopped, refl);
+        guarded = inl (stopped .2 .2);
+        lowest = unguarded s r (stopped .1);
+      })
+  stopped-moves s m r (inr (is, stopped)) =
+      rw is (record {
         relay = r;
-        made = inr (refl, (stopped, refl));
-        guarded = inr (stopped .1 .1 .1 .1);
-        lowest =
-            unguarded s r (stopped .1 .0);
-      }
-  stopped-moves s step.rests r never = absurd never
-  stopped-moves s step.undecided r never = absurd never
-  stopped-moves s step.conflict r never = absurd never
-
-  stopped-below : (s : State) (m : step.Move) (r : ℕ) → LookMeans b w s (makes m r) → r < b .counts .relays
-  stopped-below s step.drew r stopped = stopped .0
-  stopped-below s step.dropped r stopped = stopped .0
-  stopped-below s step.rests r never = absurd never
-  stopped-below s step.undecided r never = absurd never
-  stopped-below s step.conflict r never = absurd never
+        made = inr (refl, stopped, refl);
+        guarded = inr (stopped .2 .2);
+        lowest = unguarded s r (stopped .1);
+      })
 
   -- ---- the whole run
 
@@ -67,17 +56,12 @@ module _ (b : Board) (w : ℕ) where
   says-ends n s e r h = record { follows = refl; ended = h }
 
   halts-ended : (n : ℕ) (s : State) (e : Ending) (r : ℕ) → LookMeans b w s (halts e r) → Ended b n 0 s r e w
-  halts-ended n s idle r never = absurd never
-  halts-ended n s spent r never = absurd never
-  halts-ended n s undecided r stopped = stopped
-  halts-ended n s conflict r stopped = stopped
+  halts-ended n s e r (inl (is, stopped)) = rw is stopped
+  halts-ended n s e r (inr (is, stopped)) = rw is stopped
 
   full-ended : (s : State) (m : step.Move) (r : ℕ) → LookMeans b w s (makes m r) → Ended b 0 0 s r spent w
-  full-ended s step.drew r stopped = (refl, inl stopped)
-  full-ended s step.dropped r stopped = (refl, inr stopped)
-  full-ended s step.rests r never = absurd never
-  full-ended s step.undecided r never = absurd never
-  full-ended s step.conflict r never = absurd never
+  full-ended s m r (inl (is, stopped)) = (refl, inl stopped)
+  full-ended s m r (inr (is, stopped)) = (refl, inr stopped)
 
   -- one move more, and room for one more
   ended-more : (n k : ℕ) (s : State) (r : ℕ) (e : Ending) → Ended b n k s r e w → Ended b (suc n) (suc k) s r e w
@@ -91,41 +75,25 @@ module _ (b : Board) (w : ℕ) where
   unfolding Follows
   says-logged n s c t x move on =
       record {
-        follows = (t, (move, on .follows));
-        ended = ended-more n (length (x .bytes)) (x .state) (x .relay)
-            (x .word) (on .ended);
+        follows = (t, move, on .follows);
+        ended = ended-more n (length (x .bytes)) (x .state) (x .relay) (x .word) (on .ended);
       }
 
   module _ (fine : boardFine b ≡ true) where
-    abbrev run : ℕ → State → Run
-    run n s = runOf (step.stepper b w) (b .counts .relays) n s
+    means : (s : State) (l : Look) → lookFrom (step.stepper b w) s (b .counts .relays) 0 ≡ l
+        → stateFine (b .counts) s ≡ true → LookMeans b w s l
+    means s l e fits = subst (LookMeans b w s) e (look-means b w s fine fits)
 
-    abbrev look : State → Look
-    look s = lookFrom (step.stepper b w) s (b .counts .relays) 0
-
-    -- a look that comes to no move ends the run, whatever its room
-    says-look : (n : ℕ) (s : State) (l : Look) → look s ≡ l → LookMeans b w s l
-        → ((m : step.Move) (r : ℕ) → look s ≡ makes m r → LookMeans b w s (makes m r) → Says n s (run n s))
-        → Says n s (run n s)
-    says-look n s quiet e means on =
-        subst (Says n s) (sym (run-quiet (step.stepper b w) (b .counts .relays) s n e))
-        (says-ends n s idle noRelay (refl, means))
-    says-look n s (halts h r) e means on =
-        subst (Says n s) (sym (run-halts (step.stepper b w) (b .counts .relays) s n h r e))
-        (says-ends n s h r (halts-ended n s h r means))
-    says-look n s (makes m r) e means on = on m r e means
-
-    pub run-says : (n : ℕ) (s : State) → stateFine (b .counts) s ≡ true → Says n s (run n s)
-    run-says zero s fits =
-        says-look zero s (look s) refl (look-means b w s fine fits)
-        (λ m r e means. subst (Says zero s) (sym (run-spent (step.stepper b w) (b .counts .relays) s m r e))
-        (says-ends zero s spent r (full-ended s m r means)))
-    run-says (suc n) s fits =
-        says-look (suc n) s (look s) refl (look-means b w s fine fits)
-        (λ m r e means.
-        subst (Says (suc n) s) (sym (run-moves (step.stepper b w) (b .counts .relays) s n m r e))
-        (says-logged n s (byteOf r m) (step.made s r m) (run n (step.made s r m)) (stopped-moves s m r means)
-        (run-says n (step.made s r m) (made-fits (b .counts) s r m fits (stopped-below s m r means)))))
+    pub run-says : (n : ℕ) (s : State) → stateFine (b .counts) s ≡ true
+        → Says n s (runOf (step.stepper b w) (b .counts .relays) n s)
+    run-says =
+        run-holds (step.stepper b w) (b .counts .relays) (λ n s x. stateFine (b .counts) s ≡ true → Says n s x)
+        (λ n s e fits. says-ends n s idle noRelay (refl, means s quiet e fits))
+        (λ n s h r e fits. says-ends n s h r (halts-ended n s h r (means s (halts h r) e fits)))
+        (λ s m r e fits. says-ends zero s spent r (full-ended s m r (means s (makes m r) e fits)))
+        (λ n s m r x e on fits.
+        says-logged n s (byteOf r m) (step.made s r m) x (stopped-moves s m r (means s (makes m r) e fits))
+        (on (made-fits (b .counts) s r m fits (look-makes-below (step.stepper b w) s (b .counts .relays) m r e))))
 
   -- ---- of one run only one word can be said
 
@@ -138,32 +106,32 @@ module _ (b : Board) (w : ℕ) where
   wordBy step.conflict = conflict
 
   record Stopped (s : State) (r : ℕ) (e : Ending) : Type 0 where
-    motion : step.Move
-    stops : StoppedBy b s r motion w
-    says : wordBy motion ≡ e
+    move : step.Move
+    stops : StoppedBy b s r move w
+    says : wordBy move ≡ e
 
   ended-by : (n k : ℕ) (s : State) (r : ℕ) (e : Ending) → Ended b n k s r e w
       → ((idle ≡ e) × Resting b s (b .counts .relays) w) ⊎ Stopped s r e
   ended-by n k s r idle h = inl (refl, h .1)
   ended-by n k s r spent h =
-      inr (⊎-elim (λ x. record { motion = step.drew; stops = x; says = refl })
-      (λ x. record { motion = step.dropped; stops = x; says = refl }) (h .1))
-  ended-by n k s r undecided h = inr (record { motion = step.undecided; stops = h; says = refl })
-  ended-by n k s r conflict h = inr (record { motion = step.conflict; stops = h; says = refl })
+      inr (⊎-elim (λ x. record { move = step.drew; stops = x; says = refl })
+      (λ x. record { move = step.dropped; stops = x; says = refl }) (h .1))
+  ended-by n k s r undecided h = inr (record { move = step.undecided; stops = h; says = refl })
+  ended-by n k s r conflict h = inr (record { move = step.conflict; stops = h; says = refl })
 
   -- where all rest, what a relay came to is that it rests
   rests-stopped : (s : State) (r : ℕ) (e : Ending) → Resting b s (b .counts .relays) w → Stopped s r e → idle ≡ e
   rests-stopped s r e rest x =
-      ap wordBy (comes-once b w s r step.rests (x .motion) (rest r (x .stops .0)) (x .stops .1 .1)) ∙ x .says
+      ap wordBy (comes-exclusive b w s r step.rests (x .move) (rest r (x .stops .0)) (x .stops .2)) ∙ x .says
 
-  causes-once : (s : State) (r : ℕ) (d e : Ending) → ((idle ≡ d) × Resting b s (b .counts .relays) w)
+  causes-exclusive : (s : State) (r : ℕ) (d e : Ending) → ((idle ≡ d) × Resting b s (b .counts .relays) w)
       ⊎ Stopped s r d → ((idle ≡ e) × Resting b s (b .counts .relays) w) ⊎ Stopped s r e → d ≡ e
-  causes-once s r d e (inl x) (inl y) = sym (x .0) ∙ y .0
-  causes-once s r d e (inl x) (inr y) = sym (x .0) ∙ rests-stopped s r e (x .1) y
-  causes-once s r d e (inr x) (inl y) = sym (rests-stopped s r d (y .1) x) ∙ y .0
-  causes-once s r d e (inr x) (inr y) =
-      sym (x .says) ∙ ap wordBy (comes-once b w s r (x .motion) (y .motion) (x .stops .1 .1) (y .stops .1 .1))
+  causes-exclusive s r d e (inl x) (inl y) = sym (x .0) ∙ y .0
+  causes-exclusive s r d e (inl x) (inr y) = sym (x .0) ∙ rests-stopped s r e (x .1) y
+  causes-exclusive s r d e (inr x) (inl y) = sym (rests-stopped s r d (y .1) x) ∙ y .0
+  causes-exclusive s r d e (inr x) (inr y) =
+      sym (x .says) ∙ ap wordBy (comes-exclusive b w s r (x .move) (y .move) (x .stops .2) (y .stops .2))
       ∙ y .says
 
-  pub ended-once : (n k : ℕ) (s : State) (r : ℕ) (d e : Ending) → Ended b n k s r d w → Ended b n k s r e w → d ≡ e
-  ended-once n k s r d e x y = causes-once s r d e (ended-by n k s r d x) (ended-by n k s r e y)
+  pub ended-exclusive : (n k : ℕ) (s : State) (r : ℕ) (d e : Ending) → Ended b n k s r d w → Ended b n k s r e w → d ≡ e
+  ended-exclusive n k s r d e x y = causes-exclusive s r d e (ended-by n k s r d x) (ended-by n k s r e y)

@@ -36,18 +36,18 @@ abbrev pub Resting : Board → State → ℕ → ℕ → Type 0
 Resting b s k w = (q : ℕ) → q < k → Comes b s q step.rests w
 
 abbrev pub StoppedBy : Board → State → ℕ → step.Move → ℕ → Type 0
-StoppedBy b s r m w = (r < b .counts .relays) × (Resting b s r w × Comes b s r m w)
+StoppedBy b s r m w = (r < b .counts .relays) × Resting b s r w × Comes b s r m w
 
 pub record LowestMove (b : Board) (s : State) (c : ℕ) (t : State) (w : ℕ) : Type 0 where
   pub relay : ℕ
-  pub made : ((c ≡ relay + drawMark) × (StoppedBy b s relay step.drew w × (t ≡ withDrawn s relay)))
-      ⊎ ((c ≡ relay) × (StoppedBy b s relay step.dropped w × (t ≡ withDropped s relay)))
+  pub made : ((c ≡ relay + drawMark) × StoppedBy b s relay step.drew w × (t ≡ withDrawn s relay))
+      ⊎ ((c ≡ relay) × StoppedBy b s relay step.dropped w × (t ≡ withDropped s relay))
   pub guarded : CanDraw b s relay ⊎ CanDrop b s relay
   pub lowest : (q : ℕ) → q < relay → ¬ (CanDraw b s q) × ¬ (CanDrop b s q)
 
 unfoldable pub Follows : Board → State → List ℕ → State → ℕ → Type 0
 Follows b s [] t w = s ≡ t
-Follows b s (c ∷ cs) t w = (u : State) × (LowestMove b s c u w × Follows b u cs t w)
+Follows b s (c ∷ cs) t w = (u : State) × LowestMove b s c u w × Follows b u cs t w
 
 abbrev pub Ended : Board → ℕ → ℕ → State → ℕ → Ending → ℕ → Type 0
 Ended b n m s r idle w = (r ≡ noRelay) × Resting b s (b .counts .relays) w

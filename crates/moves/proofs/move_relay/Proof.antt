@@ -49,7 +49,7 @@ returns-4 c =
       c .before .before .before .before .before .wide .ensures,
       c .before .before .before .before .if3 .left,
     )))
-    (c .before .step .ensures ∙ step-by _ _ _ _ _ (c .before .before .before .neighbours .ensures))
+    (step-by _ _ _ _ _ _ (c .before .before .before .neighbours .ensures) (c .before .step .ensures))
     (c .after .ensures)
 
 pub move-relay-spec : {M : Type 1} → statement M

@@ -3,7 +3,7 @@ use borrow.Author.Needs.{needs}
 use Rattle.moves.proofs.regular.Statement.{statement}
 use Rattle.moves.proofs.regular.Tie as tie
 use mathlib.Core.Path.{sym, _∙_}
-use Rattle.moves.proofs.MotionLaws.{regular-undecided, regular-live, regular-dead}
+use Rattle.moves.proofs.MoveLaws.{regular-undecided, regular-live, regular-dead}
 
 returns : tie.Need-returns
 returns c = regular-undecided _ _ (sym (c .before .is-undecided .ensures) ∙ c .if1 .taken)

@@ -3,55 +3,38 @@ use borrow.Author.Needs.{needs}
 use Rattle.moves.proofs.steel.Statement.{statement}
 use Rattle.moves.proofs.steel.Tie as tie
 use mathlib.Core.Path.{sym, _∙_}
-use Rattle.moves.proofs.MotionLaws.{steel-undecided, steel-undecided-second, steel-conflict, steel-draws}
-use Rattle.moves.proofs.MotionLaws.{steel-drops, steel-rests}
+use Rattle.moves.proofs.MoveLaws.{steel-undecided, steel-conflict, steel-draws, steel-drops, steel-rests}
 
 returns : tie.Need-returns
-returns c = steel-undecided _ _ _ (sym (c .before .is-undecided .ensures) ∙ c .if1 .taken)
+returns c = steel-undecided _ _ _ (sym (c .before .either-undecided .ensures) ∙ c .if1 .taken)
 
 returns-2 : tie.Need-returns-2
 returns-2 c =
-    steel-undecided-second _ _ _ (sym (c .before .before .before .is-undecided .ensures)
-    ∙ c .before .before .if1 .left) (sym (c .before .is-undecided2 .ensures) ∙ c .if2 .taken)
+    steel-conflict _ _ (sym (c .before .before .before .either-undecided .ensures) ∙ c .before .before .if1 .left) _
+    (sym (c .before .both-live .ensures) ∙ c .if2 .taken)
 
 returns-3 : tie.Need-returns-3
 returns-3 c =
-    steel-conflict _ _ (sym (c .before .before .before .before .before .is-undecided .ensures)
-    ∙ c .before .before .before .before .if1 .left)
-    (sym (c .before .before .before .is-undecided2 .ensures) ∙ c .before .before .if2 .left) _
-    (sym (c .before .both-live .ensures) ∙ c .if3 .taken)
+    let at-if1 = c .before .before .before .before .before in
+    c .draws .ensures
+    ∙ steel-draws _ _ (sym (at-if1 .before .either-undecided .ensures) ∙ at-if1 .if1 .left) _
+    (sym (c .before .before .before .before .both-live .ensures) ∙ c .before .before .before .if2 .left)
+    (sym (c .before .before .is-live .ensures) ∙ c .before .if3 .taken)
 
 returns-4 : tie.Need-returns-4
 returns-4 c =
-    let at-is-undecided2 = c .before .before .before .before .before .before in
-    let at-if1 = at-is-undecided2 .before in
-    let at-is-undecided = at-if1 .before in
-    c .draws .ensures ∙ steel-draws _ _ (sym (at-is-undecided .is-undecided .ensures) ∙ at-if1 .if1 .left)
-    (sym (at-is-undecided2 .is-undecided2 .ensures) ∙ c .before .before .before .before .before .if2 .left) _
-    (sym (c .before .before .before .before .both-live .ensures) ∙ c .before .before .before .if3 .left)
-    (sym (c .before .before .is-live .ensures) ∙ c .before .if4 .taken)
+    let at-if1 = c .before .before .before .before .before .before .before in
+    c .drops .ensures
+    ∙ steel-drops _ _ (sym (at-if1 .before .either-undecided .ensures) ∙ at-if1 .if1 .left) _
+    (sym (c .before .before .before .before .is-live .ensures) ∙ c .before .before .before .if3 .left)
+    (sym (c .before .before .is-live2 .ensures) ∙ c .before .if4 .taken)
 
 returns-5 : tie.Need-returns-5
 returns-5 c =
-    let at-if2 = c .before .before .before .before .before .before .before in
-    let at-is-undecided2 = at-if2 .before in
-    let at-if1 = at-is-undecided2 .before in
-    let at-is-undecided = at-if1 .before in
-    c .drops .ensures ∙ steel-drops _ _ (sym (at-is-undecided .is-undecided .ensures) ∙ at-if1 .if1 .left)
-    (sym (at-is-undecided2 .is-undecided2 .ensures) ∙ at-if2 .if2 .left) _
-    (sym (c .before .before .before .before .is-live .ensures) ∙ c .before .before .before .if4 .left)
-    (sym (c .before .before .is-live2 .ensures) ∙ c .before .if5 .taken)
-
-returns-6 : tie.Need-returns-6
-returns-6 c =
-    let at-if2 = c .before .before .before .before .before .before in
-    let at-is-undecided2 = at-if2 .before in
-    let at-if1 = at-is-undecided2 .before in
-    let at-is-undecided = at-if1 .before in
-    steel-rests _ _ (sym (at-is-undecided .is-undecided .ensures) ∙ at-if1 .if1 .left)
-    (sym (at-is-undecided2 .is-undecided2 .ensures) ∙ at-if2 .if2 .left) _
-    (sym (c .before .before .before .is-live .ensures) ∙ c .before .before .if4 .left)
-    (sym (c .before .is-live2 .ensures) ∙ c .if5 .left)
+    let at-if1 = c .before .before .before .before .before .before in
+    steel-rests _ _ (sym (at-if1 .before .either-undecided .ensures) ∙ at-if1 .if1 .left) _
+    (sym (c .before .before .before .is-live .ensures) ∙ c .before .before .if3 .left)
+    (sym (c .before .is-live2 .ensures) ∙ c .if4 .left)
 
 pub steel-spec : {M : Type 1} → statement M
 steel-spec =
@@ -62,11 +45,9 @@ steel-spec =
     (λ c κs. search needs)
     returns-2
     (λ c κs. search needs)
+    (λ c κs. search needs)
     returns-3
     (λ c κs. search needs)
     (λ c κs. search needs)
     returns-4
-    (λ c κs. search needs)
-    (λ c κs. search needs)
-    returns-5
-    returns-6)
+    returns-5)

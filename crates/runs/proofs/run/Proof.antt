@@ -6,19 +6,17 @@ use mathlib.Core.Path.{sym, _∙_}
 use borrow.Author.Tests.{not-true, not-false}
 use Rattle.board.proofs.FineLaws.{fine-range}
 use Rattle.state.proofs.StateLaws.{usable-broken, usable-beyond, usable-fine}
-use Rattle.runs.proofs.RunningLaws.{runnable-unusable, runnable-long, runnable-log, running-by, unrun-log}
+use Rattle.runs.proofs.RunningLaws.{runnable-unusable, runnable-long, runnable-log, running-refused, running-ran}
 
 returns : tie.Need-returns
 returns c =
-    unrun-log (c .refuse .result) _ _ _ _ (c .refuse .ensures)
-    ∙ running-by _ _ _ _ _
+    running-refused _ _ _ _ (c .refuse .result) _ _ (c .refuse .ensures)
     (runnable-unusable _ _ _ _ _
     (usable-broken _ _ (sym (c .before .before .check .ensures) ∙ not-true _ (c .before .if1 .taken))))
 
 returns-2 : tie.Need-returns-2
 returns-2 c =
-    unrun-log (c .refuse2 .result) _ _ _ _ (c .refuse2 .ensures)
-    ∙ running-by _ _ _ _ _
+    running-refused _ _ _ _ (c .refuse2 .result) _ _ (c .refuse2 .ensures)
     (runnable-unusable _ _ _ _ _
     (usable-beyond _ _ (sym (c .before .before .before .before .before .check .ensures)
     ∙ not-false _ (c .before .before .before .before .if1 .left))
@@ -27,8 +25,7 @@ returns-2 c =
 returns-3 : tie.Need-returns-3
 returns-3 c =
     let at-check = c .before .before .before .before .before .before in
-    unrun-log (c .refuse3 .result) _ _ _ _ (c .refuse3 .ensures)
-    ∙ running-by _ _ _ _ _
+    running-refused _ _ _ _ (c .refuse3 .result) _ _ (c .refuse3 .ensures)
     (runnable-long _ _ _
     (usable-fine _ _ (sym (at-check .check .ensures)
     ∙ not-false _ (c .before .before .before .before .before .if1 .left))
@@ -46,7 +43,7 @@ returns-4 c =
     let at-fits2 = c .before .before .before .before .before .before in
     let at-if1 = at-fits2 .before .before in
     let at-check = at-if1 .before in
-    c .before .before .follow .ensures ∙ running-by _ _ _ _ _
+    running-ran _ _ _ _ _ (c .before .before .follow .ensures)
     (runnable-log _ _ _ (usable-fine _ _ (sym (at-check .check .ensures) ∙ not-false _ (at-if1 .if1 .left))
     (sym (at-fits2 .fits2 .ensures) ∙ not-false _ (c .before .before .before .before .before .if2 .left)))
     (c .before .before .before .before .if3 .left))

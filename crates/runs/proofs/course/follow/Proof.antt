@@ -4,19 +4,19 @@ use Rattle.runs.proofs.course.follow.Statement.{statement}
 use Rattle.runs.proofs.course.follow.Tie as tie
 use borrow.Author.Needs.{needs}
 use native.Mathlib.Omega.{arith}
-use Prim.Native.Nat.{ℕ, _-_}
-use mathlib.Core.Path.{sym, ap, _∙_}
+use Prim.Native.Nat.{_-_}
+use mathlib.Core.Path.{ap}
 use lib.ListN.{length}
-use Rattle.moves.specs.Steps.{made, toldMove, stepper}
+use Rattle.moves.specs.Steps.{toldMove, stepper}
 use Rattle.runs.specs.Runs.{runOf}
 use Rattle.runs.specs.Running.{ran}
-use Rattle.runs.proofs.SeenLaws.{step-seen, motion-moves}
-use Rattle.runs.proofs.CourseLaws.{Course, ScanSoFar, course-starts, scan-starts, scan-rests, course-idle}
-use Rattle.runs.proofs.CourseLaws.{course-undecided, course-conflict, course-spent, course-moves}
+use Rattle.runs.proofs.SeenLaws.{seeing, step-seen, told-moving}
+use Rattle.runs.proofs.CourseLaws.{Course, ScanSoFar, course-starts, scan-starts, scan-rests, scan-long}
+use Rattle.runs.proofs.CourseLaws.{course-idle, course-undecided, course-conflict, course-spent, course-moves}
 
 abbrev Inv-scan : tie.InvT-scan
 Inv-scan board log₀ allowance relays state₀ moves₀ near relay₀ log state moves relay =
-    ScanSoFar (stepper board allowance) relays log₀ moves₀ state₀ log moves state relay
+    ScanSoFar (stepper board allowance) (seeing board near allowance) relays log₀ moves₀ state₀ log moves state relay
 
 abbrev μ-scan : tie.MeasureT-scan
 μ-scan board log₀ allowance relays state₀ moves₀ near relay₀ log state moves relay = relays - relay
@@ -33,109 +33,80 @@ run-holds : tie.Need-run-holds Inv-scan μ-scan Inv-run μ-run
 run-holds c = course-starts _ _ _ _
 
 scan-holds : tie.Need-scan-holds Inv-scan μ-scan Inv-run μ-run
-scan-holds c = scan-starts _ _ _ _ _
+scan-holds c = scan-starts _ _ _ _ _ _ (step-seen _ _ _ _ (c .neighbours .ensures))
 
 scan-again : tie.Need-scan-again Inv-scan μ-scan Inv-run μ-run
 scan-again c =
-    let at-scan = c .before .before .before .before .before .before in
-    let at-neighbours = at-scan .before in
-    scan-rests _ _ _ _ _ _ _ _ _ (at-scan .scan .inv) (c .before .before .before .before .before .if1 .left)
-    (sym (ap toldMove (c .enum-told .given .1))
-    ∙ (step-seen _ _ _ _ _ _ _ _ (at-neighbours .neighbours .ensures) (at-scan .scan .inv .same-state)
-    (c .before .before .before .wide .ensures .0) (c .before .before .step .ensures)))
+    let at-if1 = c .before .before .before .before .before in
+    scan-rests (at-if1 .before .scan .inv) (at-if1 .if1 .left) (c .before .before .before .wide .ensures .0)
+    (c .before .before .step .ensures) (ap toldMove (c .enum-told .given .1))
 
 run-less : tie.Need-run-less Inv-scan μ-scan Inv-run μ-run
 run-less c =
     let at-scan = c .before .before .before .before .before .before .before .before .before in
-    let at-run = at-scan .before .before in
     omega (
       arith,
       at-scan .scan .inv .same-moves,
-      ap length (at-scan .scan .inv .same-log),
-      at-run .run .inv .long,
+      scan-long (at-scan .scan .inv) (at-scan .before .before .run .inv),
       c .before .before .before .if2 .left,
     )
 
 run-again : tie.Need-run-again Inv-scan μ-scan Inv-run μ-run
 run-again c =
     let at-step = c .before .before .before .before .before in
-    let at-wide = at-step .before in
-    let at-if1 = at-wide .before .before in
+    let at-if1 = at-step .before .before .before in
     let at-scan = at-if1 .before in
-    let at-neighbours = at-scan .before in
-    let at-run = at-neighbours .before in
-    course-moves _ _ _ _ _ _ _ _ _ (at-scan .scan .inv) _ _ (at-run .run .inv) (toldMove (at-step .step .result)) _
-    _ (at-if1 .if1 .left) (step-seen _ _ _ _ _ _ _ _ (at-neighbours .neighbours .ensures)
-    (at-scan .scan .inv .same-state) (at-wide .wide .ensures .0) (at-step .step .ensures))
-    (motion-moves (at-step .step .result) (c .before .before .before .before .match .keys4))
-    (omega (
-      arith,
-      ap length (at-scan .scan .inv .same-log),
-      at-run .run .inv .long,
-      c .before .before .before .if2 .left,
-    )) (c .before .before .byte .ensures)
-    (c .after .ensures ∙ ap (λ (q : ℕ). made (at-scan .scan .state) q (toldMove (at-step .step .result)))
-    (c .before .wide2 .ensures .0))
+    course-moves (at-scan .scan .inv) (at-scan .before .before .run .inv) (at-if1 .if1 .left)
+    (at-step .before .wide .ensures .0) (at-step .step .ensures)
+    (told-moving (at-step .step .result) (c .before .before .before .before .match .keys4))
+    (c .before .before .before .if2 .left) (c .before .before .byte .ensures) (c .before .wide2 .ensures .0)
+    (c .after .ensures)
 
 same-length : tie.Need-same-length Inv-scan μ-scan Inv-run μ-run
-same-length c = sym (ap length (c .before .scan .inv .same-log)) ∙ c .before .before .before .run .inv .long
+same-length c = scan-long (c .before .scan .inv) (c .before .before .before .run .inv)
 
 returns : tie.Need-returns Inv-scan μ-scan Inv-run μ-run
-returns c =
-    course-idle _ _ _ _ _ _ _ _ _ (c .before .scan .inv) _ _ (c .before .before .before .run .inv) (c .if1 .taken)
+returns c = course-idle (c .before .scan .inv) (c .before .before .before .run .inv) (c .if1 .taken)
 
 same-length-2 : tie.Need-same-length-2 Inv-scan μ-scan Inv-run μ-run
 same-length-2 c =
     let at-scan = c .before .before .before .before .before .before in
-    let at-run = at-scan .before .before in
-    sym (ap length (at-scan .scan .inv .same-log)) ∙ at-run .run .inv .long
+    scan-long (at-scan .scan .inv) (at-scan .before .before .run .inv)
 
 returns-2 : tie.Need-returns-2 Inv-scan μ-scan Inv-run μ-run
 returns-2 c =
-    let at-scan = c .before .before .before .before .before .before in
-    let at-neighbours = at-scan .before in
-    let at-run = at-neighbours .before in
-    course-undecided _ _ _ _ _ _ _ _ _ (at-scan .scan .inv) _ _ (at-run .run .inv)
-    (c .before .before .before .before .before .if1 .left)
-    (sym (ap toldMove (c .enum-told2 .given .1))
-    ∙ (step-seen _ _ _ _ _ _ _ _ (at-neighbours .neighbours .ensures) (at-scan .scan .inv .same-state)
-    (c .before .before .before .wide .ensures .0) (c .before .before .step .ensures)))
+    let at-if1 = c .before .before .before .before .before in
+    let at-scan = at-if1 .before in
+    course-undecided (at-scan .scan .inv) (at-scan .before .before .run .inv) (at-if1 .if1 .left)
+    (c .before .before .before .wide .ensures .0) (c .before .before .step .ensures)
+    (ap toldMove (c .enum-told2 .given .1))
 
 same-length-3 : tie.Need-same-length-3 Inv-scan μ-scan Inv-run μ-run
 same-length-3 c =
     let at-scan = c .before .before .before .before .before .before in
-    let at-run = at-scan .before .before in
-    sym (ap length (at-scan .scan .inv .same-log)) ∙ at-run .run .inv .long
+    scan-long (at-scan .scan .inv) (at-scan .before .before .run .inv)
 
 returns-3 : tie.Need-returns-3 Inv-scan μ-scan Inv-run μ-run
 returns-3 c =
-    let at-scan = c .before .before .before .before .before .before in
-    let at-neighbours = at-scan .before in
-    let at-run = at-neighbours .before in
-    course-conflict _ _ _ _ _ _ _ _ _ (at-scan .scan .inv) _ _ (at-run .run .inv)
-    (c .before .before .before .before .before .if1 .left)
-    (sym (ap toldMove (c .enum-told3 .given .1))
-    ∙ (step-seen _ _ _ _ _ _ _ _ (at-neighbours .neighbours .ensures) (at-scan .scan .inv .same-state)
-    (c .before .before .before .wide .ensures .0) (c .before .before .step .ensures)))
+    let at-if1 = c .before .before .before .before .before in
+    let at-scan = at-if1 .before in
+    course-conflict (at-scan .scan .inv) (at-scan .before .before .run .inv) (at-if1 .if1 .left)
+    (c .before .before .before .wide .ensures .0) (c .before .before .step .ensures)
+    (ap toldMove (c .enum-told3 .given .1))
 
 same-length-4 : tie.Need-same-length-4 Inv-scan μ-scan Inv-run μ-run
 same-length-4 c =
     let at-scan = c .before .before .before .before .before .before in
-    let at-run = at-scan .before .before in
-    sym (ap length (at-scan .scan .inv .same-log)) ∙ at-run .run .inv .long
+    scan-long (at-scan .scan .inv) (at-scan .before .before .run .inv)
 
 returns-4 : tie.Need-returns-4 Inv-scan μ-scan Inv-run μ-run
 returns-4 c =
     let at-step = c .before .before in
-    let at-scan = at-step .before .before .before .before in
-    let at-neighbours = at-scan .before in
-    let at-run = at-neighbours .before in
-    course-spent _ _ _ _ _ _ _ _ _ (at-scan .scan .inv) _ _ (at-run .run .inv) (toldMove (at-step .step .result))
-    (c .before .before .before .before .before .if1 .left)
-    (step-seen _ _ _ _ _ _ _ _ (at-neighbours .neighbours .ensures) (at-scan .scan .inv .same-state)
-    (c .before .before .before .wide .ensures .0) (at-step .step .ensures))
-    (motion-moves (at-step .step .result) (c .before .match .keys4))
-    (omega (arith, ap length (at-scan .scan .inv .same-log), at-run .run .inv .long, c .if2 .taken))
+    let at-if1 = at-step .before .before .before in
+    let at-scan = at-if1 .before in
+    course-spent (at-scan .scan .inv) (at-scan .before .before .run .inv) (at-if1 .if1 .left)
+    (at-step .before .wide .ensures .0) (at-step .step .ensures)
+    (told-moving (at-step .step .result) (c .before .match .keys4)) (c .if2 .taken)
 
 pub follow-spec : {M : Type 1} → statement M
 follow-spec =

@@ -1,8 +1,8 @@
--- What the word on one winding says in the words of the published model: live, that there is current through it; dead,
--- that there is none; undecided, that it needs more than the allowance. And which windings of a relay have a word.
---     Within b s r n w         winding n of relay r, if there is one, needs no more than the allowance w
---     WordSays b s r n x w     what the word x says of it
---     HasWord b s r n w        the word that `judge` gives it, and that what it says is so
+-- What the finding on one winding says in the words of the published model: live, that there is current through it;
+-- dead, that there is none; undecided, that it needs more than the allowance. And which windings of a relay have one.
+--     Within b s r n w           winding n of relay r, if there is one, needs no more than the allowance w
+--     FindingSays b s r n x w    what the finding x says of it
+--     HasFinding b s r n w       the finding of `judge` on it, and that what it says is so
 use Prim.Native.Nat.{ℕ, _<_, _≤_}
 use native.Mathlib.Omega.{arith}
 use mathlib.Core.Path.{_≡_, refl, sym, ap, subst, _∙_}
@@ -42,15 +42,15 @@ use Rattle.moves_means.proofs.CurrentLaws.{through-carries, carries-thr
 abbrev pub Within : Board → State → ℕ → Which → ℕ → Type 0
 Within b s r n w = (e : Winding) → windingOf n r (partsOf b) ≡ given e → effortOf b s e ≤ w
 
-abbrev pub WordSays : Board → State → ℕ → Which → Finding → ℕ → Type 0
-WordSays b s r n live w = Within b s r n w × CurrentThrough b s r n
-WordSays b s r n dead w = Within b s r n w × ¬ (CurrentThrough b s r n)
-WordSays b s r n undecided w = NeedsMore b s r w
+abbrev pub FindingSays : Board → State → ℕ → Which → Finding → ℕ → Type 0
+FindingSays b s r n live w = Within b s r n w × CurrentThrough b s r n
+FindingSays b s r n dead w = Within b s r n w × ¬ (CurrentThrough b s r n)
+FindingSays b s r n undecided w = NeedsMore b s r w
 
-pub record HasWord (b : Board) (s : State) (r : ℕ) (n : Which) (w : ℕ) : Type 0 where
-  pub word : Finding
-  pub judged : judging b s r n w .finding ≡ given word
-  pub says : WordSays b s r n word w
+pub record HasFinding (b : Board) (s : State) (r : ℕ) (n : Which) (w : ℕ) : Type 0 where
+  pub finding : Finding
+  pub judged : judging b s r n w .finding ≡ given finding
+  pub says : FindingSays b s r n finding w
 
 -- ---- winding n of relay r is found, and is e
 
@@ -65,12 +65,12 @@ module _ (b : Board) (w : ℕ) (s : State) (r : ℕ) (n : Which) (e : Winding)
   unfolding verdictBy
   accepted-weighed taken = judging-by b s r n w (given e) taken
 
-  found-word : boardFine b ≡ true → stateFine (b .counts) s ≡ true → HasWord b s r n w
-  found-word fine fits =
+  found-finding : boardFine b ≡ true → stateFine (b .counts) s ≡ true → HasFinding b s r n w
+  found-finding fine fits =
       by-test (leb (effortOf b s e) w)
       (λ enough. by-first (firstShown (shows (e .a) (e .b)) (chainsOf b s)) refl (leb-true (effortOf b s e) w enough))
       (λ short. let more = leb-false (effortOf b s e) w short in record {
-        word = undecided;
+        finding = undecided;
         judged =
             ap (λ (j : Verdict). j .finding) (sym weighs ∙ weighed-short (shows (e .a) (e .b)) (chainsOf b s) w
             more);
@@ -90,11 +90,11 @@ module _ (b : Board) (w : ℕ) (s : State) (r : ℕ) (n : Which) (e : Winding)
           ∙ sym (weighed-within (shows (e .a) (e .b)) (chainsOf b s) w enough) ∙ weighs
 
       by-first : (o : Option (List ℕ)) → firstShown (shows (e .a) (e .b)) (chainsOf b s) ≡ o → effortOf b s e ≤ w
-          → HasWord b s r n w
+          → HasFinding b s r n w
       by-first (some c) first enough =
           let told : Judges b s r n w (liveVerdict (effortOf b s e) c) = settles (some c) first enough in
           record {
-            word = live;
+            finding = live;
             judged = ap (λ (j : Verdict). j .finding) (sym told);
             says = (
               found-within enough,
@@ -105,7 +105,7 @@ module _ (b : Board) (w : ℕ) (s : State) (r : ℕ) (n : Which) (e : Winding)
       by-first none first enough =
           let told : Judges b s r n w (deadVerdict (effortOf b s e)) = settles none first enough in
           record {
-            word = dead;
+            finding = dead;
             judged = ap (λ (j : Verdict). j .finding) (sym told);
             says = (
               found-within enough,
@@ -118,29 +118,30 @@ module _ (b : Board) (w : ℕ) (s : State) (r : ℕ) (n : Which) (e : Winding)
 
 module _ (b : Board) (w : ℕ) (s : State) (r : ℕ) (fine : boardFine b ≡ true) (fits : stateFine (b .counts) s ≡ true)
   where
-    -- each winding of a relay has a word, but the second one of a regular relay
-    winding-word : (n : Which) → r < b .counts .relays → ¬ ((n ≡ Second) × isRegular r (partsOf b)) → HasWord b s r n w
-    winding-word n below there = by-sought (windingOf n r (partsOf b)) refl
+    -- each winding of a relay has a finding, but the second one of a regular relay
+    winding-finding : (n : Which) → r < b .counts .relays → ¬ ((n ≡ Second) × isRegular r (partsOf b))
+        → HasFinding b s r n w
+    winding-finding n below there = by-sought (windingOf n r (partsOf b)) refl
       where
         eleven : (b .counts .relays ≤ r) ⊎ ((n ≡ Second) × isRegular r (partsOf b)) → ⊥
         eleven (inl past) = omega (arith, below, past)
         eleven (inr regular) = there regular
 
-        by-sought : (o : Outcome Winding) → windingOf n r (partsOf b) ≡ o → HasWord b s r n w
-        by-sought (given e) found = found-word b w s r n e found fine fits
+        by-sought : (o : Outcome Winding) → windingOf n r (partsOf b) ≡ o → HasFinding b s r n w
+        by-sought (given e) found = found-finding b w s r n e found fine fits
         by-sought (refused k p) missing =
             absurd
             (eleven
             (eleven-exactly b s r n fine fits .0 (winding-for-sought b s r n fine fits
             ∙ winding-refused n r (partsOf b) k p missing)))
 
-    pub first-word : r < b .counts .relays → HasWord b s r First w
-    first-word below = winding-word First below (λ x. let z : _≡_ {A = ℕ} 0 1 = cc (x .0) in omega arith)
+    pub first-finding : r < b .counts .relays → HasFinding b s r First w
+    first-finding below = winding-finding First below (λ x. let z : _≡_ {A = ℕ} 0 1 = cc (x .0) in omega arith)
 
-    pub second-word : r < b .counts .relays → isSteel r (partsOf b) → HasWord b s r Second w
-    second-word below steel = winding-word Second below (λ x. omega (arith, steel .0, x .1 .0))
+    pub second-finding : r < b .counts .relays → isSteel r (partsOf b) → HasFinding b s r Second w
+    second-finding below steel = winding-finding Second below (λ x. omega (arith, steel .0, x .1 .0))
 
-    -- the second winding of a regular relay is missing: it has no word, and needs nothing
+    -- the second winding of a regular relay is missing: it has no finding, and needs nothing
     pub second-missing : isRegular r (partsOf b) → (judging b s r Second w .finding ≡ refused noSuchWinding 0)
         × Within b s r Second w
     second-missing regular =
