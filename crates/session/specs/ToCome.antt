@@ -1,7 +1,7 @@
 -- How many lines can come at most. Only for the loop of a program that asks for line after line: by this number it
 -- ends.
---     toComeAt k n      at the stage k, where n bytes of the input are left
---     toCome z s        of the session z on the input s
+--     toComeAt k n  at the stage k, where n bytes of the input are left
+--     toCome z s    of the session z on the input s
 use Prim.Native.Nat.{ℕ, suc, _-_}
 use mathlib.Core.List.{List}
 use lib.ListN.{length}
