@@ -27,7 +27,7 @@ use Rattle.demands.proofs.FirstNoLaws.{judgeable-first, writing-first, 
 use Rattle.demands.proofs.FirstNoLaws.{line-text-first, line-text-lent}
 use Rattle.demands.proofs.RefusedLaws.{left-outcome, left-refused, against-then, nothing-written}
 use Rattle.demands.proofs.RefusedLaws.{verdict-against, verdict-refused, ran-against, ran-refused}
-use Rattle.demands.proofs.RefusedLaws.{handing-against, handing-refused}
+use Rattle.demands.proofs.RefusedLaws.{next-line-against, next-line-refused}
 
 in-order : InOrder
 unfolding pushing releasing judging moving running
@@ -58,7 +58,7 @@ in-order = record {
       ∙ runnable-first b s log;
   hands =
       λ z s out out′ r called. ap (λ (h : Handed). against (h .answer)) called
-      ∙ handing-against (toldSession z) s out;
+      ∙ next-line-against (toldSession z) s out;
 }
 
 as-lent : AsLent
@@ -100,7 +100,7 @@ as-lent = record {
         (ap (λ (t : Ran). t .moves) none, (ap (λ (t : Ran). t .relay) none, ap (λ (t : Ran). t .log) none)),
       );
   hands = λ z s out out′ r n p called told.
-      let kept = handing-refused (toldSession z) s out n p (sym (ap (λ (h : Handed). h .answer) called) ∙ told) in (
+      let kept = next-line-refused (toldSession z) s out n p (sym (ap (λ (h : Handed). h .answer) called) ∙ told) in (
         told-session-injective (r .session) z (ap (λ (h : Handed). h .session) called ∙ kept .0),
         ap
             (λ (h : Handed). h .out) called ∙ kept .1,

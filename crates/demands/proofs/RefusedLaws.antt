@@ -95,9 +95,9 @@ module _ (z : Session) (s out : List ℕ) where
   handed-given (y, line l) = refl
   handed-given (y, no-line) = refl
 
-  pub handing-against : against (nextLine z s out .answer) ≡ firstNo (lineLines out)
+  pub next-line-against : against (nextLine z s out .answer) ≡ firstNo (lineLines out)
   unfolding nextLine firstNo
-  handing-against = by (leb longestLine (length out))
+  next-line-against = by (leb longestLine (length out))
     where
       by : (t : Bool)
           → against
@@ -107,10 +107,10 @@ module _ (z : Session) (s out : List ℕ) where
       by true = handed-given (nextOf z s)
       by false = refl
 
-  pub handing-refused : (n p : ℕ) → nextLine z s out .answer ≡ refused n p → (nextLine z s out .session ≡ z)
+  pub next-line-refused : (n p : ℕ) → nextLine z s out .answer ≡ refused n p → (nextLine z s out .session ≡ z)
       × (nextLine z s out .out ≡ out)
   unfolding nextLine
-  handing-refused n p = by (leb longestLine (length out))
+  next-line-refused n p = by (leb longestLine (length out))
     where
       by : (t : Bool)
           → (let x = cond t (handedBy (nextOf z s) out)

@@ -20,7 +20,7 @@ use Rattle.session.specs.Carried.{Session, Coming, line, no-line, nextOf, toldS
 use Rattle.session.proofs.CallLaws.{nothing-never, call-over, call-line, came}
 use Rattle.session_means.specs.HandedLines.{Called, Hands, HandsOut, Tells, LinesHandedOut, AllHandedOut}
 use Rattle.session_means.proofs.StillLaws.{still, Numbered, still-next, numbered-next}
-use Rattle.session_means.proofs.OpeningLaws.{opening-still, opening-numbered}
+use Rattle.session_means.proofs.BeginningLaws.{beginning-still, beginning-numbered}
 
 -- the texts of the lines that z has still to tell
 abbrev ahead : code-session.Session → List ℕ → List (List ℕ)
@@ -70,11 +70,11 @@ module _ (s : List ℕ) where
 
 pub lines-handed-out : LinesHandedOut
 lines-handed-out s z z′ ts begun out =
-    let start : Numbered (toldSession z) s = subst (λ (x : Session). Numbered x s) (sym begun) (opening-numbered s) in
+    let start : Numbered (toldSession z) s = subst (λ (x : Session). Numbered x s) (sym begun) (beginning-numbered s) in
     let so = from-start s ts z z′ start out in
     record {
       rest = ahead z′ s;
-      all = ap lineTexts (sym (opening-still s) ∙ ap (λ (x : Session). still x s) (sym begun)) ∙ so .told;
+      all = ap lineTexts (sym (beginning-still s) ∙ ap (λ (x : Session). still x s) (sym begun)) ∙ so .told;
       next =
           λ out out′ r room called. tells-by s z′ out out′ r (so .numbered) room called (nextOf (toldSession z′) s)
           refl;

@@ -12,7 +12,7 @@ use Rattle.events.specs.Events.{eventAt, ranLine, eventLine}
 use Rattle.session.specs.Sessions.{eventLines, linesFrom}
 use Rattle.session.specs.Carried.{Stage, first, events, over, refusing, Session, Coming, line, no-line, following}
 use Rattle.session.specs.Carried.{nextOf}
-use Rattle.session.proofs.NextLaws.{following-on, following-most}
+use Rattle.session.proofs.AdvanceLaws.{following-on, following-most}
 use Rattle.session.proofs.AheadLaws.{Ahead, runs-first, makes-event, bad-event, tells-refusal, at-end, is-over, ahead}
 use Rattle.session.proofs.AheadLaws.{event-next, next-less}
 use Rattle.session.specs.ToCome.{toComeAt, toCome}

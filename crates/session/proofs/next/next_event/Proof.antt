@@ -4,7 +4,7 @@ use Rattle.session.proofs.next.next_event.Statement.{statement}
 use Rattle.session.proofs.next.next_event.Tie as tie
 use mathlib.Core.Path.{_∙_}
 use native.Mathlib.Omega.{arith}
-use Rattle.session.proofs.NextLaws.{event-none, event-refused, event-no-name, event-made}
+use Rattle.session.proofs.AdvanceLaws.{event-none, event-refused, event-no-name, event-made}
 
 returns : tie.Need-returns
 returns c = event-none _ _ (c .if1 .taken)
