@@ -23,7 +23,7 @@ use Rattle.session.specs.HandingOut.{Handed}
 use Rattle.session.proofs.ToldLaws.{told-session-injective}
 use Rattle.demands.specs.EveryCallComesBack.{against, InOrder, AsLent, EveryCallComesBack}
 use Rattle.demands.proofs.FirstNoLaws.{runnable-first, movable-first, pressable-first, release-first}
-use Rattle.demands.proofs.FirstNoLaws.{judgeable-first, writing-first, number-first, number-lent}
+use Rattle.demands.proofs.FirstNoLaws.{winding-for-first, writing-first, number-first, number-lent}
 use Rattle.demands.proofs.FirstNoLaws.{line-text-first, line-text-lent}
 use Rattle.demands.proofs.RefusedLaws.{left-outcome, left-refused, against-then, nothing-written}
 use Rattle.demands.proofs.RefusedLaws.{verdict-against, verdict-refused, ran-against, ran-refused}
@@ -48,7 +48,7 @@ in-order = record {
       ∙ release-first b s n;
   judges =
       λ b s r k w v judged. ap (λ (j : Verdict). against (j .finding)) judged
-      ∙ verdict-against b s w (windingFor b s r k) ∙ judgeable-first b s r k;
+      ∙ verdict-against b s w (windingFor b s r k) ∙ winding-for-first b s r k;
   moves =
       λ b s r w a moved. ap (λ (y : State × Outcome Move). against (y .1)) moved
       ∙ ap against (left-outcome s (made s r) (movable b s r >> given (stepOf b s r w)))
@@ -100,7 +100,7 @@ as-lent = record {
         (ap (λ (t : Ran). t .moves) none, (ap (λ (t : Ran). t .relay) none, ap (λ (t : Ran). t .log) none)),
       );
   hands = λ z s out out′ r n p called told.
-      let kept = next-line-refused (toldSession z) s out n p (sym (ap (λ (h : Handed). h .answer) called) ∙ told) in (
+      let kept = next-line-refused (toldSession z) s out (sym (ap (λ (h : Handed). h .answer) called) ∙ told) in (
         told-session-injective (r .session) z (ap (λ (h : Handed). h .session) called ∙ kept .0),
         ap
             (λ (h : Handed). h .out) called ∙ kept .1,

@@ -89,62 +89,86 @@ module _ (b : Board) (s : State) where
   winding-by k r (given v) e = refl
   winding-by k r (refused n p) e = ap against (sym e ∙ winding-refused k r (partsOf b) n p e)
 
-  pub judgeable-first : (r : ℕ) (k : Which) → against (windingFor b s r k) ≡ firstNo (judgeLines b s r k)
+  pub winding-for-first : (r : ℕ) (k : Which) → against (windingFor b s r k) ≡ firstNo (judgeLines b s r k)
   unfolding windingFor
-  judgeable-first r k =
+  winding-for-first r k =
       against-after (usable b s) (windingOf k r (partsOf b))
       ∙ usable-first b s _ _ (winding-by k r (windingOf k r (partsOf b)) refl)
 
+-- ---- a call that answers `no` where a test fails, and else `yes`; `word` is what it came to
+module _ {A R : Type 0} (word : R → Outcome A) (t : Bool) (yes no : R) where
+  pub test-first : (n : ℕ) (ls : List (Bool × ℕ)) → word no ≡ refused n 0 → against (word yes) ≡ firstNo ls
+      → against (word (cond t yes no)) ≡ firstNo ((t, n) ∷ ls)
+  unfolding firstNo
+  test-first n ls stops goes = by t
+    where
+      by : (t : Bool) → against (word (cond t yes no)) ≡ cond t (firstNo ls) (refused n 0)
+      by true = goes
+      by false = ap against stops
+
+  -- what a refusal leaves
+  pub test-lent : (Left : R → Type 0) {n p : ℕ} → Left no → (word yes ≡ refused n p → Left yes)
+      → word (cond t yes no) ≡ refused n p → Left (cond t yes no)
+  test-lent Left {n} {p} stops goes = by t
+    where
+      by : (t : Bool) → word (cond t yes no) ≡ refused n p → Left (cond t yes no)
+      by true e = goes e
+      by false e = stops
+
 -- ---- writing into a buffer: k bytes are written and it becomes l, unless a line stands against it
 module _ (k : ℕ) (l out : List ℕ) where
-  abbrev pub afterOne : Bool → ℕ → Outcome ℕ × List ℕ
+  abbrev Wrote : Type 0
+  Wrote = Outcome ℕ × List ℕ
+
+  abbrev count : Wrote → Outcome ℕ
+  count x = x .0
+
+  abbrev AsLent : Wrote → Type 0
+  AsLent x = x .1 ≡ out
+
+  abbrev pub afterOne : Bool → ℕ → Wrote
   afterOne t n = cond t (given k, l) (refused n 0, out)
 
-  abbrev pub afterTwo : Bool → ℕ → Bool → ℕ → Outcome ℕ × List ℕ
+  abbrev pub afterTwo : Bool → ℕ → Bool → ℕ → Wrote
   afterTwo t m u n = cond t (afterOne u n) (refused m 0, out)
 
   one-first : (t : Bool) (n : ℕ) → against (afterOne t n .0) ≡ firstNo ((t, n) ∷ [])
   unfolding firstNo
-  one-first true n = refl
-  one-first false n = refl
+  one-first t n = test-first count t (given k, l) (refused n 0, out) n [] refl refl
 
   two-first : (t : Bool) (m : ℕ) (u : Bool) (n : ℕ) → against (afterTwo t m u n .0) ≡ firstNo ((t, m) ∷ (u, n) ∷ [])
-  unfolding firstNo
-  two-first true m u n = one-first u n
-  two-first false m u n = refl
+  two-first t m u n = test-first count t (afterOne u n) (refused m 0, out) m ((u, n) ∷ []) refl (one-first u n)
 
   one-lent : (t : Bool) (n : ℕ) {i p : ℕ} → afterOne t n .0 ≡ refused i p → afterOne t n .1 ≡ out
-  one-lent true n e = absurd (refused-never _ _ k (sym e))
-  one-lent false n e = refl
+  one-lent t n =
+      test-lent count t (given k, l) (refused n 0, out) AsLent refl (λ e. absurd (refused-never _ _ k (sym e)))
 
   two-lent : (t : Bool) (m : ℕ) (u : Bool) (n : ℕ) {i p : ℕ} → afterTwo t m u n .0 ≡ refused i p
       → afterTwo t m u n .1 ≡ out
-  two-lent true m u n e = one-lent u n e
-  two-lent false m u n e = refl
+  two-lent t m u n = test-lent count t (afterOne u n) (refused m 0, out) AsLent refl (one-lent u n)
 
 pub writing-first : (b : Board) (out : List ℕ) → against (writing b out .0) ≡ firstNo (writeLines b out)
 unfolding writing
 writing-first b out = two-first _ _ out (boardFine b) brokenBoard _ bufferTooShort
 
-pub number-first : (v : ℕ) (out : List ℕ) (at : ℕ) → against (numberWriting v out at .0) ≡ firstNo
-    (numberLines v out at)
-unfolding numberWriting
-number-first v out at = two-first _ _ out (leb v largest) badForm _ bufferTooShort
+module _ (v : ℕ) (out : List ℕ) (at : ℕ) where
+  pub number-first : against (numberWriting v out at .0) ≡ firstNo (numberLines v out at)
+  unfolding numberWriting
+  number-first = two-first _ _ out (leb v largest) badForm _ bufferTooShort
 
-pub number-lent : (v : ℕ) (out : List ℕ) (at : ℕ) {i p : ℕ} → numberWriting v out at .0 ≡ refused i p
-    → numberWriting v out at .1 ≡ out
-unfolding numberWriting
-number-lent v out at e =
-    two-lent (at + length (numberBytes v)) (sets out at (numberBytes v)) out (leb v largest) badForm
-    (leb (at + length (numberBytes v)) (length out)) bufferTooShort e
+  pub number-lent : {i p : ℕ} → numberWriting v out at .0 ≡ refused i p → numberWriting v out at .1 ≡ out
+  unfolding numberWriting
+  number-lent =
+      two-lent (at + length (numberBytes v)) (sets out at (numberBytes v)) out (leb v largest) badForm
+      (leb (at + length (numberBytes v)) (length out)) bufferTooShort
 
-pub line-text-first : (l : Line) (out : List ℕ) → against (lineWriting l out .0) ≡ firstNo (lineLines out)
-unfolding lineWriting
-line-text-first l out = one-first _ _ out (leb longestLine (length out)) bufferTooShort
+module _ (l : Line) (out : List ℕ) where
+  pub line-text-first : against (lineWriting l out .0) ≡ firstNo (lineLines out)
+  unfolding lineWriting
+  line-text-first = one-first _ _ out (leb longestLine (length out)) bufferTooShort
 
-pub line-text-lent : (l : Line) (out : List ℕ) {i p : ℕ} → lineWriting l out .0 ≡ refused i p
-    → lineWriting l out .1 ≡ out
-unfolding lineWriting
-line-text-lent l out e =
-    one-lent (length (lineText l)) (lineText l ++ drop (length (lineText l)) out) out (leb longestLine (length out))
-    bufferTooShort e
+  pub line-text-lent : {i p : ℕ} → lineWriting l out .0 ≡ refused i p → lineWriting l out .1 ≡ out
+  unfolding lineWriting
+  line-text-lent =
+      one-lent (length (lineText l)) (lineText l ++ drop (length (lineText l)) out) out
+      (leb longestLine (length out)) bufferTooShort

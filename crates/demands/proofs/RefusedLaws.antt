@@ -23,8 +23,9 @@ use Rattle.runs.specs.Runs.{noRelay}
 use Rattle.runs.specs.Running.{unrun, ran, ranOn}
 use Rattle.lines.specs.Lines.{longestLine}
 use Rattle.session.specs.Carried.{Session, Coming, line, no-line, nextOf}
-use Rattle.session.specs.HandingOut.{handedBy, nextLine}
+use Rattle.session.specs.HandingOut.{HandOut, Handed, handedBy, nextLine}
 use Rattle.demands.specs.EveryCallComesBack.{against, firstNo, lineLines}
+use Rattle.demands.proofs.FirstNoLaws.{test-first, test-lent}
 
 -- ---- what a call leaves beside what it came to
 module _ {A : Type 0} (s : State) (f : A → State) where
@@ -88,33 +89,29 @@ module _ (b : Board) (s : State) (w : ℕ) where
     ran-refused (given u) n p e = absurd (refused-never n p _ (sym e))
     ran-refused (refused m q) n p e = λ i. record { word = e i; moves = 0; state = s; relay = noRelay; log = log }
 
--- ---- handing out a line
+-- ---- the next line
 module _ (z : Session) (s out : List ℕ) where
   handed-given : (x : Session × Coming) → against (handedBy x out .answer) ≡ given tt
   unfolding handedBy
   handed-given (y, line l) = refl
   handed-given (y, no-line) = refl
 
+  abbrev answer : Handed → Outcome HandOut
+  answer h = h .answer
+
+  abbrev short : Handed
+  short = record { session = z; answer = refused bufferTooShort 0; out = out }
+
   pub next-line-against : against (nextLine z s out .answer) ≡ firstNo (lineLines out)
   unfolding nextLine firstNo
-  next-line-against = by (leb longestLine (length out))
-    where
-      by : (t : Bool)
-          → against
-          ((cond t (handedBy (nextOf z s) out)
-          (record { session = z; answer = refused bufferTooShort 0; out = out })) .answer) ≡ firstNo
-          ((t, bufferTooShort) ∷ [])
-      by true = handed-given (nextOf z s)
-      by false = refl
+  next-line-against =
+      test-first answer (leb longestLine (length out)) (handedBy (nextOf z s) out) short bufferTooShort [] refl
+      (handed-given (nextOf z s))
 
-  pub next-line-refused : (n p : ℕ) → nextLine z s out .answer ≡ refused n p → (nextLine z s out .session ≡ z)
-      × (nextLine z s out .out ≡ out)
+  pub next-line-refused : {n p : ℕ} → nextLine z s out .answer ≡ refused n p
+      → (nextLine z s out .session ≡ z) × (nextLine z s out .out ≡ out)
   unfolding nextLine
-  next-line-refused n p = by (leb longestLine (length out))
-    where
-      by : (t : Bool)
-          → (let x = cond t (handedBy (nextOf z s) out)
-          (record { session = z; answer = refused bufferTooShort 0; out = out }) in
-          x .answer ≡ refused n p → (x .session ≡ z) × (x .out ≡ out))
-      by true e = absurd (refused-never n p tt (sym (ap against e) ∙ handed-given (nextOf z s)))
-      by false e = (refl, refl)
+  next-line-refused =
+      test-lent answer (leb longestLine (length out)) (handedBy (nextOf z s) out) short
+      (λ h. (h .session ≡ z) × (h .out ≡ out)) (refl, refl)
+      (λ e. absurd (refused-never _ _ tt (sym (ap against e) ∙ handed-given (nextOf z s))))

@@ -1,4 +1,4 @@
--- A session that was opened has all its lines still to come, and numbers them as the definition does.
+-- A session that was begun has all its lines still to come, and numbers them as the definition does.
 use Prim.Native.Nat.{ℕ, _<_, _≤_}
 use native.Mathlib.Omega.{arith}
 use mathlib.Core.Path.{_≡_, refl, sym, ap, _∙_}

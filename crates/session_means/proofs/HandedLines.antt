@@ -1,23 +1,17 @@
 -- The theorems: what the calls have handed out so far are the first of the session's lines, and the next call hands out
 -- the next.
 use Prim.Native.Nat.{ℕ, _≤_}
-use mathlib.Core.Bool.{Bool, true, false}
 use mathlib.Core.Path.{_≡_, refl, sym, ap, subst, _∙_}
 use mathlib.Core.List.{List, [], _∷_, _++_, append-nil}
-use lib.Dec.{leb}
 use lib.ListN.{length}
-use borrow.Author.Tests.{leb-true}
-use Rattle.number.specs.Outcomes.{refused}
-use Rattle.number.specs.Refusals.{bufferTooShort}
-use Rattle.number.proofs.OutcomeLaws.{refused-never, given-injective}
 use Rattle.lines.specs.Lines.{longestLine}
 use Rattle.session.specs.declared.Session as code-session
 use Rattle.session.specs.declared.Handed as code-handed
 use Rattle.session.specs.declared.HandOut.the-variants.{Over}
-use Rattle.session.specs.HandingOut.{nothing, Handed, nextLine, toldHandOut, toldHanded}
+use Rattle.session.specs.HandingOut.{nothing, toldHandOut}
 use Rattle.session.specs.Sessions.{lineTexts}
 use Rattle.session.specs.Carried.{Session, Coming, line, no-line, nextOf, toldSession}
-use Rattle.session.proofs.CallLaws.{nothing-never, call-over, call-line, came}
+use Rattle.session.proofs.CallLaws.{over-never, call-room, call-over, call-line, came}
 use Rattle.session_means.specs.HandedLines.{Called, Hands, HandsOut, Tells, LinesHandedOut, AllHandedOut}
 use Rattle.session_means.proofs.StillLaws.{still, Numbered, still-next, numbered-next}
 use Rattle.session_means.proofs.BeginningLaws.{beginning-still, beginning-numbered}
@@ -80,29 +74,14 @@ lines-handed-out s z z′ ts begun out =
           refl;
     }
 
--- a call that says that there is none has room for a line
-over-room : (z : code-session.Session) (s out out′ : List ℕ) (r : code-handed.Handed) → Called z s out r out′
-    → r .answer ≡ Over → (t : Bool) → leb longestLine (length out) ≡ t → longestLine ≤ length out
-unfolding nextLine
-over-room z s out out′ r called over true room = leb-true longestLine (length out) room
-over-room z s out out′ r called over false short =
-    let told : toldHanded r out′ ≡ record {
-      session = toldSession z;
-      answer = refused bufferTooShort 0;
-      out =
-          out;
-    } = called ∙ rw short refl in
-    absurd (refused-never bufferTooShort 0 nothing (sym (ap (λ (h : Handed). h .answer) told) ∙ ap toldHandOut over))
-
 none-left : (rest : List (List ℕ)) (r : code-handed.Handed) (out′ : List ℕ) → Tells rest r out′ → r .answer ≡ Over
     → rest ≡ []
 none-left [] r out′ tells over = refl
-none-left (t ∷ ts) r out′ tells over =
-    absurd (nothing-never (length t) (given-injective _ _ (ap toldHandOut (sym over ∙ tells .0))))
+none-left (t ∷ ts) r out′ tells over = absurd (over-never (length t) (sym over ∙ tells .0))
 
 pub all-handed-out : AllHandedOut
 all-handed-out s z z′ ts out out′ r begun handed called over =
     let so = lines-handed-out s z z′ ts begun handed in
-    let room = over-room z′ s out out′ r called over (leb longestLine (length out)) refl in
-    let no-line = none-left (so .rest) r out′ (so .next out out′ r room called) over in
-    sym (so .all ∙ ap (λ (rest : List (List ℕ)). ts ++ rest) no-line ∙ append-nil ts)
+    let room = call-room z′ s out out′ r called nothing (ap toldHandOut over) in
+    let none = none-left (so .rest) r out′ (so .next out out′ r room called) over in
+    sym (so .all ∙ ap (λ (rest : List (List ℕ)). ts ++ rest) none ∙ append-nil ts)
