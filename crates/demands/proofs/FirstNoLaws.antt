@@ -95,57 +95,51 @@ module _ (b : Board) (s : State) where
       against-after (usable b s) (windingOf k r (partsOf b))
       ∙ usable-first b s _ _ (winding-by k r (windingOf k r (partsOf b)) refl)
 
--- ---- a call that answers `no` where a test fails, and else `yes`; `word` is what it came to
-module _ {A R : Type 0} (word : R → Outcome A) (t : Bool) (yes no : R) where
-  pub test-first : (n : ℕ) (ls : List (Bool × ℕ)) → word no ≡ refused n 0 → against (word yes) ≡ firstNo ls
-      → against (word (cond t yes no)) ≡ firstNo ((t, n) ∷ ls)
+-- ---- a call that answers `done`, or `refusal` where its test fails; `word` is what it came to
+module _ {A R : Type 0} (word : R → Outcome A) (done refusal : R) where
+  pub test-first : (t : Bool) (n : ℕ) (ls : List (Bool × ℕ)) → word refusal ≡ refused n 0
+      → against (word done) ≡ firstNo ls → against (word (cond t done refusal)) ≡ firstNo ((t, n) ∷ ls)
   unfolding firstNo
-  test-first n ls stops goes = by t
-    where
-      by : (t : Bool) → against (word (cond t yes no)) ≡ cond t (firstNo ls) (refused n 0)
-      by true = goes
-      by false = ap against stops
+  test-first true n ls stops goes = goes
+  test-first false n ls stops goes = ap against stops
 
   -- what a refusal leaves
-  pub test-lent : (Left : R → Type 0) {n p : ℕ} → Left no → (word yes ≡ refused n p → Left yes)
-      → word (cond t yes no) ≡ refused n p → Left (cond t yes no)
-  test-lent Left {n} {p} stops goes = by t
-    where
-      by : (t : Bool) → word (cond t yes no) ≡ refused n p → Left (cond t yes no)
-      by true e = goes e
-      by false e = stops
+  pub test-lent : (Left : R → Type 0) (t : Bool) {n p : ℕ} → Left refusal → (word done ≡ refused n p → Left done)
+      → word (cond t done refusal) ≡ refused n p → Left (cond t done refusal)
+  test-lent Left true stops goes e = goes e
+  test-lent Left false stops goes e = stops
 
 -- ---- writing into a buffer: k bytes are written and it becomes l, unless a line stands against it
 module _ (k : ℕ) (l out : List ℕ) where
-  abbrev Wrote : Type 0
-  Wrote = Outcome ℕ × List ℕ
+  abbrev Output : Type 0
+  Output = Outcome ℕ × List ℕ
 
-  abbrev count : Wrote → Outcome ℕ
-  count x = x .0
+  abbrev outcome : Output → Outcome ℕ
+  outcome x = x .0
 
-  abbrev AsLent : Wrote → Type 0
-  AsLent x = x .1 ≡ out
+  abbrev Unwritten : Output → Type 0
+  Unwritten x = x .1 ≡ out
 
-  abbrev pub afterOne : Bool → ℕ → Wrote
+  abbrev pub afterOne : Bool → ℕ → Output
   afterOne t n = cond t (given k, l) (refused n 0, out)
 
-  abbrev pub afterTwo : Bool → ℕ → Bool → ℕ → Wrote
+  abbrev pub afterTwo : Bool → ℕ → Bool → ℕ → Output
   afterTwo t m u n = cond t (afterOne u n) (refused m 0, out)
 
   one-first : (t : Bool) (n : ℕ) → against (afterOne t n .0) ≡ firstNo ((t, n) ∷ [])
   unfolding firstNo
-  one-first t n = test-first count t (given k, l) (refused n 0, out) n [] refl refl
+  one-first t n = test-first outcome (given k, l) (refused n 0, out) t n [] refl refl
 
   two-first : (t : Bool) (m : ℕ) (u : Bool) (n : ℕ) → against (afterTwo t m u n .0) ≡ firstNo ((t, m) ∷ (u, n) ∷ [])
-  two-first t m u n = test-first count t (afterOne u n) (refused m 0, out) m ((u, n) ∷ []) refl (one-first u n)
+  two-first t m u n = test-first outcome (afterOne u n) (refused m 0, out) t m ((u, n) ∷ []) refl (one-first u n)
 
   one-lent : (t : Bool) (n : ℕ) {i p : ℕ} → afterOne t n .0 ≡ refused i p → afterOne t n .1 ≡ out
   one-lent t n =
-      test-lent count t (given k, l) (refused n 0, out) AsLent refl (λ e. absurd (refused-never _ _ k (sym e)))
+      test-lent outcome (given k, l) (refused n 0, out) Unwritten t refl (λ e. absurd (refused-never _ _ k (sym e)))
 
   two-lent : (t : Bool) (m : ℕ) (u : Bool) (n : ℕ) {i p : ℕ} → afterTwo t m u n .0 ≡ refused i p
       → afterTwo t m u n .1 ≡ out
-  two-lent t m u n = test-lent count t (afterOne u n) (refused m 0, out) AsLent refl (one-lent u n)
+  two-lent t m u n = test-lent outcome (afterOne u n) (refused m 0, out) Unwritten t refl (one-lent u n)
 
 pub writing-first : (b : Board) (out : List ℕ) → against (writing b out .0) ≡ firstNo (writeLines b out)
 unfolding writing

@@ -105,13 +105,13 @@ module _ (z : Session) (s out : List ℕ) where
   pub next-line-against : against (nextLine z s out .answer) ≡ firstNo (lineLines out)
   unfolding nextLine firstNo
   next-line-against =
-      test-first answer (leb longestLine (length out)) (handedBy (nextOf z s) out) short bufferTooShort [] refl
+      test-first answer (handedBy (nextOf z s) out) short (leb longestLine (length out)) bufferTooShort [] refl
       (handed-given (nextOf z s))
 
   pub next-line-refused : {n p : ℕ} → nextLine z s out .answer ≡ refused n p
       → (nextLine z s out .session ≡ z) × (nextLine z s out .out ≡ out)
   unfolding nextLine
   next-line-refused =
-      test-lent answer (leb longestLine (length out)) (handedBy (nextOf z s) out) short
-      (λ h. (h .session ≡ z) × (h .out ≡ out)) (refl, refl)
+      test-lent answer (handedBy (nextOf z s) out) short (λ h. (h .session ≡ z) × (h .out ≡ out))
+      (leb longestLine (length out)) (refl, refl)
       (λ e. absurd (refused-never _ _ tt (sym (ap against e) ∙ handed-given (nextOf z s))))
