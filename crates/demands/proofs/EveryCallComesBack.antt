@@ -102,8 +102,7 @@ as-lent = record {
   hands = λ z s out out′ r n p called told.
       let kept = next-line-refused (toldSession z) s out (sym (ap (λ (h : Handed). h .answer) called) ∙ told) in (
         told-session-injective (r .session) z (ap (λ (h : Handed). h .session) called ∙ kept .0),
-        ap
-            (λ (h : Handed). h .out) called ∙ kept .1,
+        ap (λ (h : Handed). h .out) called ∙ kept .1,
       );
 }
 

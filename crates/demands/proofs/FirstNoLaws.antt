@@ -63,8 +63,9 @@ module _ (b : Board) (s : State) where
   unfolding movable
   movable-first r = usable-first b s _ _ (line-last _ noSuchWinding)
 
-  pub pressable-first : (n : ℕ) (already : Bool) → pressable b s n already ≡ firstNo
-      (usableLines b s ((ltb n (b .counts .buttons), noSuchName) ∷ (not already, alreadySo) ∷ []))
+  pub pressable-first : (n : ℕ) (already : Bool)
+      → pressable b s n already
+      ≡ firstNo (usableLines b s ((ltb n (b .counts .buttons), noSuchName) ∷ (not already, alreadySo) ∷ []))
   unfolding pressable
   pressable-first n already = usable-first b s _ _ (line-first _ noSuchName _ _ (line-last (not already) alreadySo))
 

@@ -2,7 +2,7 @@
 use Prim.Native.Nat.{ℕ}
 use mathlib.Core.Path.{_≡_, refl, sym, ap, _∙_}
 use mathlib.Core.Bool.{Bool, true, false, cond}
-use mathlib.Core.List.{List, [], _∷_}
+use mathlib.Core.List.{List, []}
 use mathlib.Core.Option.{Option, none, some}
 use lib.Dec.{leb}
 use lib.ListN.{length}
@@ -56,8 +56,8 @@ weighed-given : (t : List ℕ → Bool) (cs : List (List ℕ)) (w : ℕ) → aga
 unfolding weighed
 weighed-given t cs w = by (leb (effort t cs) w)
   where
-    by : (within : Bool) → against ((cond within (settled (effort t cs) (firstShown t cs)) (unsettled w)) .finding)
-        ≡ given tt
+    by : (within : Bool)
+        → against ((cond within (settled (effort t cs) (firstShown t cs)) (unsettled w)) .finding) ≡ given tt
     by true = settled-given (effort t cs) (firstShown t cs)
     by false = refl
 

@@ -1,5 +1,5 @@
 -- What a call of `next_line` on a part of a buffer says of the whole buffer. `hand_out` cites it.
-use Prim.Native.Nat.{ℕ, _-_, _≤_}
+use Prim.Native.Nat.{ℕ, _-_}
 use native.Mathlib.Omega.{arith}
 use mathlib.Core.Path.{_≡_, subst}
 use mathlib.Core.List.{List}

@@ -1,5 +1,5 @@
-// The session program: reads a session from standard input and prints its lines on standard output. What the lines are is
-// the library's to say (crate `session`); here is only the reading and the writing.
+// The session program: reads a session from standard input and prints its lines on standard output. What the lines are
+// is the library's to say (crate `session`); here is only the reading and the writing.
 ghost use Prim.Native.Nat.{_+_, _-_, _≤_};
 ghost use lib.ListN.{length};
 ghost use Rattle.session.specs.ToCome.{Advances};

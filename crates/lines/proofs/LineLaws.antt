@@ -77,8 +77,8 @@ below-four t (inr (inr (inr e))) = omega arith
 
 -- a run that was not refused, by the tag of its word
 event-text : (e m d : ℕ) (w : code-ending.Ending) → OneOf (0 ∷ 1 ∷ 2 ∷ 3 ∷ []) (tagOf the-type w)
-    → spaced (decimal e) ++ spaced (wordText (toldEnding w)) ++ spaced (decimal m)
-    ++ ended (decimal d) ≡ lineText (event e (toldEnding w) m d)
+    → spaced (decimal e) ++ spaced (wordText (toldEnding w)) ++ spaced (decimal m) ++ ended (decimal d)
+    ≡ lineText (event e (toldEnding w) m d)
 unfolding lineText
 event-text e m d Idle ran = refl
 event-text e m d Spent ran = refl

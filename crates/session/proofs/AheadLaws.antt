@@ -20,8 +20,8 @@ use Rattle.session.specs.Carried.{Stage, first, events, over, refusing, 
 use Rattle.session.specs.Carried.{closes, eventOf, nextEvent, nextAt, nextOf}
 
 pub data Ahead (z : Session) (s : List ℕ) : Type 0 where
-  runs-first : z .stage ≡ first → nextOf z s ≡ goesOn z (ranLine (z .board) (z .event) (z .state) (z .allowance))
-      (z .place) → Ahead z s
+  runs-first : z .stage ≡ first
+      → nextOf z s ≡ goesOn z (ranLine (z .board) (z .event) (z .state) (z .allowance)) (z .place) → Ahead z s
   makes-event : (v : Found ℕ) → z .stage ≡ events → z .place < length s → eventAt (z .board) s (z .place) ≡ given v
       → nextOf z s ≡ goesOn z (eventLine (z .board) (z .event) (z .state) (v .value) (z .allowance)) (v .next)
       → Ahead z s

@@ -1,13 +1,13 @@
 -- What a call of `next_line` hands out, by what comes next in the session; and what a line that was handed out says of
 -- the session. For programs that ask for line after line, and for the theorem on all the lines.
-use Prim.Native.Nat.{ℕ, _<_, _≤_}
+use Prim.Native.Nat.{ℕ, _≤_}
 use native.Mathlib.Omega.{arith}
 use mathlib.Core.Path.{_≡_, refl, sym, ap, _∙_}
 use mathlib.Core.List.{List}
 use lib.Dec.{leb}
 use lib.ListN.{length, take, drop}
 use lib.Seq.{take-append-seam}
-use borrow.Author.Tests.{le-leb, leb-true, leb-false}
+use borrow.Author.Tests.{leb-true, leb-false}
 use Rattle.bits.proofs.BoolLaws.{by-test}
 use Rattle.number.specs.Outcomes.{given}
 use Rattle.number.specs.Refusals.{bufferTooShort}
@@ -22,7 +22,7 @@ use Rattle.session.specs.HandingOut.{HandOut, written, Handed, handedBy,
 use Rattle.session.specs.HandingOut.{toldHanded}
 use Rattle.session.specs.ToCome.{Advances}
 use Rattle.session.proofs.AheadLaws.{next-less}
-use Rattle.session.proofs.NextLineLaws.{next-line-short}
+use Rattle.session.proofs.NextLineLaws.{next-line-short, next-line-room}
 use Rattle.session.proofs.ToldLaws.{told-hand-out-injective}
 
 pub over-never : (n : ℕ) → said.Over ≡ said.Line n → ⊥
@@ -35,8 +35,7 @@ module _ (z : code-session.Session) (s out out′ : List ℕ) (r : code-handed.H
     (called : toldHanded r out′ ≡ nextLine (toldSession z) s out) where
   -- with room, the answer is what comes next
   by-next : longestLine ≤ length out → toldHanded r out′ ≡ handedBy (nextOf (toldSession z) s) out
-  unfolding nextLine
-  by-next room = called ∙ rw (le-leb longestLine (length out) room) refl
+  by-next room = called ∙ sym (next-line-room (toldSession z) s out room)
 
   -- a call that is not refused has room
   pub call-room : (a : HandOut) → toldHandOut (r .answer) ≡ given a → longestLine ≤ length out

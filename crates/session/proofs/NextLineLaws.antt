@@ -23,18 +23,20 @@ module _ (z : Session) (s out : List ℕ) where
   unfolding nextLine
   next-line-short short = rw (lt-leb longestLine (length out) short)
 
+  pub next-line-room : longestLine ≤ length out → handedBy (nextOf z s) out ≡ nextLine z s out
+  unfolding nextLine
+  next-line-room room = rw (le-leb longestLine (length out) room)
+
   -- the buffer has room, and x is what comes next
   module _ (x : Next) (room : longestLine ≤ length out) (next : toldNext x ≡ nextOf z s) where
-    next-line-by : (c : Coming) → toldComing (x .coming) ≡ c → handedBy (toldSession (x .session), c) out ≡ nextLine z
-        s out
-    unfolding nextLine
+    next-line-by : (c : Coming) → toldComing (x .coming) ≡ c
+        → handedBy (toldSession (x .session), c) out ≡ nextLine z s out
     next-line-by c is =
-        let came : _≡_ {A = Session × Coming} (toldSession (x .session), c) (nextOf z s) = ap {B = Session × Coming}
-        (λ d. (toldSession (x .session), d)) (sym is) ∙ next in
-        ap (λ (y : Session × Coming). handedBy y out) came ∙ rw (le-leb longestLine (length out) room) refl
+        let came = ap {B = Session × Coming} (λ d. (toldSession (x .session), d)) (sym is) ∙ next in
+        ap (λ (y : Session × Coming). handedBy y out) came ∙ next-line-room room
 
-    pub next-line-over : x .coming ≡ comes.Over → toldHanded (record { session = x .session; answer = Over })
-        out ≡ nextLine z s out
+    pub next-line-over : x .coming ≡ comes.Over
+        → toldHanded (record { session = x .session; answer = Over }) out ≡ nextLine z s out
     unfolding handedBy
     next-line-over is = next-line-by no-line (ap toldComing is)
 

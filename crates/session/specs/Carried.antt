@@ -57,8 +57,7 @@ begunFrom (given h) =
       allowance = h .value .allowance;
       state = freshState;
       event = 0;
-      place =
-          h .next;
+      place = h .next;
       stage = first;
     }
 begunFrom (refused n p) =

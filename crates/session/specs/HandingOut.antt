@@ -38,8 +38,7 @@ handedBy (z, line l) out =
     record {
       session = z;
       answer = given (written (length (lineText l)));
-      out = lineText l
-          ++ drop (length (lineText l)) out;
+      out = lineText l ++ drop (length (lineText l)) out;
     }
 handedBy (z, no-line) out = record { session = z; answer = given nothing; out = out }
 

@@ -1,6 +1,6 @@
-// Runs many sessions through the proved library in one process, for the comparison with the second program. Standard input
-// holds sessions one after the other, each after its length in four bytes, lowest first; after the lines of each comes a
-// line `.`. A length that is too large, or a stream that ends inside a session, ends the program.
+// Runs many sessions through the proved library in one process, for the comparison with the second program. Standard
+// input holds sessions one after the other, each after its length in four bytes, lowest first; after the lines of each
+// comes a line `.`. A length that is too large, or a stream that ends inside a session, ends the program.
 ghost use Prim.Native.Nat.{_≤_};
 ghost use lib.ListN.{length};
 ghost use Rattle.session.specs.ToCome.{Advances};

@@ -54,7 +54,8 @@ module _ (z : Session) (s : List ℕ) where
   -- the lines from an event on, by what its number came to
   events-told : (k : ℕ) → z .place < k → {o : Outcome (Found ℕ)} → z .place < length s
       → eventAt (z .board) s (z .place) ≡ o
-      → linesFrom k (z .board) s (z .state) (z .event) (z .place) (z .allowance) ≡ eventLines o
+      → linesFrom k (z .board) s (z .state) (z .event) (z .place) (z .allowance)
+      ≡ eventLines o
       (λ v. eventLine (z .board) (z .event) (z .state) v (z .allowance))
       (λ u next. linesFrom (k - 1) (z .board) s u (suc (z .event)) next (z .allowance))
   events-told (suc k) some there is =

@@ -27,9 +27,8 @@ slice-aggregate-write-all c =
     let at-hand-out = c .before .before .before .before .before in
     let at-loop = at-hand-out .before .before in
     let long : length (at-hand-out .hand-out .last .1 .1 .0) ≡ longestLine = search needs in
-    sym
-    (length-take-le _ _
-    (omega (arith, at-hand-out .hand-out .ensures _ (c .before .before .answer .given .1) .0, at-loop .loop .inv, long)))
+    let advances = at-hand-out .hand-out .ensures _ (c .before .before .answer .given .1) in
+    sym (length-take-le _ _ (omega (arith, advances .0, at-loop .loop .inv, long)))
 
 loop-less : tie.Need-loop-less Inv-loop μ-loop
 loop-less c =
