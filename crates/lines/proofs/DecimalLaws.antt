@@ -70,10 +70,10 @@ decimal-more n m h =
 
 -- ---- what the digits stand for
 
-value-next : (v c : ℕ) (s : List ℕ) → valueOf v (s ++ (c ∷ [])) ≡ 10 * valueOf v s + (c - 48)
+value-next : (v c : ℕ) (s : List ℕ) → valueOf v (s ++ (c ∷ [])) ≡ 10 * valueOf v s + (c - digit 0)
 unfolding valueOf
 value-next v c [] = refl
-value-next v c (d ∷ s) = value-next (10 * v + (d - 48)) c s
+value-next v c (d ∷ s) = value-next (10 * v + (d - digit 0)) c s
 
 value-one : (n : ℕ) → valueOf 0 (digit n ∷ []) ≡ n
 unfolding valueOf

@@ -36,7 +36,7 @@ decimal n = digitsOf mostDigits n
 
 unfoldable pub valueOf : ℕ → List ℕ → ℕ
 valueOf v [] = v
-valueOf v (c ∷ s) = valueOf (10 * v + (c - 48)) s
+valueOf v (c ∷ s) = valueOf (10 * v + (c - digit 0)) s
 
 abbrev pub spaced : List ℕ → List ℕ
 spaced x = x ++ (space ∷ [])

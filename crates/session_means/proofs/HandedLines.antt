@@ -45,8 +45,7 @@ module _ (s : List ℕ) where
   from-start [] z z′ numbered same =
       record {
         told = ap (λ (x : code-session.Session). ahead x s) same;
-        numbered =
-            subst (λ (x : code-session.Session). Numbered (toldSession x) s) same numbered;
+        numbered = subst (λ (x : code-session.Session). Numbered (toldSession x) s) same numbered;
       }
   from-start (t ∷ ts) z z′ numbered (y, (h, after)) =
       let one = hands-first z y t numbered h in

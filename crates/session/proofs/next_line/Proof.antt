@@ -12,15 +12,14 @@ returns-2 c =
     let at-write-line = c .before .before .before in
     let at-coming = at-write-line .before .before .before in
     let at-advance = at-coming .before .before .before in
-    let at-if1 = at-advance .before in
-    next-line-written _ _ _ (at-advance .advance .result) (at-if1 .if1 .left) (at-advance .advance .ensures) _
+    next-line-written _ _ _ (at-advance .advance .result) (at-advance .before .if1 .left) (at-advance .advance .ensures) _
     (at-write-line .write-line .result) (c .answer-of .result) _ (at-coming .coming .given .1)
     (at-write-line .write-line .ensures) (c .answer-of .ensures)
 
 returns-3 : tie.Need-returns-3
 returns-3 c =
     let at-advance = c .before .before .before in
-    next-line-over _ _ _ (at-advance .advance .result) (c .before .before .before .before .if1 .left)
+    next-line-over _ _ _ (at-advance .advance .result) (at-advance .before .if1 .left)
     (at-advance .advance .ensures) (c .enum-told .given .1)
 
 pub next-line-spec : {M : Type 1} → statement M

@@ -19,16 +19,14 @@ abbrev μ-loop : tie.MeasureT-loop
 array-share-prefix-line : tie.Need-array-share-prefix-line Inv-loop μ-loop
 array-share-prefix-line c =
     let at-hand-out = c .before .before .before .before in
-    let at-loop = at-hand-out .before .before in
-    omega (arith, at-hand-out .hand-out .ensures _ (c .before .answer .given .1) .0, at-loop .loop .inv)
+    omega (arith, at-hand-out .hand-out .ensures _ (c .before .answer .given .1) .0, at-hand-out .before .before .loop .inv)
 
 slice-aggregate-write-all : tie.Need-slice-aggregate-write-all Inv-loop μ-loop
 slice-aggregate-write-all c =
     let at-hand-out = c .before .before .before .before .before in
-    let at-loop = at-hand-out .before .before in
     let long : length (at-hand-out .hand-out .last .1 .1 .0) ≡ longestLine = search needs in
     let advances = at-hand-out .hand-out .ensures _ (c .before .before .answer .given .1) in
-    sym (length-take-le _ _ (omega (arith, advances .0, at-loop .loop .inv, long)))
+    sym (length-take-le _ _ (omega (arith, advances .0, at-hand-out .before .before .loop .inv, long)))
 
 loop-less : tie.Need-loop-less Inv-loop μ-loop
 loop-less c =
