@@ -1,15 +1,14 @@
 -- Laws of the first line whose test fails: the `do` blocks behind the calls are such lists of lines.
-use Prim.Native.Nat.{ℕ, _+_}
+use Prim.Native.Nat.{ℕ}
 use mathlib.Core.Path.{_≡_, refl, sym, ap, _∙_}
 use mathlib.Core.Bool.{Bool, true, false, not, cond}
-use mathlib.Core.List.{List, [], _∷_, _++_}
+use mathlib.Core.List.{List, [], _∷_}
 use lib.Dec.{ltb, leb}
-use lib.ListN.{length, drop}
-use lib.Seq.{sets}
+use lib.ListN.{length}
 use Rattle.number.specs.Outcomes.{Outcome, given, refused, _>>_, unless}
 use Rattle.number.specs.Refusals.{badForm, noSuchName, noSuchWinding, alreadySo, logTooLong, brokenBoard}
 use Rattle.number.specs.Refusals.{bufferTooShort}
-use Rattle.number.specs.Numbers.{largest, numberBytes, numberWriting}
+use Rattle.number.specs.Numbers.{largest, numberWriting}
 use Rattle.number.proofs.OutcomeLaws.{refused-never}
 use Rattle.board.specs.declared.Board.{Board}
 use Rattle.board.specs.Parts.{partsOf}
@@ -25,7 +24,7 @@ use Rattle.judge.specs.Judging.{windingFor}
 use Rattle.judge.proofs.SoughtLaws.{winding-refused}
 use Rattle.moves.specs.Moving.{movable}
 use Rattle.runs.specs.Running.{longestLog, runnable}
-use Rattle.lines.specs.Lines.{Line, lineText, longestLine, lineWriting}
+use Rattle.lines.specs.Lines.{Line, longestLine, lineWriting}
 use Rattle.demands.specs.EveryCallComesBack.{against, firstNo, isGiven, writeLines, usableLines, runLines}
 use Rattle.demands.specs.EveryCallComesBack.{judgeLines, moveLines, releaseLines, numberLines, lineLines}
 
@@ -96,74 +95,46 @@ module _ (b : Board) (s : State) where
       against-after (usable b s) (windingOf k r (partsOf b))
       ∙ usable-first b s _ _ (winding-by k r (windingOf k r (partsOf b)) refl)
 
--- ---- a call that answers `done`, or `refusal` where its test fails; `word` is what it came to
-module _ {A R : Type 0} (word : R → Outcome A) (done refusal : R) where
-  pub test-first : (t : Bool) (n : ℕ) (ls : List (Bool × ℕ)) → word refusal ≡ refused n 0
-      → against (word done) ≡ firstNo ls → against (word (cond t done refusal)) ≡ firstNo ((t, n) ∷ ls)
-  unfolding firstNo
-  test-first true n ls stops goes = goes
-  test-first false n ls stops goes = ap against stops
+-- ---- calls that test and then answer
 
-  -- what a refusal leaves
-  pub test-lent : (Left : R → Type 0) (t : Bool) {n p : ℕ} → Left refusal → (word done ≡ refused n p → Left done)
-      → word (cond t done refusal) ≡ refused n p → Left (cond t done refusal)
-  test-lent Left true stops goes e = goes e
-  test-lent Left false stops goes e = stops
+-- the lines ls stand against a call that answers x, and so came to `word x`; where that is a refusal, x is So
+pub record Stands {A R : Type 0} (word : R → Outcome A) (So : R → Type 0) (ls : List (Bool × ℕ)) (x : R) : Type 0 where
+  pub first : against (word x) ≡ firstNo ls
+  pub left : (n p : ℕ) → word x ≡ refused n p → So x
+
+-- one line before others: `done` is answered, or `refusal` where the test fails
+pub test-stands : {A R : Type 0} (word : R → Outcome A) (So : R → Type 0) (done refusal : R) (t : Bool) (m : ℕ)
+    (ls : List (Bool × ℕ)) → word refusal ≡ refused m 0 → So refusal → Stands word So ls done
+    → Stands word So ((t, m) ∷ ls) (cond t done refusal)
+unfolding firstNo
+test-stands word So done refusal true m ls stops left so = record { first = so .first; left = so .left }
+test-stands word So done refusal false m ls stops left so = record { first = ap against stops; left = λ n p e. left }
 
 -- ---- writing into a buffer: k bytes are written and it becomes l, unless a line stands against it
+
+abbrev pub WriteStands : List ℕ → List (Bool × ℕ) → Outcome ℕ × List ℕ → Type 0
+WriteStands out = Stands (λ x. x .0) (λ x. x .1 ≡ out)
+
 module _ (k : ℕ) (l out : List ℕ) where
-  abbrev Output : Type 0
-  Output = Outcome ℕ × List ℕ
-
-  abbrev outcome : Output → Outcome ℕ
-  outcome x = x .0
-
-  abbrev Unwritten : Output → Type 0
-  Unwritten x = x .1 ≡ out
-
-  abbrev pub afterOne : Bool → ℕ → Output
-  afterOne t n = cond t (given k, l) (refused n 0, out)
-
-  abbrev pub afterTwo : Bool → ℕ → Bool → ℕ → Output
-  afterTwo t m u n = cond t (afterOne u n) (refused m 0, out)
-
-  one-first : (t : Bool) (n : ℕ) → against (afterOne t n .0) ≡ firstNo ((t, n) ∷ [])
+  written : WriteStands out [] (given k, l)
   unfolding firstNo
-  one-first t n = test-first outcome (given k, l) (refused n 0, out) t n [] refl refl
+  written = record { first = refl; left = λ n p e. absurd (refused-never n p k (sym e)) }
 
-  two-first : (t : Bool) (m : ℕ) (u : Bool) (n : ℕ) → against (afterTwo t m u n .0) ≡ firstNo ((t, m) ∷ (u, n) ∷ [])
-  two-first t m u n = test-first outcome (afterOne u n) (refused m 0, out) t m ((u, n) ∷ []) refl (one-first u n)
+  one-line : (t : Bool) (n : ℕ) → WriteStands out ((t, n) ∷ []) (cond t (given k, l) (refused n 0, out))
+  one-line t n = test-stands _ _ (given k, l) (refused n 0, out) t n [] refl refl written
 
-  one-lent : (t : Bool) (n : ℕ) {i p : ℕ} → afterOne t n .0 ≡ refused i p → afterOne t n .1 ≡ out
-  one-lent t n =
-      test-lent outcome (given k, l) (refused n 0, out) Unwritten t refl (λ e. absurd (refused-never _ _ k (sym e)))
+  two-lines : (t : Bool) (m : ℕ) (u : Bool) (n : ℕ)
+      → WriteStands out ((t, m) ∷ (u, n) ∷ []) (cond t (cond u (given k, l) (refused n 0, out)) (refused m 0, out))
+  two-lines t m u n = test-stands _ _ _ (refused m 0, out) t m ((u, n) ∷ []) refl refl (one-line u n)
 
-  two-lent : (t : Bool) (m : ℕ) (u : Bool) (n : ℕ) {i p : ℕ} → afterTwo t m u n .0 ≡ refused i p
-      → afterTwo t m u n .1 ≡ out
-  two-lent t m u n = test-lent outcome (afterOne u n) (refused m 0, out) Unwritten t refl (one-lent u n)
-
-pub writing-first : (b : Board) (out : List ℕ) → against (writing b out .0) ≡ firstNo (writeLines b out)
+pub writing-stands : (b : Board) (out : List ℕ) → WriteStands out (writeLines b out) (writing b out)
 unfolding writing
-writing-first b out = two-first _ _ out (boardFine b) brokenBoard _ bufferTooShort
+writing-stands b out = two-lines _ _ out (boardFine b) brokenBoard _ bufferTooShort
 
-module _ (v : ℕ) (out : List ℕ) (at : ℕ) where
-  pub number-first : against (numberWriting v out at .0) ≡ firstNo (numberLines v out at)
-  unfolding numberWriting
-  number-first = two-first _ _ out (leb v largest) badForm _ bufferTooShort
+pub number-stands : (v : ℕ) (out : List ℕ) (at : ℕ) → WriteStands out (numberLines v out at) (numberWriting v out at)
+unfolding numberWriting
+number-stands v out at = two-lines _ _ out (leb v largest) badForm _ bufferTooShort
 
-  pub number-lent : {i p : ℕ} → numberWriting v out at .0 ≡ refused i p → numberWriting v out at .1 ≡ out
-  unfolding numberWriting
-  number-lent =
-      two-lent (at + length (numberBytes v)) (sets out at (numberBytes v)) out (leb v largest) badForm
-      (leb (at + length (numberBytes v)) (length out)) bufferTooShort
-
-module _ (l : Line) (out : List ℕ) where
-  pub line-text-first : against (lineWriting l out .0) ≡ firstNo (lineLines out)
-  unfolding lineWriting
-  line-text-first = one-first _ _ out (leb longestLine (length out)) bufferTooShort
-
-  pub line-text-lent : {i p : ℕ} → lineWriting l out .0 ≡ refused i p → lineWriting l out .1 ≡ out
-  unfolding lineWriting
-  line-text-lent =
-      one-lent (length (lineText l)) (lineText l ++ drop (length (lineText l)) out) out
-      (leb longestLine (length out)) bufferTooShort
+pub line-text-stands : (l : Line) (out : List ℕ) → WriteStands out (lineLines out) (lineWriting l out)
+unfolding lineWriting
+line-text-stands l out = one-line _ _ out (leb longestLine (length out)) bufferTooShort

@@ -23,9 +23,9 @@ use Rattle.runs.specs.Runs.{noRelay}
 use Rattle.runs.specs.Running.{unrun, ran, ranOn}
 use Rattle.lines.specs.Lines.{longestLine}
 use Rattle.session.specs.Carried.{Session, Coming, line, no-line, nextOf}
-use Rattle.session.specs.HandingOut.{HandOut, Handed, handedBy, nextLine}
+use Rattle.session.specs.HandingOut.{Handed, handedBy, nextLine}
 use Rattle.demands.specs.EveryCallComesBack.{against, firstNo, lineLines}
-use Rattle.demands.proofs.FirstNoLaws.{test-first, test-lent}
+use Rattle.demands.proofs.FirstNoLaws.{Stands, test-stands}
 
 -- ---- what a call leaves beside what it came to
 module _ {A : Type 0} (s : State) (f : A → State) where
@@ -96,22 +96,13 @@ module _ (z : Session) (s out : List ℕ) where
   handed-given (y, line l) = refl
   handed-given (y, no-line) = refl
 
-  abbrev answer : Handed → Outcome HandOut
-  answer h = h .answer
-
-  abbrev short : Handed
-  short = record { session = z; answer = refused bufferTooShort 0; out = out }
-
-  pub next-line-against : against (nextLine z s out .answer) ≡ firstNo (lineLines out)
+  pub next-line-stands : Stands (λ (h : Handed). h .answer) (λ h. (h .session ≡ z) × (h .out ≡ out)) (lineLines out)
+      (nextLine z s out)
   unfolding nextLine firstNo
-  next-line-against =
-      test-first answer (handedBy (nextOf z s) out) short (leb longestLine (length out)) bufferTooShort [] refl
-      (handed-given (nextOf z s))
-
-  pub next-line-refused : {n p : ℕ} → nextLine z s out .answer ≡ refused n p
-      → (nextLine z s out .session ≡ z) × (nextLine z s out .out ≡ out)
-  unfolding nextLine
-  next-line-refused =
-      test-lent answer (handedBy (nextOf z s) out) short (λ h. (h .session ≡ z) × (h .out ≡ out))
-      (leb longestLine (length out)) (refl, refl)
-      (λ e. absurd (refused-never _ _ tt (sym (ap against e) ∙ handed-given (nextOf z s))))
+  next-line-stands =
+      test-stands _ _ (handedBy (nextOf z s) out) (record { session = z; answer = refused bufferTooShort 0; out = out })
+      (leb longestLine (length out)) bufferTooShort [] refl (refl, refl)
+      (record {
+        first = handed-given (nextOf z s);
+        left = λ n p e. absurd (refused-never n p tt (sym (ap against e) ∙ handed-given (nextOf z s)));
+      })

@@ -33,10 +33,6 @@ line-bytes e = cc
 
 module _ (z : code-session.Session) (s out out′ : List ℕ) (r : code-handed.Handed)
     (called : toldHanded r out′ ≡ nextLine (toldSession z) s out) where
-  -- with room, the answer is what comes next
-  by-next : longestLine ≤ length out → toldHanded r out′ ≡ handedBy (nextOf (toldSession z) s) out
-  by-next room = called ∙ sym (next-line-room (toldSession z) s out room)
-
   -- a call that is not refused has room
   pub call-room : (a : HandOut) → toldHandOut (r .answer) ≡ given a → longestLine ≤ length out
   call-room a is =
@@ -46,8 +42,10 @@ module _ (z : code-session.Session) (s out out′ : List ℕ) (r : code-handed.H
       absurd (refused-never bufferTooShort 0 a (ap (λ (h : Handed). h .answer) refusing ∙ is)))
 
   module _ (room : longestLine ≤ length out) (y : Session) where
+    -- the answer is what comes next
     next-by : (c : Coming) → nextOf (toldSession z) s ≡ (y, c) → toldHanded r out′ ≡ handedBy (y, c) out
-    next-by c is = by-next room ∙ ap (λ (x : Session × Coming). handedBy x out) is
+    next-by c is =
+        called ∙ sym (next-line-room (toldSession z) s out room) ∙ ap (λ (x : Session × Coming). handedBy x out) is
 
     pub call-over : nextOf (toldSession z) s ≡ (y, no-line) → r .answer ≡ said.Over
     unfolding handedBy
