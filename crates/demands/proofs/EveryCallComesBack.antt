@@ -23,11 +23,10 @@ use Rattle.session.specs.HandingOut.{Handed}
 use Rattle.session.proofs.ToldLaws.{told-session-injective}
 use Rattle.demands.specs.EveryCallComesBack.{against, InOrder, AsLent, EveryCallComesBack}
 use Rattle.demands.proofs.FirstNoLaws.{runnable-first, movable-first, pressable-first, release-first}
-use Rattle.demands.proofs.FirstNoLaws.{winding-for-first, writing-first, number-first, number-lent}
-use Rattle.demands.proofs.FirstNoLaws.{line-text-first, line-text-lent}
+use Rattle.demands.proofs.FirstNoLaws.{winding-for-first, writing-stands, number-stands, line-text-stands}
 use Rattle.demands.proofs.RefusedLaws.{left-outcome, left-refused, against-then, nothing-written}
 use Rattle.demands.proofs.RefusedLaws.{verdict-against, verdict-refused, ran-against, ran-refused}
-use Rattle.demands.proofs.RefusedLaws.{handing-against, handing-refused}
+use Rattle.demands.proofs.RefusedLaws.{next-line-stands}
 
 pub in-order : InOrder
 unfolding pushing releasing judging moving running
@@ -35,11 +34,11 @@ in-order = record {
   reads = file-refused;
   eleven = eleven-exactly;
   writes-number =
-      λ v out out′ at x wrote. ap (λ (y : Outcome ℕ × List ℕ). against (y .0)) wrote ∙ number-first v out at;
+      λ v out out′ at x wrote. ap (λ (y : Outcome ℕ × List ℕ). against (y .0)) wrote ∙ number-stands v out at .first;
   writes-line =
       λ l out out′ x wrote. ap (λ (y : Outcome ℕ × List ℕ). against (y .0)) wrote
-      ∙ line-text-first (toldLine l) out;
-  writes = λ b out out′ w wrote. ap (λ (x : Outcome ℕ × List ℕ). against (x .0)) wrote ∙ writing-first b out;
+      ∙ line-text-stands (toldLine l) out .first;
+  writes = λ b out out′ w wrote. ap (λ (x : Outcome ℕ × List ℕ). against (x .0)) wrote ∙ writing-stands b out .first;
   pushes =
       λ b s n x pressed. ap (λ (y : State × Outcome (Unit {0})). y .1) pressed
       ∙ left-outcome s _ (pressable b s n (isPushed s n)) ∙ pressable-first b s n (isPushed s n);
@@ -58,7 +57,7 @@ in-order = record {
       ∙ runnable-first b s log;
   hands =
       λ z s out out′ r called. ap (λ (h : Handed). against (h .answer)) called
-      ∙ handing-against (toldSession z) s out;
+      ∙ next-line-stands (toldSession z) s out .first;
 }
 
 pub as-lent : AsLent
@@ -69,9 +68,9 @@ as-lent = record {
       (sym read ∙ ap {B = Board × Outcome ℕ} (λ o. (r .board, o)) told);
   writes-number =
       λ v out out′ at x n p wrote told. ap (λ (y : Outcome ℕ × List ℕ). y .1) wrote
-      ∙ number-lent v out at (sym (ap (λ (y : Outcome ℕ × List ℕ). y .0) wrote) ∙ told);
+      ∙ number-stands v out at .left n p (sym (ap (λ (y : Outcome ℕ × List ℕ). y .0) wrote) ∙ told);
   writes-line =
-      λ l out out′ x n p wrote told. ap (λ (y : Outcome ℕ × List ℕ). y .1) wrote ∙ line-text-lent (toldLine l) out
+      λ l out out′ x n p wrote told. ap (λ (y : Outcome ℕ × List ℕ). y .1) wrote ∙ line-text-stands (toldLine l) out .left n p
       (sym (ap (λ (y : Outcome ℕ × List ℕ). y .0) wrote) ∙ told);
   writes =
       λ b out out′ w n p wrote told. (
@@ -100,10 +99,9 @@ as-lent = record {
         (ap (λ (t : Ran). t .moves) none, (ap (λ (t : Ran). t .relay) none, ap (λ (t : Ran). t .log) none)),
       );
   hands = λ z s out out′ r n p called told.
-      let kept = handing-refused (toldSession z) s out n p (sym (ap (λ (h : Handed). h .answer) called) ∙ told) in (
+      let kept = next-line-stands (toldSession z) s out .left n p (sym (ap (λ (h : Handed). h .answer) called) ∙ told) in (
         told-session-injective (r .session) z (ap (λ (h : Handed). h .session) called ∙ kept .0),
-        ap
-            (λ (h : Handed). h .out) called ∙ kept .1,
+        ap (λ (h : Handed). h .out) called ∙ kept .1,
       );
 }
 

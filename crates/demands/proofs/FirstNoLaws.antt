@@ -1,15 +1,14 @@
 -- Laws of the first line whose test fails: the `do` blocks behind the calls are such lists of lines.
-use Prim.Native.Nat.{ℕ, _+_}
+use Prim.Native.Nat.{ℕ}
 use mathlib.Core.Path.{_≡_, refl, sym, ap, _∙_}
 use mathlib.Core.Bool.{Bool, true, false, not, cond}
-use mathlib.Core.List.{List, [], _∷_, _++_}
+use mathlib.Core.List.{List, [], _∷_}
 use lib.Dec.{ltb, leb}
-use lib.ListN.{length, drop}
-use lib.Seq.{sets}
+use lib.ListN.{length}
 use Rattle.number.specs.Outcomes.{Outcome, given, refused, _>>_, unless}
 use Rattle.number.specs.Refusals.{badForm, noSuchName, noSuchWinding, alreadySo, logTooLong, brokenBoard}
 use Rattle.number.specs.Refusals.{bufferTooShort}
-use Rattle.number.specs.Numbers.{largest, numberBytes, numberWriting}
+use Rattle.number.specs.Numbers.{largest, numberWriting}
 use Rattle.number.proofs.OutcomeLaws.{refused-never}
 use Rattle.board.specs.declared.Board.{Board}
 use Rattle.board.specs.Parts.{partsOf}
@@ -25,7 +24,7 @@ use Rattle.judge.specs.Judging.{windingFor}
 use Rattle.judge.proofs.SoughtLaws.{winding-refused}
 use Rattle.moves.specs.Moving.{movable}
 use Rattle.runs.specs.Running.{longestLog, runnable}
-use Rattle.lines.specs.Lines.{Line, lineText, longestLine, lineWriting}
+use Rattle.lines.specs.Lines.{Line, longestLine, lineWriting}
 use Rattle.demands.specs.EveryCallComesBack.{against, firstNo, isGiven, writeLines, usableLines, runLines}
 use Rattle.demands.specs.EveryCallComesBack.{judgeLines, moveLines, releaseLines, numberLines, lineLines}
 
@@ -63,8 +62,9 @@ module _ (b : Board) (s : State) where
   unfolding movable
   movable-first r = usable-first b s _ _ (line-last _ noSuchWinding)
 
-  pub pressable-first : (n : ℕ) (already : Bool) → pressable b s n already ≡ firstNo
-      (usableLines b s ((ltb n (b .counts .buttons), noSuchName) ∷ (not already, alreadySo) ∷ []))
+  pub pressable-first : (n : ℕ) (already : Bool)
+      → pressable b s n already
+      ≡ firstNo (usableLines b s ((ltb n (b .counts .buttons), noSuchName) ∷ (not already, alreadySo) ∷ []))
   unfolding pressable
   pressable-first n already = usable-first b s _ _ (line-first _ noSuchName _ _ (line-last (not already) alreadySo))
 
@@ -95,56 +95,46 @@ module _ (b : Board) (s : State) where
       against-after (usable b s) (windingOf k r (partsOf b))
       ∙ usable-first b s _ _ (winding-by k r (windingOf k r (partsOf b)) refl)
 
+-- ---- calls that test and then answer
+
+-- the lines ls stand against a call that answers x, and so came to `word x`; where that is a refusal, x is So
+pub record Stands {A R : Type 0} (word : R → Outcome A) (So : R → Type 0) (ls : List (Bool × ℕ)) (x : R) : Type 0 where
+  pub first : against (word x) ≡ firstNo ls
+  pub left : (n p : ℕ) → word x ≡ refused n p → So x
+
+-- one line before others: `done` is answered, or `refusal` where the test fails
+pub test-stands : {A R : Type 0} (word : R → Outcome A) (So : R → Type 0) (done refusal : R) (t : Bool) (m : ℕ)
+    (ls : List (Bool × ℕ)) → word refusal ≡ refused m 0 → So refusal → Stands word So ls done
+    → Stands word So ((t, m) ∷ ls) (cond t done refusal)
+unfolding firstNo
+test-stands word So done refusal true m ls stops left so = record { first = so .first; left = so .left }
+test-stands word So done refusal false m ls stops left so = record { first = ap against stops; left = λ n p e. left }
+
 -- ---- writing into a buffer: k bytes are written and it becomes l, unless a line stands against it
+
+abbrev pub WriteStands : List ℕ → List (Bool × ℕ) → Outcome ℕ × List ℕ → Type 0
+WriteStands out = Stands (λ x. x .0) (λ x. x .1 ≡ out)
+
 module _ (k : ℕ) (l out : List ℕ) where
-  abbrev pub afterOne : Bool → ℕ → Outcome ℕ × List ℕ
-  afterOne t n = cond t (given k, l) (refused n 0, out)
-
-  abbrev pub afterTwo : Bool → ℕ → Bool → ℕ → Outcome ℕ × List ℕ
-  afterTwo t m u n = cond t (afterOne u n) (refused m 0, out)
-
-  one-first : (t : Bool) (n : ℕ) → against (afterOne t n .0) ≡ firstNo ((t, n) ∷ [])
+  written : WriteStands out [] (given k, l)
   unfolding firstNo
-  one-first true n = refl
-  one-first false n = refl
+  written = record { first = refl; left = λ n p e. absurd (refused-never n p k (sym e)) }
 
-  two-first : (t : Bool) (m : ℕ) (u : Bool) (n : ℕ) → against (afterTwo t m u n .0) ≡ firstNo ((t, m) ∷ (u, n) ∷ [])
-  unfolding firstNo
-  two-first true m u n = one-first u n
-  two-first false m u n = refl
+  one-line : (t : Bool) (n : ℕ) → WriteStands out ((t, n) ∷ []) (cond t (given k, l) (refused n 0, out))
+  one-line t n = test-stands _ _ (given k, l) (refused n 0, out) t n [] refl refl written
 
-  one-lent : (t : Bool) (n : ℕ) {i p : ℕ} → afterOne t n .0 ≡ refused i p → afterOne t n .1 ≡ out
-  one-lent true n e = absurd (refused-never _ _ k (sym e))
-  one-lent false n e = refl
+  two-lines : (t : Bool) (m : ℕ) (u : Bool) (n : ℕ)
+      → WriteStands out ((t, m) ∷ (u, n) ∷ []) (cond t (cond u (given k, l) (refused n 0, out)) (refused m 0, out))
+  two-lines t m u n = test-stands _ _ _ (refused m 0, out) t m ((u, n) ∷ []) refl refl (one-line u n)
 
-  two-lent : (t : Bool) (m : ℕ) (u : Bool) (n : ℕ) {i p : ℕ} → afterTwo t m u n .0 ≡ refused i p
-      → afterTwo t m u n .1 ≡ out
-  two-lent true m u n e = one-lent u n e
-  two-lent false m u n e = refl
-
-pub writing-first : (b : Board) (out : List ℕ) → against (writing b out .0) ≡ firstNo (writeLines b out)
+pub writing-stands : (b : Board) (out : List ℕ) → WriteStands out (writeLines b out) (writing b out)
 unfolding writing
-writing-first b out = two-first _ _ out (boardFine b) brokenBoard _ bufferTooShort
+writing-stands b out = two-lines _ _ out (boardFine b) brokenBoard _ bufferTooShort
 
-pub number-first : (v : ℕ) (out : List ℕ) (at : ℕ) → against (numberWriting v out at .0) ≡ firstNo
-    (numberLines v out at)
+pub number-stands : (v : ℕ) (out : List ℕ) (at : ℕ) → WriteStands out (numberLines v out at) (numberWriting v out at)
 unfolding numberWriting
-number-first v out at = two-first _ _ out (leb v largest) badForm _ bufferTooShort
+number-stands v out at = two-lines _ _ out (leb v largest) badForm _ bufferTooShort
 
-pub number-lent : (v : ℕ) (out : List ℕ) (at : ℕ) {i p : ℕ} → numberWriting v out at .0 ≡ refused i p
-    → numberWriting v out at .1 ≡ out
-unfolding numberWriting
-number-lent v out at e =
-    two-lent (at + length (numberBytes v)) (sets out at (numberBytes v)) out (leb v largest) badForm
-    (leb (at + length (numberBytes v)) (length out)) bufferTooShort e
-
-pub line-text-first : (l : Line) (out : List ℕ) → against (lineWriting l out .0) ≡ firstNo (lineLines out)
+pub line-text-stands : (l : Line) (out : List ℕ) → WriteStands out (lineLines out) (lineWriting l out)
 unfolding lineWriting
-line-text-first l out = one-first _ _ out (leb longestLine (length out)) bufferTooShort
-
-pub line-text-lent : (l : Line) (out : List ℕ) {i p : ℕ} → lineWriting l out .0 ≡ refused i p
-    → lineWriting l out .1 ≡ out
-unfolding lineWriting
-line-text-lent l out e =
-    one-lent (length (lineText l)) (lineText l ++ drop (length (lineText l)) out) out (leb longestLine (length out))
-    bufferTooShort e
+line-text-stands l out = one-line _ _ out (leb longestLine (length out)) bufferTooShort

@@ -2,7 +2,7 @@
 use Prim.Native.Nat.{ℕ}
 use mathlib.Core.Path.{_≡_, refl, sym, ap, _∙_}
 use mathlib.Core.Bool.{Bool, true, false, cond}
-use mathlib.Core.List.{List, [], _∷_}
+use mathlib.Core.List.{List, []}
 use mathlib.Core.Option.{Option, none, some}
 use lib.Dec.{leb}
 use lib.ListN.{length}
@@ -23,8 +23,9 @@ use Rattle.runs.specs.Runs.{noRelay}
 use Rattle.runs.specs.Running.{unrun, ran, ranOn}
 use Rattle.lines.specs.Lines.{longestLine}
 use Rattle.session.specs.Carried.{Session, Coming, line, no-line, nextOf}
-use Rattle.session.specs.HandingOut.{handedBy, nextLine}
+use Rattle.session.specs.HandingOut.{Handed, handedBy, nextLine}
 use Rattle.demands.specs.EveryCallComesBack.{against, firstNo, lineLines}
+use Rattle.demands.proofs.FirstNoLaws.{Stands, test-stands}
 
 -- ---- what a call leaves beside what it came to
 module _ {A : Type 0} (s : State) (f : A → State) where
@@ -55,8 +56,8 @@ weighed-given : (t : List ℕ → Bool) (cs : List (List ℕ)) (w : ℕ) → aga
 unfolding weighed
 weighed-given t cs w = by (leb (effort t cs) w)
   where
-    by : (within : Bool) → against ((cond within (settled (effort t cs) (firstShown t cs)) (unsettled w)) .finding)
-        ≡ given tt
+    by : (within : Bool)
+        → against ((cond within (settled (effort t cs) (firstShown t cs)) (unsettled w)) .finding) ≡ given tt
     by true = settled-given (effort t cs) (firstShown t cs)
     by false = refl
 
@@ -88,33 +89,20 @@ module _ (b : Board) (s : State) (w : ℕ) where
     ran-refused (given u) n p e = absurd (refused-never n p _ (sym e))
     ran-refused (refused m q) n p e = λ i. record { word = e i; moves = 0; state = s; relay = noRelay; log = log }
 
--- ---- handing out a line
+-- ---- the next line
 module _ (z : Session) (s out : List ℕ) where
   handed-given : (x : Session × Coming) → against (handedBy x out .answer) ≡ given tt
   unfolding handedBy
   handed-given (y, line l) = refl
   handed-given (y, no-line) = refl
 
-  pub handing-against : against (nextLine z s out .answer) ≡ firstNo (lineLines out)
+  pub next-line-stands : Stands (λ (h : Handed). h .answer) (λ h. (h .session ≡ z) × (h .out ≡ out)) (lineLines out)
+      (nextLine z s out)
   unfolding nextLine firstNo
-  handing-against = by (leb longestLine (length out))
-    where
-      by : (t : Bool)
-          → against
-          ((cond t (handedBy (nextOf z s) out)
-          (record { session = z; answer = refused bufferTooShort 0; out = out })) .answer) ≡ firstNo
-          ((t, bufferTooShort) ∷ [])
-      by true = handed-given (nextOf z s)
-      by false = refl
-
-  pub handing-refused : (n p : ℕ) → nextLine z s out .answer ≡ refused n p → (nextLine z s out .session ≡ z)
-      × (nextLine z s out .out ≡ out)
-  unfolding nextLine
-  handing-refused n p = by (leb longestLine (length out))
-    where
-      by : (t : Bool)
-          → (let x = cond t (handedBy (nextOf z s) out)
-          (record { session = z; answer = refused bufferTooShort 0; out = out }) in
-          x .answer ≡ refused n p → (x .session ≡ z) × (x .out ≡ out))
-      by true e = absurd (refused-never n p tt (sym (ap against e) ∙ handed-given (nextOf z s)))
-      by false e = (refl, refl)
+  next-line-stands =
+      test-stands _ _ (handedBy (nextOf z s) out) (record { session = z; answer = refused bufferTooShort 0; out = out })
+      (leb longestLine (length out)) bufferTooShort [] refl (refl, refl)
+      (record {
+        first = handed-given (nextOf z s);
+        left = λ n p e. absurd (refused-never n p tt (sym (ap against e) ∙ handed-given (nextOf z s)));
+      })

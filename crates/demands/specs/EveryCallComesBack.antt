@@ -5,6 +5,7 @@
 -- 2) is all that `read_number` refuses, and its definition says when.
 --     against o                 what stands against a call that came to o: its refusal, or nothing
 --     firstNo ls                the first of these lines whose test fails, by its number at place 0, or nothing
+--     isGiven o                 whether o is given
 --     numberLines .. lineLines  "Calls: 15, 14, 13, 11, 7, 12, 16, those that apply": the lines of each call in that
 --                               order, each a test that must hold and the number for no
 --     InOrder                   what stands against each call is the first of its lines whose test fails; a file is
@@ -110,45 +111,69 @@ pub record InOrder : Type 0 where
   pub writes-line : (l : Line) (out out′ : List ℕ) (x : LineWritten)
       → _≡_ {A = Outcome ℕ × List ℕ} (toldLineWritten x, out′) (lineWriting (toldLine l) out)
       → against (toldLineWritten x) ≡ firstNo (lineLines out)
-  pub writes : (b : Board) (out out′ : List ℕ) (w : Written) → Wrote b out w out′
+  pub writes : (b : Board) (out out′ : List ℕ) (w : Written)
+      → Wrote b out w out′
       → against (toldWritten w) ≡ firstNo (writeLines b out)
-  pub pushes : (b : Board) (s : State) (n : ℕ) (x : Pressed) → toldPressed x ≡ pushing b s n
+  pub pushes : (b : Board) (s : State) (n : ℕ) (x : Pressed)
+      → toldPressed x ≡ pushing b s n
       → toldPress (x .answer) ≡ firstNo (pushLines b s n)
-  pub releases : (b : Board) (s : State) (n : ℕ) (x : Pressed) → toldPressed x ≡ releasing b s n
+  pub releases : (b : Board) (s : State) (n : ℕ) (x : Pressed)
+      → toldPressed x ≡ releasing b s n
       → toldPress (x .answer) ≡ firstNo (releaseLines b s n)
-  pub judges : (b : Board) (s : State) (r : ℕ) (k : Which) (w : ℕ) (v : Verdict) → Judges b s r k w v
+  pub judges : (b : Board) (s : State) (r : ℕ) (k : Which) (w : ℕ) (v : Verdict)
+      → Judges b s r k w v
       → against (toldFinding (v .finding)) ≡ firstNo (judgeLines b s r k)
-  pub moves : (b : Board) (s : State) (r w : ℕ) (a : Moved) → Moves b s r w a
+  pub moves : (b : Board) (s : State) (r w : ℕ) (a : Moved)
+      → Moves b s r w a
       → against (toldMoveAnswer (a .answer)) ≡ firstNo (moveLines b s r)
-  pub runs : (b : Board) (s : State) (w : ℕ) (log log′ : List ℕ) (a : Ran) → Runs b s log w a log′
+  pub runs : (b : Board) (s : State) (w : ℕ) (log log′ : List ℕ) (a : Ran)
+      → Runs b s log w a log′
       → against (toldEnding (a .word)) ≡ firstNo (runLines b s log)
-  pub hands : (z : Session) (s out out′ : List ℕ) (r : Handed) → Called z s out r out′
+  pub hands : (z : Session) (s out out′ : List ℕ) (r : Handed)
+      → Called z s out r out′
       → against (toldHandOut (r .answer)) ≡ firstNo (lineLines out)
 
 pub record AsLent : Type 0 where
-  pub reads : (s : List ℕ) (r : BoardRead) (n p : ℕ) → WasRead s r → toldReadAnswer (r .answer) ≡ refused n p
+  pub reads : (s : List ℕ) (r : BoardRead) (n p : ℕ)
+      → WasRead s r
+      → toldReadAnswer (r .answer) ≡ refused n p
       → r .board ≡ emptyBoard
   pub writes-number : (v : ℕ) (out out′ : List ℕ) (at : ℕ) (x : NumberWritten) (n p : ℕ)
       → _≡_ {A = Outcome ℕ × List ℕ} (toldNumberWritten x, out′) (numberWriting v out at)
-      → toldNumberWritten x ≡ refused n p → out′ ≡ out
+      → toldNumberWritten x ≡ refused n p
+      → out′ ≡ out
   pub writes-line : (l : Line) (out out′ : List ℕ) (x : LineWritten) (n p : ℕ)
       → _≡_ {A = Outcome ℕ × List ℕ} (toldLineWritten x, out′) (lineWriting (toldLine l) out)
-      → toldLineWritten x ≡ refused n p → out′ ≡ out
-  pub writes : (b : Board) (out out′ : List ℕ) (w : Written) (n p : ℕ) → Wrote b out w out′
-      → toldWritten w ≡ refused n p → (out′ ≡ out) × (bytesWritten w ≡ 0)
-  pub pushes : (b : Board) (s : State) (k : ℕ) (x : Pressed) (n p : ℕ) → toldPressed x ≡ pushing b s k
-      → toldPress (x .answer) ≡ refused n p → x .state ≡ s
-  pub releases : (b : Board) (s : State) (k : ℕ) (x : Pressed) (n p : ℕ) → toldPressed x ≡ releasing b s k
-      → toldPress (x .answer) ≡ refused n p → x .state ≡ s
-  pub judges : (b : Board) (s : State) (r : ℕ) (k : Which) (w : ℕ) (v : Verdict) (n p : ℕ) → Judges b s r k w v
-      → toldFinding (v .finding) ≡ refused n p → (v .effort ≡ 0) × ((v .length ≡ 0) × (v .terminals ≡ places []))
-  pub moves : (b : Board) (s : State) (r w : ℕ) (a : Moved) (n p : ℕ) → Moves b s r w a
-      → toldMoveAnswer (a .answer) ≡ refused n p → a .state ≡ s
-  pub runs : (b : Board) (s : State) (w : ℕ) (log log′ : List ℕ) (a : Ran) (n p : ℕ) → Runs b s log w a log′
-      → toldEnding (a .word) ≡ refused n p → (a .state ≡ s)
-      × ((a .moves ≡ 0) × ((a .relay ≡ noRelay) × (log′ ≡ log)))
-  pub hands : (z : Session) (s out out′ : List ℕ) (r : Handed) (n p : ℕ) → Called z s out r out′
-      → toldHandOut (r .answer) ≡ refused n p → (r .session ≡ z) × (out′ ≡ out)
+      → toldLineWritten x ≡ refused n p
+      → out′ ≡ out
+  pub writes : (b : Board) (out out′ : List ℕ) (w : Written) (n p : ℕ)
+      → Wrote b out w out′
+      → toldWritten w ≡ refused n p
+      → (out′ ≡ out) × (bytesWritten w ≡ 0)
+  pub pushes : (b : Board) (s : State) (k : ℕ) (x : Pressed) (n p : ℕ)
+      → toldPressed x ≡ pushing b s k
+      → toldPress (x .answer) ≡ refused n p
+      → x .state ≡ s
+  pub releases : (b : Board) (s : State) (k : ℕ) (x : Pressed) (n p : ℕ)
+      → toldPressed x ≡ releasing b s k
+      → toldPress (x .answer) ≡ refused n p
+      → x .state ≡ s
+  pub judges : (b : Board) (s : State) (r : ℕ) (k : Which) (w : ℕ) (v : Verdict) (n p : ℕ)
+      → Judges b s r k w v
+      → toldFinding (v .finding) ≡ refused n p
+      → (v .effort ≡ 0) × ((v .length ≡ 0) × (v .terminals ≡ places []))
+  pub moves : (b : Board) (s : State) (r w : ℕ) (a : Moved) (n p : ℕ)
+      → Moves b s r w a
+      → toldMoveAnswer (a .answer) ≡ refused n p
+      → a .state ≡ s
+  pub runs : (b : Board) (s : State) (w : ℕ) (log log′ : List ℕ) (a : Ran) (n p : ℕ)
+      → Runs b s log w a log′
+      → toldEnding (a .word) ≡ refused n p
+      → (a .state ≡ s) × ((a .moves ≡ 0) × ((a .relay ≡ noRelay) × (log′ ≡ log)))
+  pub hands : (z : Session) (s out out′ : List ℕ) (r : Handed) (n p : ℕ)
+      → Called z s out r out′
+      → toldHandOut (r .answer) ≡ refused n p
+      → (r .session ≡ z) × (out′ ≡ out)
 
 pub record EveryCallComesBack : Type 0 where
   pub in-order : InOrder

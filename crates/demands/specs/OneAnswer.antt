@@ -1,11 +1,11 @@
 -- Rule book, how tight the promises are: "Any pair of answers allowed by a promise is shown to be one answer". A line
 -- for each function that another crate can call: its promise, and that it allows one answer only. `docs/PROMISES.md`
 -- has the promises in words.
---     itself               an answer that is told as it is
---     One told a           two answers that are told as a are one answer
---     OneLent told a       two answers, with what they leave in a lent log or buffer, that are told as a are one
---                          answer, and leave the same
---     OneAnswer            the list
+--     itself          an answer that is told as it is
+--     One told a      two answers that are told as a are one answer
+--     OneLent told a  two answers, with what they leave in a lent log or buffer, that are told as a are one answer, and
+--                     leave the same
+--     OneAnswer       the list
 use Prim.Native.Nat.{ℕ, _<_}
 use mathlib.Core.Path.{_≡_}
 use mathlib.Core.List.{List}
@@ -68,8 +68,8 @@ pub record OneAnswer : Type 0 where
   pub bits-wide : (x p q : ℕ) → (p ≡ x) × (p < 256) → (q ≡ x) × (q < 256) → p ≡ q
   pub number-read-number : (s : List ℕ) (at : ℕ) → One number.toldNumber (number.numberAt s at)
   pub number-number-length : (v : ℕ) → One itself (length (number.numberBytes v))
-  pub number-write-number : (v : ℕ) (out : List ℕ) (at : ℕ) → OneLent (withBuffer number.toldNumberWritten)
-      (number.numberWriting v out at)
+  pub number-write-number : (v : ℕ) (out : List ℕ) (at : ℕ)
+      → OneLent (withBuffer number.toldNumberWritten) (number.numberWriting v out at)
   pub kinds-of : (k n : ℕ) → One itself (kinds.kindOf k n)
   pub kinds-number : (k : Kind) → One itself (kinds.kindNumber k)
   pub kinds-name : (k : Kind) → One itself (kinds.nameOf k)
@@ -105,8 +105,8 @@ pub record OneAnswer : Type 0 where
   pub moves-after : (s : State) (r : ℕ) (m : Move) → One itself (steps.made s r (steps.toldMove m))
   pub moves-move-relay : (b : Board) (s : State) (r w : ℕ) → One moves.toldMoved (moves.moving b s r w)
   pub runs-run : (b : Board) (s : State) (log : List ℕ) (w : ℕ) → OneLent runs.toldRan (runs.running b s log w)
-  pub lines-write-line : (l : Line) (out : List ℕ) → OneLent (withBuffer lines.toldLineWritten)
-      (lines.lineWriting (lines.toldLine l) out)
+  pub lines-write-line : (l : Line) (out : List ℕ)
+      → OneLent (withBuffer lines.toldLineWritten) (lines.lineWriting (lines.toldLine l) out)
   pub events-run-line : (b : Board) (e : ℕ) (s : State) (w : ℕ) → One events.toldShown (events.ranLine b e s w)
   pub events-event-line : (b : Board) (e : ℕ) (s : State) (v w : ℕ) → One events.toldShown (events.eventLine b e s v w)
   pub session-begin : (s : List ℕ) → One session.toldSession (session.beginning s)

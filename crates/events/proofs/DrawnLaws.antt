@@ -1,6 +1,5 @@
 -- The last number of an event's line is the rule book's sum: the relays below k give the k low bits of the word of
 -- drawn relays, and a state that fits a board has no other bits.
--- Assumes nothing.
 use Prim.Native.Nat.{ℕ, zero, suc, _+_, _*_, _/_, _%_, _^_, _<_}
 use mathlib.Core.Path.{_≡_, sym, ap, ap₂, _∙_}
 use mathlib.Core.Bool.{cond}
@@ -21,9 +20,9 @@ bit-worth zero w bit = sym (zero-mul w)
 bit-worth (suc zero) w bit = sym (one-mul w)
 bit-worth (suc (suc b)) w bit = absurd (omega (arith, bit))
 
-worth : (n k : ℕ) → cond (member n k) (2 ^ k) 0 ≡ n / 2 ^ k % 2 * 2 ^ k
+bit-worth-member : (n k : ℕ) → cond (member n k) (2 ^ k) 0 ≡ n / 2 ^ k % 2 * 2 ^ k
 unfolding member
-worth n k = bit-worth (n / 2 ^ k % 2) (2 ^ k) (omega arith)
+bit-worth-member n k = bit-worth (n / 2 ^ k % 2) (2 ^ k) (omega arith)
 
 -- one bit more of the low bits
 low-next : (n k : ℕ) → n % 2 ^ suc k ≡ n % 2 ^ k + n / 2 ^ k % 2 * 2 ^ k
@@ -35,7 +34,7 @@ low-next n k =
 sum-low : (k : ℕ) (s : State) → sumBelow k s ≡ s .drawn % 2 ^ k
 unfolding sumBelow
 sum-low zero s = sym (mod-one (s .drawn))
-sum-low (suc k) s = ap₂ (λ (x y : ℕ). x + y) (sum-low k s) (worth (s .drawn) k) ∙ sym (low-next (s .drawn) k)
+sum-low (suc k) s = ap₂ (λ (x y : ℕ). x + y) (sum-low k s) (bit-worth-member (s .drawn) k) ∙ sym (low-next (s .drawn) k)
 
 pub drawn-is-sum : DrawnIsSum
 drawn-is-sum c s fine =

@@ -1,5 +1,5 @@
-// One event of a session: the push or release, the run after it, and the line that tells of it. The first run is event 0,
-// which pushes and releases nothing.
+// One event of a session: the push or release, the run after it, and the line that tells of it. The first run is event
+// 0, which pushes and releases nothing.
 ghost use mathlib.Core.Path.{_≡_};
 ghost use Rattle.presses.specs.Presses.{toldPressed};
 ghost use Rattle.events.specs.Events.{pressing, ranLine, pressedLine, eventLine, toldShown};

@@ -1,8 +1,8 @@
-// The session program: reads a session from standard input and prints its lines on standard output. What the lines are is
-// the library's to say (crate `session`); here is only the reading and the writing.
-ghost use Prim.Native.Nat.{_+_, _≤_};
+// The session program: reads a session from standard input and prints its lines on standard output. What the lines are
+// is the library's to say (crate `session`); here is only the reading and the writing.
+ghost use Prim.Native.Nat.{_+_, _-_, _≤_};
 ghost use lib.ListN.{length};
-ghost use Rattle.herdspiral.specs.Progress.{Advances};
+ghost use Rattle.session.specs.ToCome.{Advances};
 use board_reader::LONGEST_INPUT;
 use libc::STDERR_FILENO;
 use libc::STDIN_FILENO;
@@ -67,7 +67,7 @@ fn read_input(buffer: &mut [u8]) -> Input
 // Hands out the next line into the buffer from a place on.
 fn hand_out(session: Session, input: &[u8], lines: &mut [u8], at: usize) -> Handed
     requires { ⌜ at ≤ length (now lines) ⌝ }
-    ensures { λ r. ⌜ Advances session (now (input .entry)) (now (lines .entry)) at r ⌝ }
+    ensures { λ r. ⌜ Advances session (now (input .entry)) (length (now (lines .entry)) - at) r ⌝ }
 {
     session::next_line(session, input, &mut lines[at..])
 }

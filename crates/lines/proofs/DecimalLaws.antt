@@ -1,26 +1,19 @@
 -- The laws of a number in decimal: its digits one by one, how many they are, and that they stand for it.
 -- `put_digits` writes by the first of these; every line's length rests on `decimal-few`.
 use mathlib.Core.Path.{_≡_, refl, sym, ap, _∙_}
-use mathlib.Core.Bool.{Bool, true, false}
 use mathlib.Core.List.{List, [], _∷_, _++_}
-use mathlib.Core.Logic.{_⊎_, inl, inr, ⊎-elim}
 use Prim.Native.Nat.{ℕ, zero, suc, _+_, _-_, _*_, _/_, _%_, _^_, _≤_, _<_}
-use native.Mathlib.Nat.{div-add-mod, mod-lt}
 use native.Mathlib.Omega.{arith}
 use borrow.Author.Tests.{ltb-true, ltb-false, lt-ltb, le-ltb}
 use lib.Dec.{ltb}
 use lib.ListN.{length, getD, length-append, List·getD-append}
+use Rattle.bits.proofs.BoolLaws.{by-test}
 use Rattle.lines.specs.Texts.{digit, mostDigits, digitsOf, decimal, valueOf}
 
 -- ---- one step of the definition
 
--- a digit is the only one or it is not
-one-or-more : (n : ℕ) → (n < 10) ⊎ (10 ≤ n)
-one-or-more n = tested (ltb n 10) refl
-  where
-    tested : (t : Bool) → ltb n 10 ≡ t → (n < 10) ⊎ (10 ≤ n)
-    tested true e = inl (ltb-true n 10 e)
-    tested false e = inr (ltb-false n 10 e)
+by-less : {A : Type 0} (m n : ℕ) → (m < n → A) → (n ≤ m → A) → A
+by-less m n less more = by-test (ltb m n) (λ e. less (ltb-true m n e)) (λ e. more (ltb-false m n e))
 
 digits-one : (k n : ℕ) → n < 10 → digitsOf (suc k) n ≡ digit n ∷ []
 unfolding digitsOf
@@ -30,39 +23,21 @@ digits-more : (k n : ℕ) → 10 ≤ n → digitsOf (suc k) n ≡ digitsOf k (n 
 unfolding digitsOf
 digits-more k n h = rw (le-ltb n 10 h)
 
--- the last digit and the rest of a number
-parts : (n : ℕ) → 10 * (n / 10) + n % 10 ≡ n
-parts n = div-add-mod n 10
-
-pub last-small : (n : ℕ) → n % 10 < 10
-last-small n = mod-lt n {m = 10} (omega arith)
-
-pub rest-less : (n : ℕ) → 10 ≤ n → n / 10 < n
-rest-less n h = omega (arith, parts n, last-small n)
-
-rest-small : (k n : ℕ) → n < 10 ^ suc k → n / 10 < 10 ^ k
-rest-small k n h = omega (arith, parts n)
-
-rest-some : (n : ℕ) → 10 ≤ n → 0 < n / 10
-rest-some n h = omega (arith, parts n, last-small n)
-
 -- ---- how many digits there are
 
 digits-few : (k n : ℕ) → length (digitsOf k n) ≤ k
 unfolding digitsOf
 digits-few zero n = omega arith
 digits-few (suc k) n =
-    ⊎-elim
-    (λ (l : n < 10). rw digits-one (omega arith))
-    (λ (m : 10 ≤ n). rw (digits-more, length-append) (omega (arith, digits-few k (n / 10))))
-    (one-or-more n)
+    by-less n 10
+    (λ l. rw digits-one (omega arith))
+    (λ m. rw (digits-more, length-append) (omega (arith, digits-few k (n / 10))))
 
 digits-some : (k n : ℕ) → 0 < length (digitsOf (suc k) n)
 digits-some k n =
-    ⊎-elim
-    (λ (l : n < 10). rw digits-one (omega arith))
-    (λ (m : 10 ≤ n). rw (digits-more, length-append) (omega arith))
-    (one-or-more n)
+    by-less n 10
+    (λ l. rw digits-one (omega arith))
+    (λ m. rw (digits-more, length-append) (omega arith))
 
 pub decimal-few : (n : ℕ) → length (decimal n) ≤ mostDigits
 unfolding decimal
@@ -78,11 +53,10 @@ decimal-some n = digits-some 19 n
 digits-enough : (k n : ℕ) → n < 10 ^ suc k → digitsOf (suc (suc k)) n ≡ digitsOf (suc k) n
 digits-enough zero n h = rw (digits-one 1 n, digits-one 0 n)
 digits-enough (suc k) n h =
-    ⊎-elim
-    (λ (l : n < 10). digits-one (suc (suc k)) n l ∙ sym (digits-one (suc k) n l))
-    (λ (m : 10 ≤ n). digits-more (suc (suc k)) n m ∙ ap (λ (s : List ℕ). s ++ (digit (n % 10) ∷ []))
-    (digits-enough k (n / 10) (rest-small (suc k) n h)) ∙ sym (digits-more (suc k) n m))
-    (one-or-more n)
+    by-less n 10
+    (λ l. digits-one (suc (suc k)) n l ∙ sym (digits-one (suc k) n l))
+    (λ m. digits-more (suc (suc k)) n m ∙ ap (λ (s : List ℕ). s ++ (digit (n % 10) ∷ []))
+    (digits-enough k (n / 10) (omega arith)) ∙ sym (digits-more (suc k) n m))
 
 pub decimal-one : (n : ℕ) → n < 10 → decimal n ≡ digit n ∷ []
 unfolding decimal
@@ -92,14 +66,14 @@ pub decimal-more : (n : ℕ) → 10 ≤ n → n < 10 ^ mostDigits → decimal n 
 unfolding decimal
 decimal-more n m h =
     digits-more 19 n m ∙ ap (λ (s : List ℕ). s ++ (digit (n % 10) ∷ []))
-    (sym (digits-enough 18 (n / 10) (rest-small 19 n h)))
+    (sym (digits-enough 18 (n / 10) (omega arith)))
 
 -- ---- what the digits stand for
 
-value-next : (v c : ℕ) (s : List ℕ) → valueOf v (s ++ (c ∷ [])) ≡ 10 * valueOf v s + (c - 48)
+value-next : (v c : ℕ) (s : List ℕ) → valueOf v (s ++ (c ∷ [])) ≡ 10 * valueOf v s + (c - digit 0)
 unfolding valueOf
 value-next v c [] = refl
-value-next v c (d ∷ s) = value-next (10 * v + (d - 48)) c s
+value-next v c (d ∷ s) = value-next (10 * v + (d - digit 0)) c s
 
 value-one : (n : ℕ) → valueOf 0 (digit n ∷ []) ≡ n
 unfolding valueOf
@@ -108,11 +82,10 @@ value-one n = omega arith
 digits-value : (k n : ℕ) → n < 10 ^ suc k → valueOf 0 (digitsOf (suc k) n) ≡ n
 digits-value zero n h = rw digits-one (value-one n)
 digits-value (suc k) n h =
-    ⊎-elim
-    (λ (l : n < 10). rw digits-one (value-one n))
-    (λ (m : 10 ≤ n). rw (digits-more, value-next)
-    (omega (arith, digits-value k (n / 10) (rest-small (suc k) n h), parts n)))
-    (one-or-more n)
+    by-less n 10
+    (λ l. rw digits-one (value-one n))
+    (λ m. rw (digits-more, value-next)
+    (omega (arith, digits-value k (n / 10) (omega arith))))
 
 pub decimal-value : (n : ℕ) → n < 10 ^ mostDigits → valueOf 0 (decimal n) ≡ n
 unfolding decimal
@@ -120,19 +93,18 @@ decimal-value n h = digits-value 19 n h
 
 -- ---- no zero in front
 
-digits-front : (k n : ℕ) → 0 < n → n < 10 ^ suc k → 48 < getD (digitsOf (suc k) n) 0 0
+digits-front : (k n : ℕ) → 0 < n → n < 10 ^ suc k → digit 0 < getD (digitsOf (suc k) n) 0 0
 digits-front zero n some h = rw digits-one (omega arith)
 digits-front (suc k) n some h =
-    ⊎-elim
-    (λ (l : n < 10). rw digits-one (omega arith))
-    (λ (m : 10 ≤ n). rw (
+    by-less n 10
+    (λ l. rw digits-one (omega arith))
+    (λ m. rw (
       digits-more,
       List·getD-append (digitsOf (suc k) (n / 10)) (digit (n % 10) ∷ []) 0 0
           (digits-some k (n / 10)),
-    ) (digits-front k (n / 10) (rest-some n m) (rest-small (suc k) n h)))
-    (one-or-more n)
+    ) (digits-front k (n / 10) (omega arith) (omega arith)))
 
 -- only the number 0 begins with the character of 0
-pub decimal-front : (n : ℕ) → 0 < n → n < 10 ^ mostDigits → 48 < getD (decimal n) 0 0
+pub decimal-front : (n : ℕ) → 0 < n → n < 10 ^ mostDigits → digit 0 < getD (decimal n) 0 0
 unfolding decimal
 decimal-front n some h = digits-front 19 n some h

@@ -2,7 +2,6 @@
 -- one together.
 -- Later crates cite those of the first two sections, and nothing of the definitions' text.
 use mathlib.Core.Path.{_≡_, refl, sym, ap₂, _∙_}
-use mathlib.Core.Bool.{Bool, true, false}
 use mathlib.Core.List.{List, [], _∷_, _++_}
 use mathlib.Core.Logic.{inl, inr}
 use Prim.Native.Nat.{ℕ, _+_, _≤_, _<_}
@@ -10,9 +9,8 @@ use native.Mathlib.Nat.{zero-add}
 use native.Mathlib.Omega.{arith}
 use denote.Enum.Declared.{tagOf}
 use types.Run.{OneOf}
-use borrow.Author.Tests.{leb-true, leb-false, le-leb, lt-leb}
-use lib.Dec.{leb}
-use lib.ListN.{length, drop, length-append, length-drop}
+use borrow.Author.Tests.{le-leb, lt-leb}
+use lib.ListN.{length, drop, length-append}
 use Rattle.number.specs.declared.Refusal.{Refusal}
 use Rattle.number.specs.Outcomes.{Outcome, given, refused}
 use Rattle.number.specs.Refusals.{bufferTooShort}
@@ -22,7 +20,7 @@ use Rattle.runs.specs.declared.Ending.the-variants.{Idle, Spent, Undecided, Con
 use Rattle.runs.specs.Looks.{Ending, idle, spent, undecided, conflict}
 use Rattle.runs.specs.Running.{toldEnding}
 use Rattle.runs.proofs.Ending.{the-type}
-use Rattle.lines.specs.Texts.{decimal, spaced, ended, refusedText, wordText, mostDigits}
+use Rattle.lines.specs.Texts.{space, decimal, spaced, ended, refusedText, wordText, mostDigits}
 use Rattle.lines.specs.Lines.{Line, event, closing, lineText, longestLine, lineWriting}
 use Rattle.lines.specs.Pieces.{Put, endedBy}
 use Rattle.lines.proofs.DecimalLaws.{decimal-few}
@@ -44,12 +42,6 @@ line-length-most (event e (given w) m d) =
 line-length-most (event e (refused n p) m d) = simp length-append (omega (arith, decimal-few e, decimal-few n))
 line-length-most (closing n p) = simp length-append (omega (arith, decimal-few n, decimal-few p))
 
-pub line-length-some : (l : Line) → 0 < length (lineText l)
-unfolding lineText
-line-length-some (event e (given w) m d) = simp length-append (omega arith)
-line-length-some (event e (refused n p) m d) = simp length-append (omega arith)
-line-length-some (closing n p) = simp length-append (omega arith)
-
 -- ---- writing a line
 
 pub line-written : (l : Line) (out : List ℕ) → longestLine ≤ length out
@@ -62,16 +54,6 @@ pub line-refused : (l : Line) (out : List ℕ) → length out < longestLine
     → _≡_ {A = Outcome ℕ × List ℕ} (lineWriting l out) (refused bufferTooShort 0, out)
 unfolding lineWriting
 line-refused l out short = rw (lt-leb longestLine (length out) short)
-
--- the buffer keeps its length
-pub line-keeps-length : (l : Line) (out : List ℕ) → length (lineWriting l out .1) ≡ length out
-line-keeps-length l out = by-room (leb longestLine (length out)) refl
-  where
-    by-room : (t : Bool) → leb longestLine (length out) ≡ t → length (lineWriting l out .1) ≡ length out
-    by-room true e =
-        rw (line-written l out (leb-true longestLine (length out) e), length-append, length-drop)
-        (omega (arith, line-length-most l, leb-true longestLine (length out) e))
-    by-room false e = rw (line-refused l out (leb-false longestLine (length out) e)) refl
 
 -- a line that was put at the start is a line written
 pub line-put : (l : Line) (out : List ℕ) {r : ℕ} {out′ : List ℕ} → longestLine ≤ length out
@@ -95,8 +77,8 @@ below-four t (inr (inr (inr e))) = omega arith
 
 -- a run that was not refused, by the tag of its word
 event-text : (e m d : ℕ) (w : code-ending.Ending) → OneOf (0 ∷ 1 ∷ 2 ∷ 3 ∷ []) (tagOf the-type w)
-    → spaced (decimal e) ++ spaced (wordText (toldEnding w)) ++ spaced (decimal m)
-    ++ ended (decimal d) ≡ lineText (event e (toldEnding w) m d)
+    → spaced (decimal e) ++ spaced (wordText (toldEnding w)) ++ spaced (decimal m) ++ ended (decimal d)
+    ≡ lineText (event e (toldEnding w) m d)
 unfolding lineText
 event-text e m d Idle ran = refl
 event-text e m d Spent ran = refl
@@ -107,7 +89,7 @@ event-text e m d (Refused r) ran = absurd (omega (arith, below-four 4 ran))
 module _ (e m d : ℕ) (w : code-ending.Ending) (out : List ℕ) (room : longestLine ≤ length out) {at₁ : ℕ}
     {out₁ : List ℕ} (first : Put out 0 (spaced (decimal e)) at₁ out₁) where
   pub word-room : at₁ + 10 ≤ length out₁
-  word-room = put-room out 0 (spaced (decimal e)) first 21 10 (number-few e 32) (omega arith)
+  word-room = put-room out 0 (spaced (decimal e)) first 21 10 (number-few e space) (omega arith)
 
   module _ {at₂ : ℕ} {out₂ : List ℕ} (second : Put out₁ at₁ (spaced (wordText (toldEnding w))) at₂ out₂) where
     both : Put out 0 (spaced (decimal e) ++ spaced (wordText (toldEnding w))) at₂ out₂
@@ -133,7 +115,7 @@ module _ (e m d : ℕ) (w : code-ending.Ending) (out : List ℕ) (room : longest
     -- any other has two
     module _ {at₃ : ℕ} {out₃ : List ℕ} (third : Put out₂ at₂ (spaced (decimal m)) at₃ out₃) where
       pub drawn-room : at₃ + mostDigits < length out₃
-      drawn-room = omega (arith, put-room out₂ at₂ (spaced (decimal m)) third 21 21 (number-few m 32) both-room)
+      drawn-room = omega (arith, put-room out₂ at₂ (spaced (decimal m)) third 21 21 (number-few m space) both-room)
 
       pub event-ran : {at₄ : ℕ} {out₄ : List ℕ} → OneOf (0 ∷ 1 ∷ 2 ∷ 3 ∷ []) (tagOf the-type w)
           → Put out₃ at₃ (ended (decimal d)) at₄ out₄

@@ -44,40 +44,41 @@ module _ (out : List ℕ) (at : ℕ) (bytes : List ℕ) (i : ℕ) {out′ : List
   pub bytes-all : i ≤ length bytes → length bytes ≤ i → Put out at bytes (at + i) out′
   bytes-all most least = (omega arith, so-far ∙ ap (sets out at) (take-all i bytes least))
 
--- ---- the digits of a number
+-- ---- the digits of a number: the room that they need, and what is put there
+
+module _ (n at : ℕ) {room : ℕ} where
+  pub digit-room : at + length (decimal n) ≤ room → at < room
+  digit-room within = omega (arith, decimal-some n)
+
+  pub tenth-room : 10 ≤ n → n < 10 ^ mostDigits → at + length (decimal n) ≤ room
+      → at + length (decimal (n / 10)) ≤ room
+  tenth-room large fits within =
+      omega (arith, ap length (decimal-more n large fits), length-append (decimal (n / 10)) (digit (n % 10) ∷ []))
+
+  pub number-room : at + mostDigits < room → at + length (decimal n) ≤ room
+  number-room within = omega (arith, decimal-few n)
 
 module _ (n : ℕ) (out : List ℕ) (at : ℕ) where
-  pub digit-room : at + length (decimal n) ≤ length out → at < length out
-  digit-room room = omega (arith, decimal-some n)
-
   pub digit-put : n < 10 → Put out at (decimal n) (at + 1) (set out at (digit n))
   digit-put small = rw decimal-one (refl, refl)
 
-  module _ (large : 10 ≤ n) (fits : n < 10 ^ mostDigits) where
-    pub tenth-room : at + length (decimal n) ≤ length out → at + length (decimal (n / 10)) ≤ length out
-    tenth-room room =
-        omega (arith, ap length (decimal-more n large fits), length-append (decimal (n / 10)) (digit (n % 10) ∷ []))
+  module _ (large : 10 ≤ n) (fits : n < 10 ^ mostDigits) {r : ℕ} {out′ : List ℕ}
+      (first : Put out at (decimal (n / 10)) r out′) where
+    pub last-put : Put out at (decimal n) (r + 1) (set out′ r (digit (n % 10)))
+    last-put = rw decimal-more (put-after out at (decimal (n / 10)) first (digit (n % 10)))
 
-    module _ {r : ℕ} {out′ : List ℕ} (first : Put out at (decimal (n / 10)) r out′) where
-      pub last-room : at + length (decimal n) ≤ length out → r < length out′
-      last-room room =
-          omega (
-            arith,
-            first .0,
-            put-length out at (decimal (n / 10)) first,
-            ap length (decimal-more n large fits),
-            length-append (decimal (n / 10)) (digit (n % 10) ∷ []),
-          )
+    pub last-room : at + length (decimal n) ≤ length out → r < length out′
+    last-room room =
+        omega (
+          arith,
+          first .0,
+          put-length out at (decimal (n / 10)) first,
+          ap length (decimal-more n large fits),
+          length-append (decimal (n / 10)) (digit (n % 10) ∷ []),
+        )
 
-      pub last-put : Put out at (decimal n) (r + 1) (set out′ r (digit (n % 10)))
-      last-put = rw decimal-more (put-after out at (decimal (n / 10)) first (digit (n % 10)))
-
--- ---- a number and the byte after it
-
-pub number-room : (n : ℕ) (out : List ℕ) (at : ℕ) → at + mostDigits < length out → at + length (decimal n) ≤ length out
-number-room n out at room = omega (arith, decimal-few n)
-
-pub after-room : (n : ℕ) (out : List ℕ) (at : ℕ) {r : ℕ} {out′ : List ℕ} → Put out at (decimal n) r out′
-    → at + mostDigits < length out → r < length out′
-after-room n out at first room =
-    omega (arith, put-room out at (decimal n) first mostDigits 1 (decimal-few n) (omega arith))
+  -- a byte after a number
+  pub after-room : {r : ℕ} {out′ : List ℕ} → Put out at (decimal n) r out′ → at + mostDigits < length out
+      → r < length out′
+  after-room first room =
+      omega (arith, put-room out at (decimal n) first mostDigits 1 (decimal-few n) (omega arith))

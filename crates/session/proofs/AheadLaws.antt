@@ -20,8 +20,8 @@ use Rattle.session.specs.Carried.{Stage, first, events, over, refusing, 
 use Rattle.session.specs.Carried.{closes, eventOf, nextEvent, nextAt, nextOf}
 
 pub data Ahead (z : Session) (s : List ℕ) : Type 0 where
-  runs-first : z .stage ≡ first → nextOf z s ≡ goesOn z (ranLine (z .board) (z .event) (z .state) (z .allowance))
-      (z .place) → Ahead z s
+  runs-first : z .stage ≡ first
+      → nextOf z s ≡ goesOn z (ranLine (z .board) (z .event) (z .state) (z .allowance)) (z .place) → Ahead z s
   makes-event : (v : Found ℕ) → z .stage ≡ events → z .place < length s → eventAt (z .board) s (z .place) ≡ given v
       → nextOf z s ≡ goesOn z (eventLine (z .board) (z .event) (z .state) (v .value) (z .allowance)) (v .next)
       → Ahead z s
@@ -67,11 +67,7 @@ event-next b s at v e =
     number-next-within s at (v .value) (v .next) (wanted-found _ noSuchName s at (v .value) (v .next) e .1) .1
 
 line-never : (l : Line) → no-line ≡ line l → ⊥
-line-never l e = let z : _≡_ {A = ℕ} 0 1 = ap tag e in omega arith
-  where
-    tag : Coming → ℕ
-    tag no-line = 0
-    tag (line m) = 1
+line-never l e = let z : _≡_ {A = ℕ} 0 1 = cc in omega arith
 
 -- after a line there is less to come
 module _ (z y : Session) (s : List ℕ) (l : Line) (is : nextOf z s ≡ (y, line l)) where

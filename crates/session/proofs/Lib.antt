@@ -1,7 +1,7 @@
 -- Laws of sessions, for this crate's proofs and those of later crates.
 pub mod StartLaws
-pub mod NextLaws
+pub mod AdvanceLaws
 pub mod AheadLaws
-pub mod HandingLaws
+pub mod NextLineLaws
 pub mod CallLaws
 pub mod ToldLaws

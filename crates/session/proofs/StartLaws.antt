@@ -18,23 +18,23 @@ use Rattle.session.specs.declared.Stage.the-variants as stage
 use Rattle.session.specs.Sessions.{withAllowance, headAt}
 use Rattle.session.specs.Carried.{begunFrom, beginning, toldSession}
 
-pub opened-refused : (b : Board) (t : State) (q : Refusal) → b ≡ emptyBoard → t ≡ freshState
+pub begun-refused : (b : Board) (t : State) (q : Refusal) → b ≡ emptyBoard → t ≡ freshState
     → toldSession (record { board = b; allowance = 0; state = t; event = 0; place = 0; stage = stage.Refused q })
     ≡ begunFrom (refused (q .number) (q .place))
 unfolding begunFrom
-opened-refused b t q empty fresh = rw (empty, fresh)
+begun-refused b t q empty fresh = rw (empty, fresh)
 
 module _ (b : Board) (x : number.Number) where
-  pub opened-read : (t : State) (w at : ℕ) → x ≡ number-was.Read w at → t ≡ freshState
+  pub begun-read : (t : State) (w at : ℕ) → x ≡ number-was.Read w at → t ≡ freshState
       → toldSession (record { board = b; allowance = w; state = t; event = 0; place = at; stage = stage.First })
       ≡ begunFrom (withAllowance b (toldNumber x))
   unfolding begunFrom withAllowance
-  opened-read t w at is fresh = rw (is, fresh)
+  begun-read t w at is fresh = rw (is, fresh)
 
-  pub opened-unread : (q : Refusal) → x ≡ number-was.Refused q
+  pub begun-unread : (q : Refusal) → x ≡ number-was.Refused q
       → begunFrom (refused (q .number) (q .place)) ≡ begunFrom (withAllowance b (toldNumber x))
   unfolding withAllowance
-  opened-unread q is = rw is
+  begun-unread q is = rw is
 
 -- the head of a session, by what reading its board came to
 module _ (s : List ℕ) (r : BoardRead) (read : toldBoardRead r ≡ reading s) where
@@ -42,16 +42,16 @@ module _ (s : List ℕ) (r : BoardRead) (read : toldBoardRead r ≡ reading s) w
   unfolding headAt
   head-by = ap (λ (x : Board × Outcome ℕ). x .1 >>= (λ at. withAllowance (x .0) (numberAt s at))) (sym read)
 
-  pub opening-board : (at : ℕ) (x : number.Number) → r .answer ≡ board-was.Read at → toldNumber x ≡ numberAt s at
+  pub beginning-board : (at : ℕ) (x : number.Number) → r .answer ≡ board-was.Read at → toldNumber x ≡ numberAt s at
       → begunFrom (withAllowance (r .board) (toldNumber x)) ≡ beginning s
   unfolding beginning
-  opening-board at x is number =
+  beginning-board at x is number =
       let head : headAt s ≡ withAllowance (r .board) (toldNumber x) = head-by ∙ rw (is, number) refl in
       ap begunFrom (sym head)
 
-  pub opening-refused : (q : Refusal) → r .answer ≡ board-was.Refused q
+  pub beginning-refused : (q : Refusal) → r .answer ≡ board-was.Refused q
       → begunFrom (refused (q .number) (q .place)) ≡ beginning s
   unfolding beginning
-  opening-refused q is =
+  beginning-refused q is =
       let head : headAt s ≡ refused (q .number) (q .place) = head-by ∙ rw is refl in
       ap begunFrom (sym head)

@@ -2,10 +2,16 @@
 -- ends.
 --     toComeAt k n      at the stage k, where n bytes of the input are left
 --     toCome z s        of the session z on the input s
-use Prim.Native.Nat.{ℕ, suc, _-_}
+--     Advances z s n r  where the answer r to a call on z hands out a line, the line fits a buffer of n bytes, and less
+--                       is to come after it
+use Prim.Native.Nat.{ℕ, suc, _-_, _<_, _≤_}
+use mathlib.Core.Path.{_≡_}
 use mathlib.Core.List.{List}
 use lib.ListN.{length}
-use Rattle.session.specs.Carried.{Stage, first, events, over, refusing, Session}
+use Rattle.session.specs.declared.Session as code-session
+use Rattle.session.specs.declared.Handed as code-handed
+use Rattle.session.specs.declared.HandOut.the-variants as said
+use Rattle.session.specs.Carried.{Stage, first, events, over, refusing, Session, toldSession}
 
 unfoldable pub toComeAt : Stage → ℕ → ℕ
 toComeAt first n = suc n
@@ -15,3 +21,7 @@ toComeAt (refusing m p) n = 1
 
 unfoldable pub toCome : Session → List ℕ → ℕ
 toCome z s = toComeAt (z .stage) (length s - z .place)
+
+abbrev pub Advances : code-session.Session → List ℕ → ℕ → code-handed.Handed → Type 0
+Advances z s n r =
+    (k : ℕ) → r .answer ≡ said.Line k → (k ≤ n) × (toCome (toldSession (r .session)) s < toCome (toldSession z) s)

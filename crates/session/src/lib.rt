@@ -1,5 +1,5 @@
-// A session: a board, the allowance and events. `begin` reads what stands before the events, and each `next_line` hands out
-// one line of the session into a lent buffer.
+// A session: a board, the allowance and events. `begin` reads what stands before the events, and each `next_line` hands
+// out one line of the session into a lent buffer.
 ghost use mathlib.Core.Path.{_≡_};
 ghost use Rattle.session.specs.Carried.{beginning, toldSession};
 ghost use Rattle.lines.specs.Lines.{toldLineWritten};
@@ -24,8 +24,8 @@ pub enum Stage {
     Over,
 }
 
-// What a session carries from line to line: its board and allowance, the state, the number of the next event, the place of
-// the next event in the input, and the stage.
+// What a session carries from line to line: its board and allowance, the state, the number of the next event, the place
+// of the next event in the input, and the stage.
 pub struct Session {
     pub board: Board,
     pub allowance: u32,

@@ -44,7 +44,7 @@ record PressFits (b : Board) (x : State × Outcome (Unit {0})) : Type 0 where
   fits : stateFine (b .counts) (x .0) ≡ true
 
 log-short : length sessionLog ≤ longestLog
-log-short = omega (arith, length-replicate {A = ℕ} 4096 0)
+log-short = simp length-replicate (omega arith)
 
 module _ (b : Board) (fine : boardFine b ≡ true) where
   -- ---- a run

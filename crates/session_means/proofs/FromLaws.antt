@@ -22,8 +22,9 @@ module _ (b : Board) (w : ℕ) (s : List ℕ) where
   from-end zero t e at past = refl
   from-end (suc k) t e at past = rw (le-leb (length s) at past) refl
 
-  pub from-event : (k : ℕ) (t : State) (e at : ℕ) → at < length s → linesFrom (suc k) b s t e at w ≡ eventLines
-      (eventAt b s at) (λ v. eventLine b e t v w) (λ u next. linesFrom k b s u (suc e) next w)
+  pub from-event : (k : ℕ) (t : State) (e at : ℕ) → at < length s
+      → linesFrom (suc k) b s t e at w
+      ≡ eventLines (eventAt b s at) (λ v. eventLine b e t v w) (λ u next. linesFrom k b s u (suc e) next w)
   unfolding linesFrom
   from-event k t e at there = rw (lt-leb (length s) at there) refl
 

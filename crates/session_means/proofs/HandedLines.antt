@@ -1,26 +1,20 @@
 -- The theorems: what the calls have handed out so far are the first of the session's lines, and the next call hands out
 -- the next.
 use Prim.Native.Nat.{ℕ, _≤_}
-use mathlib.Core.Bool.{Bool, true, false}
 use mathlib.Core.Path.{_≡_, refl, sym, ap, subst, _∙_}
 use mathlib.Core.List.{List, [], _∷_, _++_, append-nil}
-use lib.Dec.{leb}
 use lib.ListN.{length}
-use borrow.Author.Tests.{leb-true}
-use Rattle.number.specs.Outcomes.{refused}
-use Rattle.number.specs.Refusals.{bufferTooShort}
-use Rattle.number.proofs.OutcomeLaws.{refused-never, given-injective}
 use Rattle.lines.specs.Lines.{longestLine}
 use Rattle.session.specs.declared.Session as code-session
 use Rattle.session.specs.declared.Handed as code-handed
 use Rattle.session.specs.declared.HandOut.the-variants.{Over}
-use Rattle.session.specs.HandingOut.{nothing, Handed, nextLine, toldHandOut, toldHanded}
+use Rattle.session.specs.HandingOut.{nothing, toldHandOut}
 use Rattle.session.specs.Sessions.{lineTexts}
 use Rattle.session.specs.Carried.{Session, Coming, line, no-line, nextOf, toldSession}
-use Rattle.session.proofs.CallLaws.{nothing-never, call-over, call-line, came}
+use Rattle.session.proofs.CallLaws.{over-never, call-room, call-over, call-line, came}
 use Rattle.session_means.specs.HandedLines.{Called, Hands, HandsOut, Tells, LinesHandedOut, AllHandedOut}
 use Rattle.session_means.proofs.StillLaws.{still, Numbered, still-next, numbered-next}
-use Rattle.session_means.proofs.OpeningLaws.{opening-still, opening-numbered}
+use Rattle.session_means.proofs.BeginningLaws.{beginning-still, beginning-numbered}
 
 -- the texts of the lines that z has still to tell
 abbrev ahead : code-session.Session → List ℕ → List (List ℕ)
@@ -51,8 +45,7 @@ module _ (s : List ℕ) where
   from-start [] z z′ numbered same =
       record {
         told = ap (λ (x : code-session.Session). ahead x s) same;
-        numbered =
-            subst (λ (x : code-session.Session). Numbered (toldSession x) s) same numbered;
+        numbered = subst (λ (x : code-session.Session). Numbered (toldSession x) s) same numbered;
       }
   from-start (t ∷ ts) z z′ numbered (y, (h, after)) =
       let one = hands-first z y t numbered h in
@@ -70,39 +63,24 @@ module _ (s : List ℕ) where
 
 pub lines-handed-out : LinesHandedOut
 lines-handed-out s z z′ ts begun out =
-    let start : Numbered (toldSession z) s = subst (λ (x : Session). Numbered x s) (sym begun) (opening-numbered s) in
+    let start : Numbered (toldSession z) s = subst (λ (x : Session). Numbered x s) (sym begun) (beginning-numbered s) in
     let so = from-start s ts z z′ start out in
     record {
       rest = ahead z′ s;
-      all = ap lineTexts (sym (opening-still s) ∙ ap (λ (x : Session). still x s) (sym begun)) ∙ so .told;
+      all = ap lineTexts (sym (beginning-still s) ∙ ap (λ (x : Session). still x s) (sym begun)) ∙ so .told;
       next =
           λ out out′ r room called. tells-by s z′ out out′ r (so .numbered) room called (nextOf (toldSession z′) s)
           refl;
     }
 
--- a call that says that there is none has room for a line
-over-room : (z : code-session.Session) (s out out′ : List ℕ) (r : code-handed.Handed) → Called z s out r out′
-    → r .answer ≡ Over → (t : Bool) → leb longestLine (length out) ≡ t → longestLine ≤ length out
-unfolding nextLine
-over-room z s out out′ r called over true room = leb-true longestLine (length out) room
-over-room z s out out′ r called over false short =
-    let told : toldHanded r out′ ≡ record {
-      session = toldSession z;
-      answer = refused bufferTooShort 0;
-      out =
-          out;
-    } = called ∙ rw short refl in
-    absurd (refused-never bufferTooShort 0 nothing (sym (ap (λ (h : Handed). h .answer) told) ∙ ap toldHandOut over))
-
 none-left : (rest : List (List ℕ)) (r : code-handed.Handed) (out′ : List ℕ) → Tells rest r out′ → r .answer ≡ Over
     → rest ≡ []
 none-left [] r out′ tells over = refl
-none-left (t ∷ ts) r out′ tells over =
-    absurd (nothing-never (length t) (given-injective _ _ (ap toldHandOut (sym over ∙ tells .0))))
+none-left (t ∷ ts) r out′ tells over = absurd (over-never (length t) (sym over ∙ tells .0))
 
 pub all-handed-out : AllHandedOut
 all-handed-out s z z′ ts out out′ r begun handed called over =
     let so = lines-handed-out s z z′ ts begun handed in
-    let room = over-room z′ s out out′ r called over (leb longestLine (length out)) refl in
-    let no-line = none-left (so .rest) r out′ (so .next out out′ r room called) over in
-    sym (so .all ∙ ap (λ (rest : List (List ℕ)). ts ++ rest) no-line ∙ append-nil ts)
+    let room = call-room z′ s out out′ r called nothing (ap toldHandOut over) in
+    let none = none-left (so .rest) r out′ (so .next out out′ r room called) over in
+    sym (so .all ∙ ap (λ (rest : List (List ℕ)). ts ++ rest) none ∙ append-nil ts)

@@ -1,7 +1,7 @@
 -- The theorems of specs/, each in a file of its statement's name, after the laws that it goes by.
 pub mod FromLaws
 pub mod StillLaws
-pub mod OpeningLaws
+pub mod BeginningLaws
 pub mod HandedLines
 pub mod EventFits
 pub mod LinesWalk

@@ -12,7 +12,7 @@ use Rattle.events.specs.Events.{eventAt, ranLine, eventLine}
 use Rattle.session.specs.Sessions.{eventLines, linesFrom}
 use Rattle.session.specs.Carried.{Stage, first, events, over, refusing, Session, Coming, line, no-line, following}
 use Rattle.session.specs.Carried.{nextOf}
-use Rattle.session.proofs.NextLaws.{following-on, following-most}
+use Rattle.session.proofs.AdvanceLaws.{following-on, following-most}
 use Rattle.session.proofs.AheadLaws.{Ahead, runs-first, makes-event, bad-event, tells-refusal, at-end, is-over, ahead}
 use Rattle.session.proofs.AheadLaws.{event-next, next-less}
 use Rattle.session.specs.ToCome.{toComeAt, toCome}
@@ -54,7 +54,8 @@ module _ (z : Session) (s : List ℕ) where
   -- the lines from an event on, by what its number came to
   events-told : (k : ℕ) → z .place < k → {o : Outcome (Found ℕ)} → z .place < length s
       → eventAt (z .board) s (z .place) ≡ o
-      → linesFrom k (z .board) s (z .state) (z .event) (z .place) (z .allowance) ≡ eventLines o
+      → linesFrom k (z .board) s (z .state) (z .event) (z .place) (z .allowance)
+      ≡ eventLines o
       (λ v. eventLine (z .board) (z .event) (z .state) v (z .allowance))
       (λ u next. linesFrom (k - 1) (z .board) s u (suc (z .event)) next (z .allowance))
   events-told (suc k) some there is =

@@ -9,7 +9,7 @@ returns c =
     let at-next-line = c .before .before in
     let entry = at-next-line .before .before .before .before in
     part-advances (entry .args .session) (entry .args .input .now) (entry .args .lines .now) _ (entry .args .at)
-    (at-next-line .next-line .result) (entry .pre) (at-next-line .next-line .ensures)
+    (at-next-line .next-line .result) (at-next-line .next-line .ensures)
 
 pub hand-out-spec : {M : Type 1} → statement M
 hand-out-spec =

@@ -1,6 +1,6 @@
 -- `herdspiral::print_lines` is safe and ends: what the buffer holds stays within it, and each line leaves less to come.
 use mathlib.Core.Path.{_≡_}
-use Prim.Native.Nat.{_≤_}
+use Prim.Native.Nat.{ℕ, _≤_}
 use native.Mathlib.Omega.{arith}
 use lib.ListN.{length}
 use borrow.Author.Needs.{needs}
@@ -9,21 +9,21 @@ use Rattle.session.specs.ToCome.{toCome}
 use Rattle.herdspiral.proofs.print_lines.Statement.{statement}
 use Rattle.herdspiral.proofs.print_lines.Tie as tie
 
+-- the length of the buffer
+abbrev linesRoom : ℕ
+linesRoom = 16384
+
 abbrev Inv-loop : tie.InvT-loop
-Inv-loop input lines₀ session₀ used₀ lines session used = (used ≤ 16384) × (length lines ≡ 16384)
+Inv-loop input lines₀ session₀ used₀ lines session used = (used ≤ linesRoom) × (length lines ≡ linesRoom)
 
 abbrev μ-loop : tie.MeasureT-loop
 μ-loop input lines₀ session₀ used₀ lines session used = toCome (toldSession session) input
 
 add-used : tie.Need-add-used Inv-loop μ-loop
 add-used c =
-    let at-loop = c .before .before .before .before .before .before .before .before .before .before .before in
-    omega (
-      arith,
-      c .before .before .before .before .before .hand-out .ensures _
-          (c .before .before .answer .given .1) .0,
-      at-loop .loop .inv .1,
-    )
+    let at-hand-out = c .before .before .before .before .before in
+    let at-loop = at-hand-out .before .before .before .before .before .before in
+    omega (arith, at-hand-out .hand-out .ensures _ (c .before .before .answer .given .1) .0, at-loop .loop .inv .1)
 
 loop-less : tie.Need-loop-less Inv-loop μ-loop
 loop-less c = c .before .before .before .before .before .hand-out .ensures _ (c .before .before .answer .given .1) .1
@@ -32,7 +32,7 @@ loop-again : tie.Need-loop-again Inv-loop μ-loop
 loop-again c =
     let at-hand-out = c .before .before .before .before .before in
     let at-loop = at-hand-out .before .before .before .before .before .before in
-    let long : length (at-hand-out .hand-out .last .1 .1 .0) ≡ 16384 = search needs in (
+    let long : length (at-hand-out .hand-out .last .1 .1 .0) ≡ linesRoom = search needs in (
       omega (
         arith,
         at-hand-out .hand-out .ensures _ (c .before .before .answer .given .1) .0,

@@ -2,25 +2,24 @@
 use borrow.Author.Needs.{needs}
 use Rattle.session.proofs.next_line.Statement.{statement}
 use Rattle.session.proofs.next_line.Tie as tie
-use Rattle.session.proofs.HandingLaws.{handing-short, handing-line, handing-over}
+use Rattle.session.proofs.NextLineLaws.{next-line-short, next-line-written, next-line-over}
 
 returns : tie.Need-returns
-returns c = handing-short _ _ _ (c .if1 .taken)
+returns c = next-line-short _ _ _ (c .if1 .taken)
 
 returns-2 : tie.Need-returns-2
 returns-2 c =
     let at-write-line = c .before .before .before in
     let at-coming = at-write-line .before .before .before in
     let at-advance = at-coming .before .before .before in
-    let at-if1 = at-advance .before in
-    handing-line _ _ _ (at-advance .advance .result) (at-if1 .if1 .left) (at-advance .advance .ensures) _
+    next-line-written _ _ _ (at-advance .advance .result) (at-advance .before .if1 .left) (at-advance .advance .ensures) _
     (at-write-line .write-line .result) (c .answer-of .result) _ (at-coming .coming .given .1)
     (at-write-line .write-line .ensures) (c .answer-of .ensures)
 
 returns-3 : tie.Need-returns-3
 returns-3 c =
     let at-advance = c .before .before .before in
-    handing-over _ _ _ (at-advance .advance .result) (c .before .before .before .before .if1 .left)
+    next-line-over _ _ _ (at-advance .advance .result) (at-advance .before .if1 .left)
     (at-advance .advance .ensures) (c .enum-told .given .1)
 
 pub next-line-spec : {M : Type 1} → statement M

@@ -2,58 +2,36 @@
 use native.Mathlib.Omega.{arith}
 use lib.ListN.{length}
 use borrow.Author.Needs.{needs}
+use Rattle.lines.specs.Lines.{longestLine}
 use Rattle.session.specs.Carried.{toldSession}
 use Rattle.session.specs.ToCome.{toCome}
-use Rattle.session.proofs.CallLaws.{came, came-less}
 use Rattle.session_cases.proofs.print_lines.Statement.{statement}
 use Rattle.session_cases.proofs.print_lines.Tie as tie
 use mathlib.Core.Path.{_≡_, sym}
 use lib.Seq.{length-take-le}
 
 abbrev Inv-loop : tie.InvT-loop
-Inv-loop input line₀ session₀ line session = length line ≡ 73
+Inv-loop input line₀ session₀ line session = length line ≡ longestLine
 
 abbrev μ-loop : tie.MeasureT-loop
 μ-loop input line₀ session₀ line session = toCome (toldSession session) input
 
 array-share-prefix-line : tie.Need-array-share-prefix-line Inv-loop μ-loop
 array-share-prefix-line c =
-    let at-next-line = c .before .before .before .before in
-    let at-loop = at-next-line .before .before in
-    let entry = at-loop .before .before .before in
-    omega (
-      arith,
-      came (at-loop .loop .session) (entry .args .input .now) (at-loop .loop .line)
-          (at-next-line .next-line .last .1 .1 .0) (at-next-line .next-line .result)
-          (at-next-line .next-line .ensures) _ (c .before .answer .given .1) .fits,
-      at-loop .loop .inv,
-    )
+    let at-hand-out = c .before .before .before .before in
+    omega (arith, at-hand-out .hand-out .ensures _ (c .before .answer .given .1) .0, at-hand-out .before .before .loop .inv)
 
 slice-aggregate-write-all : tie.Need-slice-aggregate-write-all Inv-loop μ-loop
 slice-aggregate-write-all c =
-    let at-next-line = c .before .before .before .before .before in
-    let at-loop = at-next-line .before .before in
-    let entry = at-loop .before .before .before in
-    let long : length (at-next-line .next-line .last .1 .1 .0) ≡ 73 = search needs in
-    sym
-    (length-take-le _ _
-    (omega (
-      arith,
-      came (at-loop .loop .session) (entry .args .input .now) (at-loop .loop .line)
-          (at-next-line .next-line .last .1 .1 .0) (at-next-line .next-line .result)
-          (at-next-line .next-line .ensures) _ (c .before .before .answer .given .1) .fits,
-      at-loop .loop .inv,
-      long,
-    )))
+    let at-hand-out = c .before .before .before .before .before in
+    let long : length (at-hand-out .hand-out .last .1 .1 .0) ≡ longestLine = search needs in
+    let advances = at-hand-out .hand-out .ensures _ (c .before .before .answer .given .1) in
+    sym (length-take-le _ _ (omega (arith, advances .0, at-hand-out .before .before .loop .inv, long)))
 
 loop-less : tie.Need-loop-less Inv-loop μ-loop
 loop-less c =
-    let at-next-line = c .before .before .before .before .before .before .before in
-    let at-loop = at-next-line .before .before in
-    let entry = at-loop .before .before .before in
-    came-less (at-loop .loop .session) (entry .args .input .now) (at-loop .loop .line)
-    (at-next-line .next-line .last .1 .1 .0) (at-next-line .next-line .result)
-    (at-next-line .next-line .ensures) _ (c .before .before .before .before .answer .given .1)
+    let at-hand-out = c .before .before .before .before .before .before .before in
+    at-hand-out .hand-out .ensures _ (c .before .before .before .before .answer .given .1) .1
 
 pub print-lines-spec : {M : Type 1} → statement M
 print-lines-spec =

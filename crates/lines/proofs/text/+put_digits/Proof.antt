@@ -2,7 +2,6 @@
 -- the value.
 use native.Mathlib.Omega.{arith}
 use lib.ListN.{length-set}
-use Rattle.lines.proofs.DecimalLaws.{last-small, rest-less}
 use Rattle.lines.proofs.PieceLaws.{digit-room, digit-put, tenth-room, last-room, last-put}
 use Prim.Native.Nat.{ℕ, _<_}
 use borrow.Fn.Kinds.{In}
@@ -25,117 +24,6 @@ abbrev put-digits-below : ℕ → In 1 put-digits-kinds.ps
 put-digits-below t =
     and 1 put-digits-kinds.ps (falls 1 put-digits-kinds.ps _<_ μ-put-digits t) put-digits.Pre
 
-put-digits-cast-out :
-    (t : ℕ) →
-    put-digits-lts.Need-cast-out
-    (put-digits-below t, put-digits.Post)
-    (put-digits-at t)
-    put-digits.Post
-put-digits-cast-out t c = omega arith
-
-put-digits-add-out :
-    (t : ℕ) →
-    put-digits-lts.Need-add-out
-    (put-digits-below t, put-digits.Post)
-    (put-digits-at t)
-    put-digits.Post
-put-digits-add-out t c = omega arith
-
-put-digits-slice-write-out : (t : ℕ) → put-digits-lts.Need-slice-write-out (
-  put-digits-below t,
-  put-digits.Post,
-) (put-digits-at t) put-digits.Post
-put-digits-slice-write-out t c =
-    let entry = c .before .before in
-    digit-room (entry .args .value) (entry .args .out .now) (entry .args .at) (entry .pre .1)
-
-put-digits-add-result : (t : ℕ) → put-digits-lts.Need-add-result (
-  put-digits-below t,
-  put-digits.Post,
-) (put-digits-at t) put-digits.Post
-put-digits-add-result t c =
-    let entry = c .before .before in
-    omega (arith, digit-room (entry .args .value) (entry .args .out .now) (entry .args .at) (entry .pre .1))
-
-put-digits-same-length : (t : ℕ) → put-digits-lts.Need-same-length (
-  put-digits-below t,
-  put-digits.Post,
-) (put-digits-at t) put-digits.Post
-put-digits-same-length t c = simp length-set
-
-put-digits-returns :
-    (t : ℕ) →
-    put-digits-lts.Need-returns
-    (put-digits-below t, put-digits.Post)
-    (put-digits-at t)
-    put-digits.Post
-put-digits-returns t c =
-    digit-put (c .before .before .args .value) (c .before .before .args .out .now) (c .before .before .args .at)
-    (omega arith)
-
-put-digits-put-digits-requires : (t : ℕ) → put-digits-lts.Need-put-digits-requires (
-  put-digits-below t,
-  put-digits.Post,
-) (put-digits-at t) put-digits.Post
-put-digits-put-digits-requires t c κs =
-    let entry = c .before .before .before in (
-      omega (arith, rest-less (entry .args .value) (omega arith)),
-      tenth-room (entry .args .value)
-          (entry .args .out .now) (entry .args .at) (omega arith) (omega arith) (entry .pre .1),
-    )
-
-put-digits-cast-out-2 : (t : ℕ) → put-digits-lts.Need-cast-out-2 (
-  put-digits-below t,
-  put-digits.Post,
-) (put-digits-at t) put-digits.Post
-put-digits-cast-out-2 t c =
-    let entry = c .before .before .before .before .before .before in
-    omega (arith, last-small (entry .args .value))
-
-put-digits-add-out-2 : (t : ℕ) → put-digits-lts.Need-add-out-2 (
-  put-digits-below t,
-  put-digits.Post,
-) (put-digits-at t) put-digits.Post
-put-digits-add-out-2 t c =
-    let entry = c .before .before .before .before .before .before in
-    omega (arith, last-small (entry .args .value))
-
-put-digits-slice-write-out-2 : (t : ℕ) → put-digits-lts.Need-slice-write-out-2 (
-  put-digits-below t,
-  put-digits.Post,
-) (put-digits-at t) put-digits.Post
-put-digits-slice-write-out-2 t c =
-    let entry = c .before .before .before .before .before .before in
-    last-room (entry .args .value) (entry .args .out .now) (entry .args .at) (omega arith) (omega arith)
-    (c .before .before .put-digits .ensures) (entry .pre .1)
-
-put-digits-add-result-2 : (t : ℕ) → put-digits-lts.Need-add-result-2 (
-  put-digits-below t,
-  put-digits.Post,
-) (put-digits-at t) put-digits.Post
-put-digits-add-result-2 t c =
-    let entry = c .before .before .before .before .before .before in
-    omega (
-      arith,
-      last-room (entry .args .value) (entry .args .out .now) (entry .args .at) (omega arith)
-          (omega arith) (c .before .before .put-digits .ensures) (entry .pre .1),
-    )
-
-put-digits-same-length-2 : (t : ℕ) → put-digits-lts.Need-same-length-2 (
-  put-digits-below t,
-  put-digits.Post,
-) (put-digits-at t) put-digits.Post
-put-digits-same-length-2 t c = simp length-set (c .before .before .put-digits .kept .1 .0)
-
-put-digits-returns-2 : (t : ℕ) → put-digits-lts.Need-returns-2 (
-  put-digits-below t,
-  put-digits.Post,
-) (put-digits-at t) put-digits.Post
-put-digits-returns-2 t c =
-    let entry = c .before .before .before .before .before .before in
-    last-put (entry .args .value) (entry .args .out .now) (entry .args .at) (omega arith) (omega arith)
-    (c .before .before .put-digits .ensures)
-
 pub +put-digits-spec : {M : Type 1} → statement M
 +put-digits-spec = close μ-put-digits λ t. put-digits-lts.spec (
   put-digits-below t,
@@ -143,16 +31,26 @@ pub +put-digits-spec : {M : Type 1} → statement M
 )
     (put-digits-at t)
     put-digits.Post
-    (put-digits-cast-out t)
-    (put-digits-add-out t)
-    (put-digits-slice-write-out t)
-    (put-digits-add-result t)
-    (put-digits-same-length t)
-    (put-digits-returns t)
-    (put-digits-put-digits-requires t)
-    (put-digits-cast-out-2 t)
-    (put-digits-add-out-2 t)
-    (put-digits-slice-write-out-2 t)
-    (put-digits-add-result-2 t)
-    (put-digits-same-length-2 t)
-    (put-digits-returns-2 t)
+    (λ c. omega arith)
+    (λ c. omega arith)
+    (λ c. digit-room _ _ (c .before .before .pre .1))
+    (λ c.
+    let entry = c .before .before in
+    omega (arith, digit-room (entry .args .value) (entry .args .at) (entry .pre .1)))
+    (λ c. simp length-set)
+    (λ c. digit-put _ _ _ (omega arith))
+    (λ c κs. (omega arith, tenth-room _ _ (omega arith) (omega arith) (c .before .before .before .pre .1)))
+    (λ c. omega arith)
+    (λ c. omega arith)
+    (λ c.
+    let entry = c .before .before .before .before .before .before in
+    last-room _ _ _ (omega arith) (omega arith) (c .before .before .put-digits .ensures) (entry .pre .1))
+    (λ c.
+    let entry = c .before .before .before .before .before .before in
+    omega (
+      arith,
+      last-room (entry .args .value) (entry .args .out .now) (entry .args .at) (omega arith) (omega arith)
+          (c .before .before .put-digits .ensures) (entry .pre .1),
+    ))
+    (λ c. simp length-set (c .before .before .put-digits .kept .1 .0))
+    (λ c. last-put _ _ _ (omega arith) (omega arith) (c .before .before .put-digits .ensures))

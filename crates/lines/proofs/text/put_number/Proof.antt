@@ -6,17 +6,6 @@ use Rattle.lines.proofs.PieceLaws.{number-room, after-room, put-after}
 use Rattle.lines.proofs.text.put_number.Statement.{statement}
 use Rattle.lines.proofs.text.put_number.Tie as tie
 
-put-digits-requires : tie.Need-put-digits-requires
-put-digits-requires c κs =
-    let entry = c .before .before in
-    number-room (entry .args .value) (entry .args .out .now) (entry .args .at) (entry .pre)
-
-slice-write-out : tie.Need-slice-write-out
-slice-write-out c =
-    let entry = c .before .before .before .before .before in
-    after-room (entry .args .value) (entry .args .out .now) (entry .args .at)
-    (c .before .before .put-digits .ensures) (entry .pre)
-
 add-result : tie.Need-add-result
 add-result c =
     let entry = c .before .before .before .before .before in
@@ -34,4 +23,11 @@ returns c =
 
 pub put-number-spec : {M : Type 1} → statement M
 put-number-spec =
-    tie.close (tie.spec put-digits-requires slice-write-out add-result (λ c. search needs) returns)
+    tie.close
+    (tie.spec
+    (λ c κs. number-room _ _ (c .before .before .pre))
+    (λ c.
+    after-room _ _ _ (c .before .before .put-digits .ensures) (c .before .before .before .before .before .pre))
+    add-result
+    (λ c. search needs)
+    returns)

@@ -3,7 +3,7 @@ use borrow.Author.Needs.{needs}
 use Rattle.session.proofs.next.advance.Statement.{statement}
 use Rattle.session.proofs.next.advance.Tie as tie
 use mathlib.Core.Path.{_∙_}
-use Rattle.session.proofs.NextLaws.{next-first, next-events, next-refusing, next-over}
+use Rattle.session.proofs.AdvanceLaws.{next-first, next-events, next-refusing, next-over}
 
 returns : tie.Need-returns
 returns c =

@@ -2,7 +2,7 @@
 use borrow.Author.Needs.{needs}
 use Rattle.session.proofs.next.following.Statement.{statement}
 use Rattle.session.proofs.next.following.Tie as tie
-use Rattle.session.proofs.NextLaws.{following-on, following-stands}
+use Rattle.session.proofs.AdvanceLaws.{following-on, following-stands}
 
 returns : tie.Need-returns
 returns c = following-on _ (c .if1 .taken)

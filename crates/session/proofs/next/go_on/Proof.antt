@@ -3,7 +3,7 @@
 use borrow.Author.Needs.{needs}
 use Rattle.session.proofs.next.go_on.Statement.{statement}
 use Rattle.session.proofs.next.go_on.Tie as tie
-use Rattle.session.proofs.NextLaws.{goes-on-told}
+use Rattle.session.proofs.AdvanceLaws.{goes-on-told}
 
 returns : tie.Need-returns
 returns c =

@@ -93,8 +93,8 @@ module _ (z : Session) (s : List ℕ) where
 
 -- the next line, by the stage
 module _ (z : code-session.Session) (s : List ℕ) where
-  pub next-first : (y : Shown) → z .stage ≡ stage.First → y ≡ ranLine (z .board) (z .event) (z .state)
-      (z .allowance) → goesOn (toldSession z) y (z .place) ≡ nextOf (toldSession z) s
+  pub next-first : (y : Shown) → z .stage ≡ stage.First → y ≡ ranLine (z .board) (z .event) (z .state) (z .allowance)
+      → goesOn (toldSession z) y (z .place) ≡ nextOf (toldSession z) s
   unfolding nextOf nextAt
   next-first y is told = rw (told, is)
 
@@ -102,8 +102,8 @@ module _ (z : code-session.Session) (s : List ℕ) where
   unfolding nextOf nextAt
   next-events is = rw is
 
-  pub next-refusing : (q : Refusal) → z .stage ≡ stage.Refused q → closes (toldSession z) (q .number)
-      (q .place) ≡ nextOf (toldSession z) s
+  pub next-refusing : (q : Refusal) → z .stage ≡ stage.Refused q
+      → closes (toldSession z) (q .number) (q .place) ≡ nextOf (toldSession z) s
   unfolding nextOf nextAt
   next-refusing q is = rw is
 

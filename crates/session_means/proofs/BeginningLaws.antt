@@ -1,4 +1,4 @@
--- A session that was opened has all its lines still to come, and numbers them as the definition does.
+-- A session that was begun has all its lines still to come, and numbers them as the definition does.
 use Prim.Native.Nat.{ℕ, _<_, _≤_}
 use native.Mathlib.Omega.{arith}
 use mathlib.Core.Path.{_≡_, refl, sym, ap, _∙_}
@@ -19,14 +19,14 @@ use Rattle.session.specs.Carried.{begunFrom, beginning}
 use Rattle.session.specs.ToCome.{toComeAt, toCome}
 use Rattle.session_means.proofs.StillLaws.{stillAt, still, Numbered}
 
-opened-still : (o : Outcome (Found Head)) (s : List ℕ) → still (begunFrom o) s ≡ headLines o s
+begun-still : (o : Outcome (Found Head)) (s : List ℕ) → still (begunFrom o) s ≡ headLines o s
 unfolding begunFrom headLines still stillAt
-opened-still (given h) s = refl
-opened-still (refused n p) s = refl
+begun-still (given h) s = refl
+begun-still (refused n p) s = refl
 
-pub opening-still : (s : List ℕ) → still (beginning s) s ≡ sessionLines s
+pub beginning-still : (s : List ℕ) → still (beginning s) s ≡ sessionLines s
 unfolding beginning sessionLines
-opening-still s = opened-still (headAt s) s
+beginning-still s = begun-still (headAt s) s
 
 long-refused : (s : List ℕ) → longestInput < length s → reading s .1 ≡ refused inputTooLong 0
 unfolding answered
@@ -47,12 +47,12 @@ head-short s h e =
     let board = handed (reading s .1) (λ at. withAllowance (reading s .0) (numberAt s at)) h e in
     read-short s (board .value) (board .first)
 
-opened-numbered : (o : Outcome (Found Head)) (s : List ℕ)
+begun-numbered : (o : Outcome (Found Head)) (s : List ℕ)
     → ((h : Found Head) → o ≡ given h → length s ≤ longestInput) → Numbered (begunFrom o) s
 unfolding begunFrom toCome toComeAt
-opened-numbered (given h) s short = omega (arith, short h refl)
-opened-numbered (refused n p) s short = omega arith
+begun-numbered (given h) s short = omega (arith, short h refl)
+begun-numbered (refused n p) s short = omega arith
 
-pub opening-numbered : (s : List ℕ) → Numbered (beginning s) s
+pub beginning-numbered : (s : List ℕ) → Numbered (beginning s) s
 unfolding beginning
-opening-numbered s = opened-numbered (headAt s) s (head-short s)
+beginning-numbered s = begun-numbered (headAt s) s (head-short s)

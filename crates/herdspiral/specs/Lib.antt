@@ -1,2 +1,0 @@
--- The definitions that the contracts cite.
-pub mod Progress
