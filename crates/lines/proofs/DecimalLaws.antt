@@ -4,16 +4,12 @@ use mathlib.Core.Path.{_≡_, refl, sym, ap, _∙_}
 use mathlib.Core.List.{List, [], _∷_, _++_}
 use Prim.Native.Nat.{ℕ, zero, suc, _+_, _-_, _*_, _/_, _%_, _^_, _≤_, _<_}
 use native.Mathlib.Omega.{arith}
-use borrow.Author.Tests.{ltb-true, ltb-false, lt-ltb, le-ltb}
-use lib.Dec.{ltb}
+use borrow.Author.Tests.{lt-ltb, le-ltb}
 use lib.ListN.{length, getD, length-append, List·getD-append}
-use Rattle.bits.proofs.BoolLaws.{by-test}
+use Rattle.bits.proofs.BoolLaws.{by-less}
 use Rattle.lines.specs.Texts.{digit, mostDigits, digitsOf, decimal, valueOf}
 
 -- ---- one step of the definition
-
-by-less : {A : Type 0} (m n : ℕ) → (m < n → A) → (n ≤ m → A) → A
-by-less m n less more = by-test (ltb m n) (λ e. less (ltb-true m n e)) (λ e. more (ltb-false m n e))
 
 digits-one : (k n : ℕ) → n < 10 → digitsOf (suc k) n ≡ digit n ∷ []
 unfolding digitsOf
