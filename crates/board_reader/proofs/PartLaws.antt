@@ -54,9 +54,9 @@ module _ (c : Counts) (w : WoundSoFar) (s : List ℕ) (at kind ka : ℕ)
         name-refused k p h = rw (kinds, as-a, as-b, ne-eqb a b apart, h)
 
         module _ (name next : ℕ) (names : nameAt c kind s bn ≡ found name next) where
-          pub winding-refused : windingFree w (kindOf kind name) ≡ false → refused windingTaken bn ≡ partAt c w s at
+          pub winding-taken-refused : windingFree w (kindOf kind name) ≡ false → refused windingTaken bn ≡ partAt c w s at
           unfolding partAt
-          winding-refused h = rw (kinds, as-a, as-b, ne-eqb a b apart, names, h)
+          winding-taken-refused h = rw (kinds, as-a, as-b, ne-eqb a b apart, names, h)
 
           pub part-found : windingFree w (kindOf kind name) ≡ true
               → found (record { a = a; b = b; kind = kindOf kind name }) next ≡ partAt c w s at

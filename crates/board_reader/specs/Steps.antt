@@ -1,8 +1,8 @@
 -- What the reader's inner functions answer: a thing beside an answer that says where it ends or why it is refused, told
 -- as an outcome.
---     foundAt a o                      the thing a, which ends where o says; a refusal leaves a aside
---     placeOf o                        where a thing that was read ends
---     toldPartRead, toldCountsRead     what was read of a part, and of the counts, as an outcome
+--     foundAt a o                     the thing a, which ends where o says; a refusal leaves a aside
+--     placeOf o                       where a thing that was read ends
+--     toldPartRead, toldCountsRead    what was read of a part, and of the counts, as an outcome
 use Prim.Native.Nat.{ℕ}
 use Rattle.number.specs.Outcomes.{Outcome, given, refused, Found, found}
 use Rattle.board.specs.declared.Part.{Part}

@@ -1,11 +1,11 @@
 -- The bytes of a board file. Rule book: "The file: T, R, B, C, then each part as its kind and fields in the table's
 -- order."
---     nameBytes k       the bytes of the relay or button that a kind carries; a wire has none
---     partBytes p       a part's kind, both ends, and its relay or button
---     partsBytes ps     parts one after the other
---     countsBytes c     T, R, B and C
---     boardBytes b      a board's file
---     longestFile       no board's file is longer: 5 bytes of counts and 256 parts of 4
+--     nameBytes k      the bytes of the relay or button that a kind carries; a wire has none
+--     partBytes p      a part's kind, both ends, and its relay or button
+--     partsBytes ps    parts one after the other
+--     countsBytes c    T, R, B and C
+--     boardBytes b     a board's file
+--     longestFile      no board's file is longer: 5 bytes of counts and 256 parts of 4
 use Prim.Native.Nat.{ℕ}
 use mathlib.Core.Bool.{cond}
 use mathlib.Core.List.{List, [], _∷_, _++_}

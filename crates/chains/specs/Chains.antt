@@ -1,18 +1,18 @@
 -- What a chain is, the order of chains, and what it is to show a winding. Rule book, "Chains and current": "A chain is
 -- a list of terminals that begins with 0, holds no terminal twice, and whose neighbours are each joined by a conducting
 -- part. A chain that reaches 1 ends there."
---     plus, minus        "Terminal 0 is plus, terminal 1 is minus"
---     steps c            the pairs of terminals that stand side by side in c, each with the later one second
---     ending c           the terminal that c ends at
---     BeginsAtPlus c     c begins with 0
---     Linked J c         neighbours in c are each joined, where J x y says that x and y are
---     StopsAtMinus c     c ends where it reaches 1: no step leaves 1
---     IsChain J t c      c is a chain on a board of t terminals; its `once` is "holds no terminal twice"
---     Before c d         "Chains are in dictionary order: a chain comes before its extensions, and the lower terminal
---                        number before the higher"
---     Sorted cs          each of cs comes before every later one
---     Shows a b c        c "ends at 1 and has a and b side by side, in either order"
---     Live J t a b       "A winding between a and b is live if some chain" shows it
+--     plus, minus       "Terminal 0 is plus, terminal 1 is minus"
+--     steps c           the pairs of terminals that stand side by side in c, each with the later one second
+--     ending c          the terminal that c ends at
+--     BeginsAtPlus c    c begins with 0
+--     Linked J c        neighbours in c are each joined, where J x y says that x and y are
+--     StopsAtMinus c    c ends where it reaches 1: no step leaves 1
+--     IsChain J t c     c is a chain on a board of t terminals; its `once` is "holds no terminal twice"
+--     Before c d        "Chains are in dictionary order: a chain comes before its extensions, and the lower terminal
+--                       number before the higher"
+--     Sorted cs         each of cs comes before every later one
+--     Shows a b c       c "ends at 1 and has a and b side by side, in either order"
+--     Live J t a b      "A winding between a and b is live if some chain" shows it
 use Prim.Native.Nat.{ℕ, _<_}
 use mathlib.Core.Path.{_≡_}
 use mathlib.Core.Logic.{_⊎_}

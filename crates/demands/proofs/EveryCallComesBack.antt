@@ -23,7 +23,7 @@ use Rattle.session.specs.HandingOut.{Handed}
 use Rattle.session.proofs.ToldLaws.{told-session-injective}
 use Rattle.demands.specs.EveryCallComesBack.{against, InOrder, AsLent, EveryCallComesBack}
 use Rattle.demands.proofs.FirstNoLaws.{runnable-first, movable-first, pressable-first, release-first}
-use Rattle.demands.proofs.FirstNoLaws.{winding-for-first, writing-stands, number-stands, line-text-stands}
+use Rattle.demands.proofs.FirstNoLaws.{winding-for-first, writing-stands, number-writing-stands, line-text-stands}
 use Rattle.demands.proofs.RefusedLaws.{left-outcome, left-refused, against-then, nothing-written}
 use Rattle.demands.proofs.RefusedLaws.{verdict-against, verdict-refused, ran-against, ran-refused}
 use Rattle.demands.proofs.RefusedLaws.{next-line-stands}
@@ -34,7 +34,7 @@ in-order = record {
   reads = file-refused;
   eleven = eleven-exactly;
   writes-number =
-      λ v out out′ at x wrote. ap (λ (y : Outcome ℕ × List ℕ). against (y .0)) wrote ∙ number-stands v out at .first;
+      λ v out out′ at x wrote. ap (λ (y : Outcome ℕ × List ℕ). against (y .0)) wrote ∙ number-writing-stands v out at .first;
   writes-line =
       λ l out out′ x wrote. ap (λ (y : Outcome ℕ × List ℕ). against (y .0)) wrote
       ∙ line-text-stands (toldLine l) out .first;
@@ -68,7 +68,7 @@ as-lent = record {
       (sym read ∙ ap {B = Board × Outcome ℕ} (λ o. (r .board, o)) told);
   writes-number =
       λ v out out′ at x n p wrote told. ap (λ (y : Outcome ℕ × List ℕ). y .1) wrote
-      ∙ number-stands v out at .left n p (sym (ap (λ (y : Outcome ℕ × List ℕ). y .0) wrote) ∙ told);
+      ∙ number-writing-stands v out at .left n p (sym (ap (λ (y : Outcome ℕ × List ℕ). y .0) wrote) ∙ told);
   writes-line =
       λ l out out′ x n p wrote told. ap (λ (y : Outcome ℕ × List ℕ). y .1) wrote ∙ line-text-stands (toldLine l) out .left n p
       (sym (ap (λ (y : Outcome ℕ × List ℕ). y .0) wrote) ∙ told);

@@ -131,9 +131,9 @@ pub writing-stands : (b : Board) (out : List ℕ) → WriteStands out (writeLine
 unfolding writing
 writing-stands b out = two-lines _ _ out (boardFine b) brokenBoard _ bufferTooShort
 
-pub number-stands : (v : ℕ) (out : List ℕ) (at : ℕ) → WriteStands out (numberLines v out at) (numberWriting v out at)
+pub number-writing-stands : (v : ℕ) (out : List ℕ) (at : ℕ) → WriteStands out (numberLines v out at) (numberWriting v out at)
 unfolding numberWriting
-number-stands v out at = two-lines _ _ out (leb v largest) badForm _ bufferTooShort
+number-writing-stands v out at = two-lines _ _ out (leb v largest) badForm _ bufferTooShort
 
 pub line-text-stands : (l : Line) (out : List ℕ) → WriteStands out (lineLines out) (lineWriting l out)
 unfolding lineWriting

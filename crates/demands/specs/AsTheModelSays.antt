@@ -2,8 +2,8 @@
 -- terminal twice runs from plus to minus through its winding, and drops when there is none. Board files keep their
 -- meaning: write then read gives the board, read then write gives the bytes read. A run moves the lowest relay that can
 -- move until it is idle or must stop."
---     AsTheModelSays  the demand: each field is a statement over the calls, which the file that defines it puts into
---                     words
+--     AsTheModelSays    the demand: each field is a statement over the calls, which the file that defines it puts into
+--                       words
 use Rattle.file_means.specs.RoundTrip.{WriteThenRead, ReadThenWrite}
 use Rattle.judge_means.specs.Circuits.{PathsAreChains}
 use Rattle.judge_means.specs.Exactness.{TheChains, LiveExactly, DeadExactly, UndecidedExactly, LiveShows, DeadCounts}

@@ -3,19 +3,19 @@
 -- That a call ends, whatever it is given, the prover shows of every function. What it answers is the definition in its
 -- promise, for every input. Here is what the calls that refuse have in common; that a number is refused by its form (1,
 -- 2) is all that `read_number` refuses, and its definition says when.
---     against o                 what stands against a call that came to o: its refusal, or nothing
---     firstNo ls                the first of these lines whose test fails, by its number at place 0, or nothing
---     isGiven o                 whether o is given
---     numberLines .. lineLines  "Calls: 15, 14, 13, 11, 7, 12, 16, those that apply": the lines of each call in that
---                               order, each a test that must hold and the number for no
---     InOrder                   what stands against each call is the first of its lines whose test fails; a file is
---                               refused exactly by the first line of the table that holds, from left to right; and 11
---                               is its line
---     AsLent                    "A refused read returns number, place and the empty board. A refused call returns the
---                               number, place 0 and the state it was given, if it takes one; a refused run also 0 moves
---                               and relay 255, a refused judgement no verdict, effort 0 and length 0, a refused write 0
---                               bytes written. Log and output buffer stay as lent."
---     EveryCallComesBack        the demand
+--     against o                   what stands against a call that came to o: its refusal, or nothing
+--     firstNo ls                  the first of these lines whose test fails, by its number at place 0, or nothing
+--     isGiven o                   whether o is given
+--     numberLines .. lineLines    "Calls: 15, 14, 13, 11, 7, 12, 16, those that apply": the lines of each call in that
+--                                 order, each a test that must hold and the number for no
+--     InOrder                     what stands against each call is the first of its lines whose test fails; a file is
+--                                 refused exactly by the first line of the table that holds, from left to right; and 11
+--                                 is its line
+--     AsLent                      "A refused read returns number, place and the empty board. A refused call returns the
+--                                 number, place 0 and the state it was given, if it takes one; a refused run also 0
+--                                 moves and relay 255, a refused judgement no verdict, effort 0 and length 0, a refused
+--                                 write 0 bytes written. Log and output buffer stay as lent."
+--     EveryCallComesBack          the demand
 use Prim.Native.Nat.{ℕ, _+_}
 use mathlib.Core.Path.{_≡_}
 use mathlib.Core.Bool.{Bool, true, false, not, cond}

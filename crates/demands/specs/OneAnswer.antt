@@ -1,11 +1,11 @@
 -- Rule book, how tight the promises are: "Any pair of answers allowed by a promise is shown to be one answer". A line
 -- for each function that another crate can call: its promise, and that it allows one answer only. `docs/PROMISES.md`
 -- has the promises in words.
---     itself          an answer that is told as it is
---     One told a      two answers that are told as a are one answer
---     OneLent told a  two answers, with what they leave in a lent log or buffer, that are told as a are one answer, and
---                     leave the same
---     OneAnswer       the list
+--     itself            an answer that is told as it is
+--     One told a        two answers that are told as a are one answer
+--     OneLent told a    two answers, with what they leave in a lent log or buffer, that are told as a are one answer,
+--                       and leave the same
+--     OneAnswer         the list
 use Prim.Native.Nat.{ℕ, _<_}
 use mathlib.Core.Path.{_≡_}
 use mathlib.Core.List.{List}

@@ -1,17 +1,17 @@
 -- The rule book's "Boards to try" as one table: the starred ones, and the others that compute quickly. The rest are run
 -- and compared.
---     h0 .. h6, pair              the boards; `pair` is one of ours, on which two relays can move at once
---     h0File, h2Session           H0 as a file, H2 as a session, byte by byte as the rule book prints them
---     h2Lines, h0Line             what H2 and H0 print, character by character
---     Row                         a call and the answer that the rule book states for it:
---       reads s b o               `read` of the bytes s: the board, and the place just after it or the refusal
---       judges b s k w j          `judge` of winding k of relay 0 of board b in state s within the allowance w
---       moves b s w t m           `move_relay` of relay 0: the word m, and the state t
---       runs b s w log e m t r l  `run` over the lent log: the word e, m moves, the state t, the relay r, and the log l
---                                 afterwards
---       prints s x                a session and all that it prints
---     RowHolds x                  the row's call comes to its answer
---     starred, Starred            the table; every row of it holds
+--     h0 .. h6, pair                the boards; `pair` is one of ours, on which two relays can move at once
+--     h0File, h2Session             H0 as a file, H2 as a session, byte by byte as the rule book prints them
+--     h2Lines, h0Line               what H2 and H0 print, character by character
+--     Row                           a call and the answer that the rule book states for it:
+--       reads s b o                 `read` of the bytes s: the board, and the place just after it or the refusal
+--       judges b s k w j            `judge` of winding k of relay 0 of board b in state s within the allowance w
+--       moves b s w t m             `move_relay` of relay 0: the word m, and the state t
+--       runs b s w log e m t r l    `run` over the lent log: the word e, m moves, the state t, the relay r, and the log
+--                                   l afterwards
+--       prints s x                  a session and all that it prints
+--     RowHolds x                    the row's call comes to its answer
+--     starred, Starred              the table; every row of it holds
 use Prim.Native.Nat.{ℕ}
 use mathlib.Core.Path.{_≡_}
 use mathlib.Core.List.{List, [], _∷_, _++_}

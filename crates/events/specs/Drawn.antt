@@ -1,8 +1,8 @@
 -- The last number of an event's line. Rule book, "The session program": "event number, word, moves, and the sum of 2 to
 -- the relay number over drawn relays". `tells` prints the state's word of drawn relays there; here is the sum, and that
 -- the two are one number.
---     sumBelow k s  the sum of 2 to the relay number over those of the relays 0 to k - 1 that are drawn in state s
---     DrawnIsSum    in every state that fits a board, the word of drawn relays is that sum over the board's relays
+--     sumBelow k s    the sum of 2 to the relay number over those of the relays 0 to k - 1 that are drawn in state s
+--     DrawnIsSum      in every state that fits a board, the word of drawn relays is that sum over the board's relays
 use Prim.Native.Nat.{ℕ, zero, suc, _+_, _^_}
 use mathlib.Core.Path.{_≡_}
 use mathlib.Core.Bool.{true, cond}

@@ -1,6 +1,6 @@
 -- What holds of whatever an outcome gives: it is handed on through a row of outcomes, and a test that lets the row go
 -- on holds from there. So a `do` block of the definitions is followed line by line.
---     Gives P o       where o gives a, P holds of a
+--     Gives P o    where o gives a, P holds of a
 use Prim.Native.Nat.{ℕ}
 use mathlib.Core.Path.{_≡_, refl}
 use mathlib.Core.Bool.{Bool, true, false}

@@ -23,7 +23,7 @@ use Rattle.board_reader.specs.Reading.{wanted, countsAt, partAt, partsAt, board
 use Rattle.board_reader.proofs.FieldLaws.{wanted-refused, wanted-fails, wanted-passes, wanted-found, range-above}
 use Rattle.board_reader.proofs.FieldLaws.{name-carried}
 use Rattle.board_reader.proofs.CountsLaws.{terminals-refused, relays-refused, buttons-refused, parts-refused}
-use Rattle.board_reader.proofs.PartLaws.{kind-refused, a-refused, b-refused, ends-equal, name-refused, winding-refused}
+use Rattle.board_reader.proofs.PartLaws.{kind-refused, a-refused, b-refused, ends-equal, name-refused, winding-taken-refused}
 use Rattle.file_means.specs.FileRefusals.{countFine, CountAt, Reads, Reached, AtKind, AtFirst, AtSecond, AtName}
 use Rattle.file_means.specs.FileRefusals.{WantedAt, a-count, a-kind, first-end, second-end, a-name, StandsAt}
 use Rattle.file_means.specs.FileRefusals.{LineHolds, line1, line2, line3, line4, line5-first, line5-second, line6}
@@ -130,7 +130,7 @@ module _ (s : List ℕ) (c : Counts) (w : WoundSoFar) (at : ℕ) where
       let z = x .before in
       let y = z .before in
       board-part s windingTaken at c w (y .kind-at) (y .before)
-      (sym (winding-refused c w s (y .kind-at) k (z .a-at) (y .kind-fine) (x .a) (x .b-at) (z .a-fine) (x .b) at
+      (sym (winding-taken-refused c w s (y .kind-at) k (z .a-at) (y .kind-fine) (x .a) (x .b-at) (z .a-fine) (x .b) at
       (x .b-fine) (eqb-false _ _ (not-true _ (x .ends-fine))) v next
       (sym (name-carried c k s at (x .no-wire)) ∙ wanted-passes _ noSuchName s at v next stands (lt-ltb v _ below))
       taken))

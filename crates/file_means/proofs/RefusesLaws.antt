@@ -1,6 +1,6 @@
 -- What holds of whatever an outcome is refused by: it is handed on through a row of outcomes, of which a later one is
 -- come to only where those before it gave. So a `do` block of the definitions is followed line by line.
---     Refuses P o       where o is refused by n at p, P holds of n and p
+--     Refuses P o    where o is refused by n at p, P holds of n and p
 use Prim.Native.Nat.{ℕ}
 use mathlib.Core.Path.{_≡_, refl}
 use mathlib.Core.Bool.{Bool, true, false}

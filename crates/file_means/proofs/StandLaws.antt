@@ -10,7 +10,7 @@ use lib.ListN.{length, drop, length-append}
 use Rattle.number.specs.Outcomes.{given, Found, found}
 use Rattle.number.specs.Numbers.{numberAt, numberBytes, largest, Bytes}
 use Rattle.number.proofs.Buffers.{drop-past}
-use Rattle.number.proofs.NumberLaws.{read-written, written-read}
+use Rattle.number.proofs.NumberLaws.{number-written-read, number-read-written}
 use Rattle.board_reader.specs.Reading.{wanted}
 use Rattle.board_reader.proofs.FieldLaws.{wanted-passes, wanted-found}
 
@@ -47,12 +47,12 @@ module _ (s : List ℕ) (at next : ℕ) (xs ys : List ℕ) (both : StandsTo s at
 number-reads : (s : List ℕ) (at next v : ℕ) → v ≤ largest → StandsTo s at next (numberBytes v)
     → numberAt s at ≡ found v next
 number-reads s at next v small here =
-    read-written s at v (drop next s) small (here .there) ∙ ap (found v) (sym (here .ends))
+    number-written-read s at v (drop next s) small (here .there) ∙ ap (found v) (sym (here .ends))
 
 pub number-stands : (s : List ℕ) (at : ℕ) (v : Found ℕ) → numberAt s at ≡ given v → Bytes s
     → StandsTo s at (v .next) (numberBytes (v .value))
 number-stands s at v h bytes =
-    let read = written-read s at (v .value) (v .next) bytes h in
+    let read = number-read-written s at (v .value) (v .next) bytes h in
     record { there = read .bytes; ends = read .next }
 
 pub wanted-reads : (ok : ℕ → Bool) (n : ℕ) (s : List ℕ) (at next v : ℕ) → v ≤ largest → ok v ≡ true

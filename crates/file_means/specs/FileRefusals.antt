@@ -1,24 +1,24 @@
 -- The numbers for no of a board file, line by line. Rule book: the table "Numbers for no", lines 1 to 10, and "A number
 -- is given exactly when its line holds and none before it in the order does." The order is left to right: that the
 -- reader has come to a number says that no line holds of those before it.
---     countFine i v                 v is in the range of count i of T, R, B and C
---     CountAt s i at                count i is wanted at a place: those before it are in range
---     Reads c w s from ps w′ at     from a place on, after parts that gave the windings w, stand the parts ps, each of
---                                   them fine; they give the windings w′, and the place after them is `at`
---     Reached s c ps w at           the counts c are fine, and so are the parts ps after them, which give the windings
---                                   w; the reader has come to the place `at`
---     AtKind s c w at               after the counts c and parts that give the windings w, all of them fine, the kind
---                                   of one more part is wanted at a place
---     AtFirst s c w k at            the first end of a part of kind number k is wanted at a place, and what stands
---                                   before it is fine
---     AtSecond s c w k a at         its second end, after the first end a
---     AtName s c w k at             its relay or button, after two ends that differ; it is no wire
---     WantedAt s at                 some number is wanted at a place
---     StandsAt s p v                the number v stands at place p. What the form of a number is, and when it ends or
---                                   is bad, `numberAt` says
---     LineHolds s n p               line n of the table holds at place p, and none before it
---     FileRefused                   over the call `board_reader::read`: it is refused by n at p exactly if line n holds
---                                   there, and none before it
+--     countFine i v                v is in the range of count i of T, R, B and C
+--     CountAt s i at               count i is wanted at a place: those before it are in range
+--     Reads c w s from ps w′ at    from a place on, after parts that gave the windings w, stand the parts ps, each of
+--                                  them fine; they give the windings w′, and the place after them is `at`
+--     Reached s c ps w at          the counts c are fine, and so are the parts ps after them, which give the windings
+--                                  w; the reader has come to the place `at`
+--     AtKind s c w at              after the counts c and parts that give the windings w, all of them fine, the kind of
+--                                  one more part is wanted at a place
+--     AtFirst s c w k at           the first end of a part of kind number k is wanted at a place, and what stands
+--                                  before it is fine
+--     AtSecond s c w k a at        its second end, after the first end a
+--     AtName s c w k at            its relay or button, after two ends that differ; it is no wire
+--     WantedAt s at                some number is wanted at a place
+--     StandsAt s p v               the number v stands at place p. What the form of a number is, and when it ends or is
+--                                  bad, `numberAt` says
+--     LineHolds s n p              line n of the table holds at place p, and none before it
+--     FileRefused                  over the call `board_reader::read`: it is refused by n at p exactly if line n holds
+--                                  there, and none before it
 use Prim.Native.Nat.{ℕ, zero, suc, _<_, _≤_}
 use mathlib.Core.Path.{_≡_}
 use mathlib.Core.Logic.{_⊎_, _↔_}

@@ -1,8 +1,8 @@
 -- Judging as a call. Rule book, calls: "15, 14, 13, 11, 7, 12, 16, those that apply"; "a refused judgement no verdict,
 -- effort 0 and length 0".
---     windingFor b s r n     the winding that is judged: winding n of relay r, after refusals 15, 14, 11
---     verdictOn b s o w      the verdict on it within the allowance w, or the refusal
---     judging b s r n w      the call
+--     windingFor b s r n    the winding that is judged: winding n of relay r, after refusals 15, 14, 11
+--     verdictOn b s o w     the verdict on it within the allowance w, or the refusal
+--     judging b s r n w     the call
 use Prim.Native.Nat.{ℕ}
 use Rattle.number.specs.Outcomes.{Outcome, given, refused, _>>=_, _>>_}
 use Rattle.board.specs.declared.Board.{Board}

@@ -33,8 +33,8 @@ use Rattle.judge_means.specs.Eleven.{ElevenExactly, TheWinding}
 use Rattle.lists.proofs.CountedLaws.{worth, counted, member-counted, counted-only}
 
 -- ---- how many parts are winding n of relay r
---     its n r p        part p is it
---     these n r ps     how many of the parts ps are
+--     its n r p       part p is it
+--     these n r ps    how many of the parts ps are
 
 abbrev its : Which → ℕ → Part → Bool
 its n r p = isWinding n r (p .kind)

@@ -2,20 +2,19 @@
 -- the terminals, its components the parts, and its poles pos and neg are terminals 0 and 1. The paper counts places in
 -- a path from 1, a list here from 0. Its circuits have no parallel components and obey Danish wiring rules; our boards
 -- need not.
---     actualConnections s p            the connections that part p makes in state s: (a, b) and (b, a) if it conducts,
---                                      else none
---     AreConnected b s x y             "∃ cm : Component • cm ∈ components(n) ∧ (c1, c2) ∈ actualConnections(cm)"
---     Available b s p                  "len p ≥ 2 ∧ (∀ i ∈ {1 .. len p - 1} ⇒ areConnected(p(i), p(i + 1), n)) ∧ (∀ i,
---                                      j ⊆ {1 .. len p} ⇒ (i ≠ j ⇒ p(i) ≠ p(j)))"
---     AvailablePath b s from to p      p is in "availablePaths(from, to, n)": "available(p, n) ∧ p(1) = from ∧ p(len p)
---                                      = to"
---     PathContainsConnection p x y     "∃ i ∈ {1 .. len p - 1} ∧ (p(i), p(i + 1)) = (c1, c2)"
---     CurrentCarrying b s x y          "∃ p : Path • p ∈ availablePaths(pos, neg, n) ∧ PathContainsConnection(p, con)"
---     WindingCarries b s x y           one of the connections of a winding between x and y is current carrying
+--     actualConnections s p           the connections that part p makes in state s: (a, b) and (b, a) if it conducts,
+--                                     else none
+--     AreConnected b s x y            "∃ cm : Component • cm ∈ components(n) ∧ (c1, c2) ∈ actualConnections(cm)"
+--     Available b s p                 "len p ≥ 2 ∧ (∀ i ∈ {1 .. len p - 1} ⇒ areConnected(p(i), p(i + 1), n)) ∧ (∀ i, j
+--                                     ⊆ {1 .. len p} ⇒ (i ≠ j ⇒ p(i) ≠ p(j)))"
+--     AvailablePath b s from to p     p is in "availablePaths(from, to, n)": "available(p, n) ∧ p(1) = from ∧ p(len p)
+--                                     = to"
+--     PathContainsConnection p x y    "∃ i ∈ {1 .. len p - 1} ∧ (p(i), p(i + 1)) = (c1, c2)"
+--     CurrentCarrying b s x y         "∃ p : Path • p ∈ availablePaths(pos, neg, n) ∧ PathContainsConnection(p, con)"
+--     WindingCarries b s x y          one of the connections of a winding between x and y is current carrying
 -- Agreement, of a board that breaks no rule (`proofs/Circuits.antt`):
---     PathsAreChains                   the available paths from pos to neg are exactly our chains that end at 1
---     LiveIsCarrying                   a winding is live, by our chains, exactly if one of its connections is current
---                                      carrying
+--     PathsAreChains    the available paths from pos to neg are exactly our chains that end at 1
+--     LiveIsCarrying    a winding is live, by our chains, exactly if one of its connections is current carrying
 use Prim.Native.Nat.{ℕ, _+_, _-_, _<_, _≤_}
 use mathlib.Core.Path.{_≡_}
 use mathlib.Core.Logic.{_⊎_, _↔_}

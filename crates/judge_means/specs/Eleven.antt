@@ -1,7 +1,7 @@
 -- Refusal 11 and the winding that is judged. Rule book: 11, "no such relay, or a second winding asked of a regular
 -- one"; "A number is given exactly when its line holds and none before it in the order does."
---     ElevenExactly      on a board and a state that are not refused, 11 is given exactly if its line holds
---     TheWinding         the winding judged is that of the relay, and the only one
+--     ElevenExactly    on a board and a state that are not refused, 11 is given exactly if its line holds
+--     TheWinding       the winding judged is that of the relay, and the only one
 use Prim.Native.Nat.{ℕ, _≤_}
 use mathlib.Core.Path.{_≡_}
 use mathlib.Core.Logic.{_⊎_, _↔_}

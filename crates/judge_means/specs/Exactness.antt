@@ -1,22 +1,22 @@
 -- What live, dead and undecided mean, stated over the call `judge::judge`: whatever it answers under its promise. Rule
 -- book: "Live, with the first such chain shown, exactly if the winding is live and its effort is at most W. Dead
 -- exactly if it is dead and its effort is at most W. Undecided otherwise."
---     Judges b s r n w v            `judge` was called on board b, state s, winding n of relay r and allowance w, and
---                                   answered v
---     AcceptedWinding b s r n e     the call is not refused, and e is the winding judged
---     chainsOf b s                  the list of all chains of board b in state s
---     ChainOf b s c                 c is a chain of board b in state s
---     TheChains                     that list holds exactly the rule book's chains, in dictionary order, each once
---     IsLive b s e                  "A winding between a and b is live if some chain ends at 1 and has a and b side by
---                                   side, in either order"
---     effortOf b s e                its effort
---     OfEveryVerdict P              P holds of every verdict v, within the allowance w, on a winding e that is judged
---     LiveExactly, DeadExactly, UndecidedExactly    the three verdicts
---     LiveShows                     live shows the first chain that shows the winding, and the effort is the number of
---                                   chains up to and including it
---     DeadCounts                    dead reports the number of all chains, and no chain
---     UndecidedReports              undecided reports W, and no chain
---     AsPublished                   live is what document 000 calls current carrying, dead that it is not
+--     Judges b s r n w v           `judge` was called on board b, state s, winding n of relay r and allowance w, and
+--                                  answered v
+--     AcceptedWinding b s r n e    the call is not refused, and e is the winding judged
+--     chainsOf b s                 the list of all chains of board b in state s
+--     ChainOf b s c                c is a chain of board b in state s
+--     TheChains                    that list holds exactly the rule book's chains, in dictionary order, each once
+--     IsLive b s e                 "A winding between a and b is live if some chain ends at 1 and has a and b side by
+--                                  side, in either order"
+--     effortOf b s e               its effort
+--     OfEveryVerdict P             P holds of every verdict v, within the allowance w, on a winding e that is judged
+--     LiveExactly, DeadExactly, UndecidedExactly  the three verdicts
+--     LiveShows                    live shows the first chain that shows the winding, and the effort is the number of
+--                                  chains up to and including it
+--     DeadCounts                   dead reports the number of all chains, and no chain
+--     UndecidedReports             undecided reports W, and no chain
+--     AsPublished                  live is what document 000 calls current carrying, dead that it is not
 use Prim.Native.Nat.{ℕ, _+_, _<_, _≤_}
 use mathlib.Core.Path.{_≡_}
 use mathlib.Core.Logic.{_⊎_, _↔_}

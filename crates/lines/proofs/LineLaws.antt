@@ -24,7 +24,7 @@ use Rattle.lines.specs.Texts.{space, decimal, spaced, ended, refusedText
 use Rattle.lines.specs.Lines.{Line, event, closing, lineText, longestLine, lineWriting}
 use Rattle.lines.specs.Pieces.{Put, endedBy}
 use Rattle.lines.proofs.DecimalLaws.{decimal-few}
-use Rattle.lines.proofs.PieceLaws.{put-room, put-next}
+use Rattle.lines.proofs.PieceLaws.{put-room, put-piece-next}
 
 -- ---- how long a line is
 
@@ -93,7 +93,7 @@ module _ (e m d : ℕ) (w : code-ending.Ending) (out : List ℕ) (room : longest
 
   module _ {at₂ : ℕ} {out₂ : List ℕ} (second : Put out₁ at₁ (spaced (wordText (toldEnding w))) at₂ out₂) where
     both : Put out 0 (spaced (decimal e) ++ spaced (wordText (toldEnding w))) at₂ out₂
-    both = put-next out 0 (spaced (decimal e)) first (spaced (wordText (toldEnding w))) second
+    both = put-piece-next out 0 (spaced (decimal e)) first (spaced (wordText (toldEnding w))) second
 
     both-room : at₂ + 42 ≤ length out₂
     both-room =
@@ -104,12 +104,12 @@ module _ (e m d : ℕ) (w : code-ending.Ending) (out : List ℕ) (room : longest
     field-room = omega (arith, both-room)
 
     -- a refused event has one field more
-    pub event-refused : {r : Refusal} {at₃ : ℕ} {out₃ : List ℕ} → w ≡ Refused r
+    pub event-text-refused : {r : Refusal} {at₃ : ℕ} {out₃ : List ℕ} → w ≡ Refused r
         → Put out₂ at₂ (ended (decimal (r .number))) at₃ out₃
         → Put out 0 (lineText (event e (toldEnding w) m d)) at₃ out₃
     unfolding lineText
-    event-refused {r} is third =
-        rw is (put-next out 0 (spaced (decimal e) ++ spaced refusedText) (rw is at both)
+    event-text-refused {r} is third =
+        rw is (put-piece-next out 0 (spaced (decimal e) ++ spaced refusedText) (rw is at both)
         (ended (decimal (r .number))) third)
 
     -- any other has two
@@ -122,8 +122,8 @@ module _ (e m d : ℕ) (w : code-ending.Ending) (out : List ℕ) (room : longest
           → Put out 0 (lineText (event e (toldEnding w) m d)) at₄ out₄
       event-ran {at₄} {out₄} ran fourth =
           rw (← event-text e m d w ran)
-          (put-next out 0 (spaced (decimal e) ++ spaced (wordText (toldEnding w)) ++ spaced (decimal m))
-          (put-next out 0 (spaced (decimal e) ++ spaced (wordText (toldEnding w))) both (spaced (decimal m)) third)
+          (put-piece-next out 0 (spaced (decimal e) ++ spaced (wordText (toldEnding w)) ++ spaced (decimal m))
+          (put-piece-next out 0 (spaced (decimal e) ++ spaced (wordText (toldEnding w))) both (spaced (decimal m)) third)
           (ended (decimal d)) fourth)
 
 -- ---- the line that ends a session, piece by piece
@@ -132,7 +132,7 @@ module _ (n p : ℕ) (out : List ℕ) (room : longestLine ≤ length out) {at₁
     (first : Put out 0 (spaced refusedText) at₁ out₁)
     {at₂ : ℕ} {out₂ : List ℕ} (second : Put out₁ at₁ (spaced (decimal n)) at₂ out₂) where
   ended-by : Put out 0 (spaced refusedText ++ spaced (decimal n)) at₂ out₂
-  ended-by = put-next out 0 (spaced refusedText) first (spaced (decimal n)) second
+  ended-by = put-piece-next out 0 (spaced refusedText) first (spaced (decimal n)) second
 
   pub place-room : at₂ + mostDigits < length out₂
   place-room =
@@ -145,4 +145,4 @@ module _ (n p : ℕ) (out : List ℕ) (room : longestLine ≤ length out) {at₁
   pub closing-put : {at₃ : ℕ} {out₃ : List ℕ} → Put out₂ at₂ (ended (decimal p)) at₃ out₃
       → Put out 0 (lineText (closing n p)) at₃ out₃
   unfolding lineText
-  closing-put third = put-next out 0 (spaced refusedText ++ spaced (decimal n)) ended-by (ended (decimal p)) third
+  closing-put third = put-piece-next out 0 (spaced refusedText ++ spaced (decimal n)) ended-by (ended (decimal p)) third

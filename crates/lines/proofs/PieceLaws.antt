@@ -21,8 +21,8 @@ module _ (out : List ℕ) (at : ℕ) (x : List ℕ) {r : ℕ} {out′ : List ℕ
   put-room m k few room = omega (arith, first .0, put-length)
 
   -- a piece put where another ended
-  pub put-next : (y : List ℕ) {s : ℕ} {out″ : List ℕ} → Put out′ r y s out″ → Put out at (x ++ y) s out″
-  put-next y {s} {out″} next = (
+  pub put-piece-next : (y : List ℕ) {s : ℕ} {out″ : List ℕ} → Put out′ r y s out″ → Put out at (x ++ y) s out″
+  put-piece-next y {s} {out″} next = (
     omega (arith, first .0, next .0, length-append x y),
     next .1 ∙ ap₂ (λ (o : List ℕ) (i : ℕ). sets o i y)
         (first .1) (first .0) ∙ sets-append out at x y,
@@ -30,7 +30,7 @@ module _ (out : List ℕ) (at : ℕ) (x : List ℕ) {r : ℕ} {out′ : List ℕ
 
   -- one byte put there
   pub put-after : (c : ℕ) → Put out at (endedBy x c) (r + 1) (set out′ r c)
-  put-after c = put-next (c ∷ []) (refl, refl)
+  put-after c = put-piece-next (c ∷ []) (refl, refl)
 
 -- ---- some bytes, one by one: the first i of them are put
 
@@ -55,8 +55,8 @@ module _ (n at : ℕ) {room : ℕ} where
   tenth-room large fits within =
       omega (arith, ap length (decimal-more n large fits), length-append (decimal (n / 10)) (digit (n % 10) ∷ []))
 
-  pub number-room : at + mostDigits < room → at + length (decimal n) ≤ room
-  number-room within = omega (arith, decimal-few n)
+  pub digits-room : at + mostDigits < room → at + length (decimal n) ≤ room
+  digits-room within = omega (arith, decimal-few n)
 
 module _ (n : ℕ) (out : List ℕ) (at : ℕ) where
   pub digit-put : n < 10 → Put out at (decimal n) (at + 1) (set out at (digit n))

@@ -1,13 +1,13 @@
 -- Numbers and words as text, each character by its ASCII code.
---     space, newline   what stands between the fields of a line, and at its end
---     digit d          the character of a digit
---     mostDigits       20: no 64-bit number has more
---     digitsOf k n     the decimal digits of n, highest first, of which there are at most k
---     decimal n        n in decimal, with no zero in front
---     valueOf v s      the number that a row of digits stands for, read after v
---     spaced, ended x  x and a space; x and a line end
---     refusedText      the word `refused`
---     wordText w       the word of a run, or `refused`
+--     space, newline     what stands between the fields of a line, and at its end
+--     digit d            the character of a digit
+--     mostDigits         20: no 64-bit number has more
+--     digitsOf k n       the decimal digits of n, highest first, of which there are at most k
+--     decimal n          n in decimal, with no zero in front
+--     valueOf v s        the number that a row of digits stands for, read after v
+--     spaced, ended x    x and a space; x and a line end
+--     refusedText        the word `refused`
+--     wordText w         the word of a run, or `refused`
 use Prim.Native.Nat.{ℕ, zero, suc, _+_, _-_, _*_, _/_, _%_}
 use mathlib.Core.Bool.{cond}
 use mathlib.Core.List.{List, [], _∷_, _++_}

@@ -27,7 +27,8 @@ pub enum LineWritten {
 
 // Writes a line at the start of a buffer: 16 if the longest line has no room there.
 pub fn write_line(line: Line, out: &mut [u8]) -> LineWritten
-    ensures { λ r. ⌜ _≡_ {A = Outcome ℕ × List ℕ} (toldLineWritten r, now (out .exit)) (lineWriting (toldLine line) (now (out .entry))) ⌝ }
+    ensures { λ r. ⌜ _≡_ {A = Outcome ℕ × List ℕ} (toldLineWritten r, now (out .exit))
+        (lineWriting (toldLine line) (now (out .entry))) ⌝ }
 {
     if out.len() < LONGEST_LINE {
         return LineWritten::Refused(Refusal {

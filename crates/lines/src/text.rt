@@ -68,7 +68,8 @@ fn put_word(word: Ending, out: &mut [u8], at: usize) -> usize
 // Writes the line of an event, and gives its length.
 pub fn put_event(number: usize, word: Ending, moves: usize, drawn: u64, out: &mut [u8]) -> usize
     requires { ⌜ longestLine ≤ length (now out) ⌝ }
-    ensures { λ r. ⌜ Put (now (out .entry)) 0 (lineText (event number (toldEnding word) moves drawn)) r (now (out .exit)) ⌝ }
+    ensures { λ r. ⌜ Put (now (out .entry)) 0 (lineText (event number (toldEnding word) moves drawn)) r
+        (now (out .exit)) ⌝ }
 {
     let word_at = put_number(number as u64, SPACE, out, 0);
     let next = put_word(word, out, word_at);
@@ -83,7 +84,8 @@ pub fn put_event(number: usize, word: Ending, moves: usize, drawn: u64, out: &mu
 // Writes the line that ends a session, and gives its length.
 pub fn put_closing(refusal: Refusal, out: &mut [u8]) -> usize
     requires { ⌜ longestLine ≤ length (now out) ⌝ }
-    ensures { λ r. ⌜ Put (now (out .entry)) 0 (lineText (closing (refusal .number) (refusal .place))) r (now (out .exit)) ⌝ }
+    ensures { λ r. ⌜ Put (now (out .entry)) 0 (lineText (closing (refusal .number) (refusal .place))) r
+        (now (out .exit)) ⌝ }
 {
     let number_at = put(b"refused ", out, 0);
     let place_at = put_number(refusal.number as u64, SPACE, out, number_at);

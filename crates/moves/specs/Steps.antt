@@ -2,23 +2,23 @@
 -- Otherwise it draws if dropped and live, drops if drawn and dead, else rests. Steel: both windings are always judged,
 -- each with W. Either undecided: undecided. Both live: conflict. Otherwise it draws if dropped and the drawing winding
 -- is live, drops if drawn and the dropping winding is live, else rests."
---     Move                         what a move comes to: drew, dropped, rests, undecided or conflict
---     isLive, isUndecided o        the winding was judged live, undecided
---     isMissing o                  the relay has no such winding
---     regularMove d x              a regular relay, drawn if d, with its winding judged as x: once it is not undecided,
---                                  what is not live is dead
---     steelMove d x y              a steel relay, drawn if d, with its drawing winding judged as x and its dropping
---                                  winding as y
---     moveBy d x y                 a relay by its first and its second winding: with a second one it is steel, else
---                                  regular; what the board lacks rests
---     findingOn near b r n w       winding n of relay r of board b, judged by the sets of neighbours `near` within the
---                                  allowance w
---     stepBy near b d r w          what relay r does, drawn if d
---     stepOf b s r w               what relay r of board b does in state s, within the allowance w. Runs know it by its
---                                  laws alone
---     stepper b w                  the steps of board b within the allowance w, of every relay in every state
---     made s r m                   the state after relay r came to m: "A move changes that relay and nothing else"
---     toldMove                     the answer's cases in the rule book's words
+--     Move                      what a move comes to: drew, dropped, rests, undecided or conflict
+--     isLive, isUndecided o     the winding was judged live, undecided
+--     isMissing o               the relay has no such winding
+--     regularMove d x           a regular relay, drawn if d, with its winding judged as x: once it is not undecided,
+--                               what is not live is dead
+--     steelMove d x y           a steel relay, drawn if d, with its drawing winding judged as x and its dropping
+--                               winding as y
+--     moveBy d x y              a relay by its first and its second winding: with a second one it is steel, else
+--                               regular; what the board lacks rests
+--     findingOn near b r n w    winding n of relay r of board b, judged by the sets of neighbours `near` within the
+--                               allowance w
+--     stepBy near b d r w       what relay r does, drawn if d
+--     stepOf b s r w            what relay r of board b does in state s, within the allowance w. Runs know it by its
+--                               laws alone
+--     stepper b w               the steps of board b within the allowance w, of every relay in every state
+--     made s r m                the state after relay r came to m: "A move changes that relay and nothing else"
+--     toldMove                  the answer's cases in the rule book's words
 use Prim.Native.Nat.{ℕ}
 use mathlib.Core.Bool.{Bool, true, false, not, cond, _&&_, _||_}
 use mathlib.Core.List.{List}

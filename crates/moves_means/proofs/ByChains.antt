@@ -32,9 +32,9 @@ use Rattle.moves_means.specs.SingleMoves.{NeedsMore, Comes}
 use Rattle.moves_means.specs.ByChains.{Undecided, Decided, RegularComes, SteelComes, RegularByChains}
 use Rattle.moves_means.specs.ByChains.{SteelByChains}
 use Rattle.moves_means.proofs.CurrentLaws.{through-carries, carries-through}
-use Rattle.moves_means.proofs.ComesLaws.{regular-guard, steel-guard, regular-one, regular-draws, regular-drops}
-use Rattle.moves_means.proofs.ComesLaws.{regular-held, regular-rests, steel-draws, steel-drops, steel-held}
-use Rattle.moves_means.proofs.ComesLaws.{steel-rests}
+use Rattle.moves_means.proofs.ComesLaws.{regular-guard, steel-guard, regular-one, regular-drew, regular-dropped}
+use Rattle.moves_means.proofs.ComesLaws.{regular-held, regular-rested, steel-drew, steel-dropped, steel-held}
+use Rattle.moves_means.proofs.ComesLaws.{steel-rested}
 use Rattle.moves_means.proofs.FindingLaws.{FindingSays, first-finding, second-missing}
 use Rattle.moves_means.proofs.SingleMoves.{move-exactly}
 
@@ -111,13 +111,13 @@ module _ (b : Board) (w : ℕ) (s : State) (r : ℕ) (fine : boardFine b ≡ tru
     chains-regular undecided more = undecided-needs First e found more
     chains-regular conflict never = absurd never
     chains-regular drew (decided, off, live) =
-        regular-draws b w s r below regular (regular-enough decided) off (through .0 live)
+        regular-drew b w s r below regular (regular-enough decided) off (through .0 live)
     chains-regular dropped (decided, on, dead) =
-        regular-drops b w s r below regular (regular-enough decided) on (λ current. dead (through .1 current))
+        regular-dropped b w s r below regular (regular-enough decided) on (λ current. dead (through .1 current))
     chains-regular rests (decided, inl (on, live)) =
         regular-held b w s r below regular (regular-enough decided) on (through .0 live)
     chains-regular rests (decided, inr (off, dead)) =
-        regular-rests b w s r below regular (regular-enough decided) off (λ current. dead (through .1 current))
+        regular-rested b w s r below regular (regular-enough decided) off (λ current. dead (through .1 current))
 
   -- ---- a steel relay
 
@@ -182,15 +182,15 @@ module _ (b : Board) (w : ℕ) (s : State) (r : ℕ) (fine : boardFine b ≡ tru
     chains-steel conflict (drawing, dropping, live, also) =
         (steel-enough drawing dropping, (below, steel, draws .0 live, drops .0 also))
     chains-steel drew (drawing, dropping, off, live, dead) =
-        steel-draws b w s r below steel (steel-enough drawing dropping) off (draws .0 live)
+        steel-drew b w s r below steel (steel-enough drawing dropping) off (draws .0 live)
         (λ current. dead (drops .1 current))
     chains-steel dropped (drawing, dropping, on, live, dead) =
-        steel-drops b w s r below steel (steel-enough drawing dropping) on (drops .0 live)
+        steel-dropped b w s r below steel (steel-enough drawing dropping) on (drops .0 live)
         (λ current. dead (draws .1 current))
     chains-steel rests (drawing, dropping, inl (on, dead)) =
         steel-held b w s r below steel (steel-enough drawing dropping) on (λ current. dead (drops .1 current))
     chains-steel rests (drawing, dropping, inr (off, dead)) =
-        steel-rests b w s r below steel (steel-enough drawing dropping) off (λ current. dead (draws .1 current))
+        steel-rested b w s r below steel (steel-enough drawing dropping) off (λ current. dead (draws .1 current))
 
 -- ---- the theorems
 

@@ -51,11 +51,11 @@ module _ (b : Board) (w : ℕ) (s : State) (r : ℕ) where
 
     -- its winding needs no more than the allowance
     module _ (enough : ¬ (NeedsMore b s r w)) where
-      pub regular-draws : isDrawn s r ≡ false → CurrentThrough b s r First → Comes b s r drew w
-      regular-draws off current = (enough, regular-one, (below, inl (regular, (off, current))))
+      pub regular-drew : isDrawn s r ≡ false → CurrentThrough b s r First → Comes b s r drew w
+      regular-drew off current = (enough, regular-one, (below, inl (regular, (off, current))))
 
-      pub regular-drops : isDrawn s r ≡ true → ¬ (CurrentThrough b s r First) → Comes b s r dropped w
-      regular-drops on still = (enough, regular-one, (below, inl (regular, (on, still))))
+      pub regular-dropped : isDrawn s r ≡ true → ¬ (CurrentThrough b s r First) → Comes b s r dropped w
+      regular-dropped on still = (enough, regular-one, (below, inl (regular, (on, still))))
 
       pub regular-held : isDrawn s r ≡ true → CurrentThrough b s r First → Comes b s r rests w
       regular-held on current = (
@@ -65,8 +65,8 @@ module _ (b : Board) (w : ℕ) (s : State) (r : ℕ) where
         λ drop. regular-guard (partsOf b) regular drop .1 current,
       )
 
-      pub regular-rests : isDrawn s r ≡ false → ¬ (CurrentThrough b s r First) → Comes b s r rests w
-      regular-rests off still = (
+      pub regular-rested : isDrawn s r ≡ false → ¬ (CurrentThrough b s r First) → Comes b s r rests w
+      regular-rested off still = (
         enough,
         regular-one,
         λ draw. still (regular-guard (partsOf b) regular draw .1),
@@ -78,22 +78,22 @@ module _ (b : Board) (w : ℕ) (s : State) (r : ℕ) where
     unfolding regularMove
     regular-comes d verdict.undecided is second needs = needs
     regular-comes true verdict.live is second (first, current) = regular-held (within-both first second) is current
-    regular-comes false verdict.live is second (first, current) = regular-draws (within-both first second) is current
-    regular-comes true verdict.dead is second (first, still) = regular-drops (within-both first second) is still
-    regular-comes false verdict.dead is second (first, still) = regular-rests (within-both first second) is still
+    regular-comes false verdict.live is second (first, current) = regular-drew (within-both first second) is current
+    regular-comes true verdict.dead is second (first, still) = regular-dropped (within-both first second) is still
+    regular-comes false verdict.dead is second (first, still) = regular-rested (within-both first second) is still
 
   -- ---- a steel relay
 
   module _ (below : r < b .counts .relays) (steel : isSteel r (partsOf b)) where
     -- neither of its windings needs more than the allowance
     module _ (enough : ¬ (NeedsMore b s r w)) where
-      pub steel-draws : isDrawn s r ≡ false → CurrentThrough b s r First → ¬ (CurrentThrough b s r Second)
+      pub steel-drew : isDrawn s r ≡ false → CurrentThrough b s r First → ¬ (CurrentThrough b s r Second)
           → Comes b s r drew w
-      steel-draws off draws still = (enough, λ both. still (both .3), (below, inr (steel, (off, draws))))
+      steel-drew off draws still = (enough, λ both. still (both .3), (below, inr (steel, (off, draws))))
 
-      pub steel-drops : isDrawn s r ≡ true → CurrentThrough b s r Second → ¬ (CurrentThrough b s r First)
+      pub steel-dropped : isDrawn s r ≡ true → CurrentThrough b s r Second → ¬ (CurrentThrough b s r First)
           → Comes b s r dropped w
-      steel-drops on drops still = (enough, λ both. still (both .2), (below, inr (steel, (on, drops))))
+      steel-dropped on drops still = (enough, λ both. still (both .2), (below, inr (steel, (on, drops))))
 
       pub steel-held : isDrawn s r ≡ true → ¬ (CurrentThrough b s r Second) → Comes b s r rests w
       steel-held on still = (
@@ -103,8 +103,8 @@ module _ (b : Board) (w : ℕ) (s : State) (r : ℕ) where
         λ drop. still (steel-guard (partsOf b) steel drop .1),
       )
 
-      pub steel-rests : isDrawn s r ≡ false → ¬ (CurrentThrough b s r First) → Comes b s r rests w
-      steel-rests off still = (
+      pub steel-rested : isDrawn s r ≡ false → ¬ (CurrentThrough b s r First) → Comes b s r rests w
+      steel-rested off still = (
         enough,
         λ both. still (both .2),
         λ draw. still (steel-guard (partsOf b) steel draw .1),
@@ -122,15 +122,15 @@ module _ (b : Board) (w : ℕ) (s : State) (r : ℕ) where
     steel-comes true verdict.live verdict.dead is (first, draws) (second, still) =
         steel-held (within-both first second) is still
     steel-comes false verdict.live verdict.dead is (first, draws) (second, still) =
-        steel-draws (within-both first second) is draws still
+        steel-drew (within-both first second) is draws still
     steel-comes true verdict.dead verdict.live is (first, still) (second, drops) =
-        steel-drops (within-both first second) is drops still
+        steel-dropped (within-both first second) is drops still
     steel-comes false verdict.dead verdict.live is (first, still) (second, drops) =
-        steel-rests (within-both first second) is still
+        steel-rested (within-both first second) is still
     steel-comes true verdict.dead verdict.dead is (first, still) (second, none) =
         steel-held (within-both first second) is none
     steel-comes false verdict.dead verdict.dead is (first, still) (second, none) =
-        steel-rests (within-both first second) is still
+        steel-rested (within-both first second) is still
 
   -- ---- no relay comes to two words
 

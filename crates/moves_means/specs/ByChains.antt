@@ -3,13 +3,13 @@
 -- it draws if dropped and live, drops if drawn and dead, else rests. Steel: both windings are always judged, each with
 -- W. Either undecided: undecided. Both live: conflict. Otherwise it draws if dropped and the drawing winding is live,
 -- drops if drawn and the dropping winding is live, else rests."
---     Undecided b s e w            winding e is undecided in state s: its effort is larger than the allowance w
---     Decided b s e w              its effort is at most w
---     RegularComes b s r e m w     what the word m says of a regular relay r with winding e: never conflict
---     SteelComes b s r e f m w     what it says of a steel relay r with drawing winding e and dropping winding f: what
---                                  rests is drawn, its dropping winding dead, or dropped, its drawing winding dead
---     RegularByChains              the call's word on a regular relay is m exactly if `RegularComes` holds of m
---     SteelByChains                the call's word on a steel relay is m exactly if `SteelComes` holds of m
+--     Undecided b s e w           winding e is undecided in state s: its effort is larger than the allowance w
+--     Decided b s e w             its effort is at most w
+--     RegularComes b s r e m w    what the word m says of a regular relay r with winding e: never conflict
+--     SteelComes b s r e f m w    what it says of a steel relay r with drawing winding e and dropping winding f: what
+--                                 rests is drawn, its dropping winding dead, or dropped, its drawing winding dead
+--     RegularByChains             the call's word on a regular relay is m exactly if `RegularComes` holds of m
+--     SteelByChains               the call's word on a steel relay is m exactly if `SteelComes` holds of m
 use Prim.Native.Nat.{ℕ, _<_, _≤_}
 use mathlib.Core.Path.{_≡_}
 use mathlib.Core.Logic.{_⊎_, _↔_}

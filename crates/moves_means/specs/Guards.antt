@@ -4,20 +4,19 @@
 -- current, through the second for its dropping current. That a steel relay is two windings is the rule book's; 002's
 -- "no current can propagate from input to input through the relay" is not a rule of our boards. Neither paper's guards
 -- go by an allowance.
---     CurrentThrough b s r k       "∃ cn : Connection • cn ∈ actualConnections(r) ∧ currentCarrying(cn, n)", of winding
---                                  k of relay r: its first winding, regular or drawing, or its second, the dropping one
---     CanDrawRegular b s r         000: can_draw, "~ drawn(r) ∧ (∃ cn : Connection • …)"; 002: canDrawRegularRelay,
---                                  "neg(literal(id)), currentThroughRegularRelay(id, d)"
---     CanDropRegular b s r         000: can_drop, "drawn(r) ∧ ~ (∃ cn : Connection • …)"; 002: canDropRegularRelay,
---                                  "literal(id), noCurrentThroughRegularRelay(id, d)"
---     CanDrawSteel b s r           002: canDrawSteelRelay, "neg(literal(id)), drawingCurrentThroughSteelRelay(id, d)"
---     CanDropSteel b s r           002: canDropSteelRelay, "literal(id), droppingCurrentThroughSteelRelay(id, d)"
---     CanDraw, CanDrop b s r       relay r can be drawn, dropped: "rid ∈ dom relays(n)", and the guard of its sort
---                                  holds
---     Stable b s                   000: is_stable, "∀ rid : RelayId • rid ∈ dom relays(n) ⇒ (~ can_draw(rid, n)) ∧ (~
---                                  can_drop(rid, n))", with the guards of both sorts
---     BothCurrents b s r           what must not be of a steel relay: 002, "there should never be a dropping and a
---                                  drawing current through a steel core relay at the same time"
+--     CurrentThrough b s r k    "∃ cn : Connection • cn ∈ actualConnections(r) ∧ currentCarrying(cn, n)", of winding k
+--                               of relay r: its first winding, regular or drawing, or its second, the dropping one
+--     CanDrawRegular b s r      000: can_draw, "~ drawn(r) ∧ (∃ cn : Connection • …)"; 002: canDrawRegularRelay,
+--                               "neg(literal(id)), currentThroughRegularRelay(id, d)"
+--     CanDropRegular b s r      000: can_drop, "drawn(r) ∧ ~ (∃ cn : Connection • …)"; 002: canDropRegularRelay,
+--                               "literal(id), noCurrentThroughRegularRelay(id, d)"
+--     CanDrawSteel b s r        002: canDrawSteelRelay, "neg(literal(id)), drawingCurrentThroughSteelRelay(id, d)"
+--     CanDropSteel b s r        002: canDropSteelRelay, "literal(id), droppingCurrentThroughSteelRelay(id, d)"
+--     CanDraw, CanDrop b s r    relay r can be drawn, dropped: "rid ∈ dom relays(n)", and the guard of its sort holds
+--     Stable b s                000: is_stable, "∀ rid : RelayId • rid ∈ dom relays(n) ⇒ (~ can_draw(rid, n)) ∧ (~
+--                               can_drop(rid, n))", with the guards of both sorts
+--     BothCurrents b s r        what must not be of a steel relay: 002, "there should never be a dropping and a drawing
+--                               current through a steel core relay at the same time"
 use Prim.Native.Nat.{ℕ, _<_}
 use mathlib.Core.Path.{_≡_}
 use mathlib.Core.Logic.{_⊎_}

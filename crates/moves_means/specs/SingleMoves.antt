@@ -1,12 +1,12 @@
 -- What each word of a move says, in the words of the published model, and that it is said exactly then: over a step of
 -- a relay, and over the call `moves::move_relay`, whatever it answers under its promise.
---     NeedsMore b s r w        some winding of relay r needs more than the allowance w: its effort is larger
---     Comes b s r m w          what the word m says of relay r in state s within the allowance w
---     StepExactly              of a relay of a board and a state that are not refused: it comes to m exactly if `Comes`
---                              holds of m
---     Moves b s r w a          `move_relay` was called on board b, state s, relay r and allowance w, and answered a
---     MoveExactly              the call's word is m exactly if `Comes` holds of m, and the state is changed by drew and
---                              dropped alone, and only in that relay
+--     NeedsMore b s r w    some winding of relay r needs more than the allowance w: its effort is larger
+--     Comes b s r m w      what the word m says of relay r in state s within the allowance w
+--     StepExactly          of a relay of a board and a state that are not refused: it comes to m exactly if `Comes`
+--                          holds of m
+--     Moves b s r w a      `move_relay` was called on board b, state s, relay r and allowance w, and answered a
+--     MoveExactly          the call's word is m exactly if `Comes` holds of m, and the state is changed by drew and
+--                          dropped alone, and only in that relay
 use Prim.Native.Nat.{ℕ, _<_}
 use mathlib.Core.Path.{_≡_}
 use mathlib.Core.Logic.{_↔_}

@@ -1,5 +1,5 @@
 -- What conducts. Rule book, "Parts of a board", the table's last column, a line for each kind in its order.
---     conducts s k   a part of kind k conducts in state s
+--     conducts s k    a part of kind k conducts in state s
 -- A contact has no state of its own: it follows its relay (document 002).
 use mathlib.Core.Bool.{Bool, true, not}
 use Rattle.kinds.specs.declared.Kind.{Kind}

@@ -1,13 +1,13 @@
 -- Which terminals are joined. Rule book: "neighbours are each joined by a conducting part".
---     EndsAt p x y         x and y are the ends of part p, in either order
---     Joined b s x y       some conducting part of board b in state s has x and y as its ends, in either order
---     joined near x y      in the sets `near`, y is in the set of x
---     neighbours b s       the sets of board b in state s, one for each of 64 terminals
+--     EndsAt p x y       x and y are the ends of part p, in either order
+--     Joined b s x y     some conducting part of board b in state s has x and y as its ends, in either order
+--     joined near x y    in the sets `near`, y is in the set of x
+--     neighbours b s     the sets of board b in state s, one for each of 64 terminals
 -- How the sets come about, part by part:
---     alone                no terminal is joined to any
---     joining near x y     the sets `near` with y joined to x besides
---     bridged s near p     the sets `near` with the ends of part p joined besides, in both directions, if p conducts
---     gathered s near ps   the sets `near` with the ends of each of ps joined besides
+--     alone                 no terminal is joined to any
+--     joining near x y      the sets `near` with y joined to x besides
+--     bridged s near p      the sets `near` with the ends of part p joined besides, in both directions, if p conducts
+--     gathered s near ps    the sets `near` with the ends of each of ps joined besides
 -- `proofs/JoinedLaws.antt` shows of a board that breaks no rule: y is in the set of x exactly if `Joined` says so.
 use Prim.Native.Nat.{ℕ}
 use mathlib.Core.Path.{_≡_}

@@ -90,10 +90,10 @@ number-placed s at v n e = placed-found (length s) at (form longest (drop at s))
 
 -- ---- reading what was written, and writing what was read
 
-pub read-written : (s : List ℕ) (at v : ℕ) (rest : List ℕ) → v ≤ largest → drop at s ≡ numberBytes v ++ rest
+pub number-written-read : (s : List ℕ) (at v : ℕ) (rest : List ℕ) → v ≤ largest → drop at s ≡ numberBytes v ++ rest
     → numberAt s at ≡ found v (at + length (numberBytes v))
 unfolding numberAt numberBytes
-read-written s at v rest h e =
+number-written-read s at v rest h e =
     ap (λ (l : List ℕ). placed (length s) at (form longest l)) e
     ∙ ap (placed (length s) at) (form-written 2 v rest (omega arith))
     ∙ placed-as (length s) at v (length (encode longest v)) h
@@ -104,9 +104,9 @@ pub record ReadBack (s : List ℕ) (at v n : ℕ) : Type 0 where
   pub next : n ≡ at + length (numberBytes v)
   pub small : v ≤ largest
 
-pub written-read : (s : List ℕ) (at v n : ℕ) → Bytes s → numberAt s at ≡ found v n → ReadBack s at v n
+pub number-read-written : (s : List ℕ) (at v n : ℕ) → Bytes s → numberAt s at ≡ found v n → ReadBack s at v n
 unfolding numberBytes
-written-read s at v n h e =
+number-read-written s at v n h e =
     let p : PlacedForm at (form longest (drop at s)) v n = number-placed s at v n e in
     let r : FormRead longest (drop at s) v (p .bytes) =
     form-read longest (drop at s) v (p .bytes) (Bytes-drop s at h) (p .is) in

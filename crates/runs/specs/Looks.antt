@@ -1,13 +1,13 @@
 -- A look at the relays. Rule book: "A run looks at the relays from 0 up; the first that doesn't rest decides. None: the
 -- run is idle. Undecided or conflict: it stops with that word. A move: ..."
---     Stepper               what each relay comes to in each state. A run goes by this alone, whatever is below it
---     Ending                the words that a run ends with
---     Look                  what a look comes to: quiet, every relay rests; halts e r, relay r stops the run with the
---                           word e; makes m r, relay r makes the move m
---     drawMark              128
---     byteOf r m            "Each log byte is the relay number, plus 128 for a draw"
---     decides m r next      relay r came to m; where it rests, the next relays decide
---     lookFrom f s k r      the look at k relays from r up, in state s
+--     Stepper             what each relay comes to in each state. A run goes by this alone, whatever is below it
+--     Ending              the words that a run ends with
+--     Look                what a look comes to: quiet, every relay rests; halts e r, relay r stops the run with the
+--                         word e; makes m r, relay r makes the move m
+--     drawMark            128
+--     byteOf r m          "Each log byte is the relay number, plus 128 for a draw"
+--     decides m r next    relay r came to m; where it rests, the next relays decide
+--     lookFrom f s k r    the look at k relays from r up, in state s
 use Prim.Native.Nat.{ℕ, zero, suc, _+_}
 use Rattle.state.specs.declared.State.{State}
 use Rattle.moves.specs.Steps as step

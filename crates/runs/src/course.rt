@@ -40,7 +40,8 @@ fn byte(relay: u8, motion: Move) -> u8
 // and anything else stops the run.
 pub fn follow(board: Board, state: State, log: &mut [u8], allowance: u32) -> Ran
     requires { ⌜ board .counts .relays ≤ mostRelays ⌝ }
-    ensures { λ r. ⌜ toldRan r (now (log .exit)) ≡ ran (runOn board (length (now (log .entry))) state allowance) (now (log .entry)) ⌝ }
+    ensures { λ r. ⌜ toldRan r (now (log .exit))
+        ≡ ran (runOn board (length (now (log .entry))) state allowance) (now (log .entry)) ⌝ }
 {
     let relays = board.counts.relays;
     let mut state = state;

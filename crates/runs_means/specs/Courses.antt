@@ -1,19 +1,19 @@
 -- What a run means, over the call `runs::run`, whatever it answers under its promise: its moves, in the words of
 -- documents 000 and 002, and what each of its words says exactly.
---     Resting b s k w            each relay below k rests in state s: no guard holds of it, there is not current
---                                through both its windings, and none of them needs more than the allowance w
---     StoppedBy b s r m w        relay r is the first that does not rest in state s, and it comes to m
---     LowestMove b s c t w       one move, from state s to state t, logged as the byte c: "the first that doesn't rest
---                                decides", and comes to drew or dropped; that relay is changed and nothing else. So the
---                                guard for drawing or dropping it holds in s, and of no lower relay does one hold
---     Follows b s cs t w         the moves logged as cs lead from state s to state t, one after the other
---     Ended b n m s r e w        what the word e says, of a run with room for n moves that made m of them and stopped
---                                in state s at relay r. Spent: a further move was possible when the log was full.
---                                Undecided: some winding looked at needed more than the allowance
---     RunMeans, RunExactly       of a run that is not refused: the moves it made, as many as it says and as the log has
---                                room for, follow one another from the state given to the state it answers with, and
---                                the log beyond them is as it was; its word is e exactly if `Ended` holds of e; and a
---                                run that ends idle leaves the board stable, as document 000 has it
+--     Resting b s k w         each relay below k rests in state s: no guard holds of it, there is not current through
+--                             both its windings, and none of them needs more than the allowance w
+--     StoppedBy b s r m w     relay r is the first that does not rest in state s, and it comes to m
+--     LowestMove b s c t w    one move, from state s to state t, logged as the byte c: "the first that doesn't rest
+--                             decides", and comes to drew or dropped; that relay is changed and nothing else. So the
+--                             guard for drawing or dropping it holds in s, and of no lower relay does one hold
+--     Follows b s cs t w      the moves logged as cs lead from state s to state t, one after the other
+--     Ended b n m s r e w     what the word e says, of a run with room for n moves that made m of them and stopped in
+--                             state s at relay r. Spent: a further move was possible when the log was full. Undecided:
+--                             some winding looked at needed more than the allowance
+--     RunMeans, RunExactly    of a run that is not refused: the moves it made, as many as it says and as the log has
+--                             room for, follow one another from the state given to the state it answers with, and the
+--                             log beyond them is as it was; its word is e exactly if `Ended` holds of e; and a run that
+--                             ends idle leaves the board stable, as document 000 has it
 use Prim.Native.Nat.{ℕ, _+_, _<_, _≤_}
 use mathlib.Core.Path.{_≡_}
 use mathlib.Core.Logic.{_⊎_, _↔_}

@@ -1,19 +1,19 @@
 -- What the walk's own functions promise each other. No promise of a public call needs this page.
---     pathIn c places         the terminals of a chain on its way: the first of the lent places
---     marked s p              the set s with the terminals p as members besides
---     carried v p             what the walk carries for the terminals p while it looks for winding v
---     Carries v c places      a chain on its way carries just that, has a place in the sets for its end, and room in
---                             the lent places
---     atPlus, gone v c n      the chain of plus alone; the chain c gone on to the terminal n
---     scan s cs w             going through the chains cs with w of the allowance left: showing the first that passes
---                             the test s, showing none, each with what is left, or with the allowance spent first
---     entered near t v p w    scan of the chains from p on, p among them
---     tried near t v p n w    scan of those that go on from p to a number from n up
---     toldWalked r places     what an answer says, with the chain found in the lent places
---     WalkComes r c ps qs o   the answer r of a walk from chain c comes to o; the lent places were ps and are qs, and
---                             c's own are as they were
---     concluded o w           the verdict that a scan with the allowance w comes to
---     LeftWithin o w          a scan with the allowance w leaves no more than w
+--     pathIn c places          the terminals of a chain on its way: the first of the lent places
+--     marked s p               the set s with the terminals p as members besides
+--     carried v p              what the walk carries for the terminals p while it looks for winding v
+--     Carries v c places       a chain on its way carries just that, has a place in the sets for its end, and room in
+--                              the lent places
+--     atPlus, gone v c n       the chain of plus alone; the chain c gone on to the terminal n
+--     scan s cs w              going through the chains cs with w of the allowance left: showing the first that passes
+--                              the test s, showing none, each with what is left, or with the allowance spent first
+--     entered near t v p w     scan of the chains from p on, p among them
+--     tried near t v p n w     scan of those that go on from p to a number from n up
+--     toldWalked r places      what an answer says, with the chain found in the lent places
+--     WalkComes r c ps qs o    the answer r of a walk from chain c comes to o; the lent places were ps and are qs, and
+--                              c's own are as they were
+--     concluded o w            the verdict that a scan with the allowance w comes to
+--     LeftWithin o w           a scan with the allowance w leaves no more than w
 use Prim.Native.Nat.{ℕ, zero, suc, _+_, _-_, _≤_, _<_}
 use mathlib.Core.Path.{_≡_}
 use mathlib.Core.Bool.{Bool, false, cond, _||_}

@@ -75,7 +75,8 @@ fn answer_of(written: LineWritten) -> HandOut
 
 // Hands out the session's next line into a buffer: 16 if the longest line has no room there.
 pub fn next_line(session: Session, s: &[u8], out: &mut [u8]) -> Handed
-    ensures { λ r. ⌜ toldHanded r (now (out .exit)) ≡ nextLine (toldSession session) (now (s .entry)) (now (out .entry)) ⌝ }
+    ensures { λ r. ⌜ toldHanded r (now (out .exit))
+        ≡ nextLine (toldSession session) (now (s .entry)) (now (out .entry)) ⌝ }
 {
     if out.len() < LONGEST_LINE {
         return Handed {

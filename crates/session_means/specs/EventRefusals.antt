@@ -1,8 +1,8 @@
 -- Rule book: "An event refused by 12 prints its number, `refused` and 12". A session's line would print any other
 -- number as well; but its board was read and breaks no rule, its state fits that board, and its log is not too long, so
 -- no push, release or run of a session is refused by 15, 14, 13 or 7.
---     OnlyTwelve l   where the line l tells of a refused event, it is refused by 12
---     EventsRefused  so it is of every line of every session
+--     OnlyTwelve l     where the line l tells of a refused event, it is refused by 12
+--     EventsRefused    so it is of every line of every session
 use Prim.Native.Nat.{ℕ}
 use mathlib.Core.Path.{_≡_}
 use mathlib.Core.List.{List}

@@ -1,14 +1,14 @@
 -- The lines that are handed out one after the other are the session's lines, for every input.
---     Begun s z              z is what `begin` answers on the input s
---     Called z s out r out′  `next_line` on the session z, the input s and the lent buffer `out` answers r and leaves
---                            out′
---     Hands s z t y          a call on z hands out the text t, and leaves the session y to carry on
---     HandsOut s z ts z′     calls from z on hand out the texts ts, one after the other, and leave the session z′
---     Tells ts r out′        r hands out the first of the texts ts; where there is none, it says so
---     SoFar s z ts           the texts ts are the first of the session's lines, and whatever buffer with room is lent
---                            next, what comes is the next of them
---     LinesHandedOut         whatever calls have handed out from the beginning on, it is so
---     AllHandedOut           and once a call says that there is none, they are all of the session's lines
+--     Begun s z                z is what `begin` answers on the input s
+--     Called z s out r out′    `next_line` on the session z, the input s and the lent buffer `out` answers r and leaves
+--                              out′
+--     Hands s z t y            a call on z hands out the text t, and leaves the session y to carry on
+--     HandsOut s z ts z′       calls from z on hand out the texts ts, one after the other, and leave the session z′
+--     Tells ts r out′          r hands out the first of the texts ts; where there is none, it says so
+--     SoFar s z ts             the texts ts are the first of the session's lines, and whatever buffer with room is lent
+--                              next, what comes is the next of them
+--     LinesHandedOut           whatever calls have handed out from the beginning on, it is so
+--     AllHandedOut             and once a call says that there is none, they are all of the session's lines
 use Prim.Native.Nat.{ℕ, _≤_}
 use mathlib.Core.Path.{_≡_}
 use mathlib.Core.List.{List, [], _∷_, _++_}

@@ -14,5 +14,4 @@ has-spec =
     tie.close
     (tie.spec
     (λ c. sym (member-beyond (c .before .args .set) room (c .before .args .n) (omega arith) (omega arith)))
-    (λ c. search needs)
-    (λ c. refl))
+    (λ c. search needs) (λ c. refl))

@@ -24,6 +24,5 @@ names-one-spec =
     (tie.spec
     (λ c κs. search needs)
     (λ c. simp (eq-eqb _ 0 (sym (c .before .number .ensures) ∙ c .if1 .taken)))
-    (λ c κs. search needs)
-    (λ c κs. search needs)
+    (λ c κs. search needs) (λ c κs. search needs)
     returns-2)

@@ -46,7 +46,6 @@ part-fine-spec =
     (λ c. simp (le-ltb _ _ (c .if1 .taken)))
     (λ c. simp (lt-ltb _ _ (c .before .before .before .if1 .left), le-ltb _ _ (c .if2 .taken)))
     returns-3
-    (λ c κs. search needs)
-    (λ c κs. search needs)
+    (λ c κs. search needs) (λ c κs. search needs)
     returns-4
     returns-5)

@@ -62,13 +62,9 @@ parts-fine-spec =
     μ-loop
     (λ c κs. search needs)
     loop-holds
-    (λ c. omega arith)
-    (λ c. omega arith)
-    (λ c κs. search needs)
+    (λ c. omega arith) (λ c. omega arith) (λ c κs. search needs)
     returns
-    (λ c κs. search needs)
-    (λ c. omega arith)
-    (λ c. omega arith)
+    (λ c κs. search needs) (λ c. omega arith) (λ c. omega arith)
     loop-again
     (λ c κs. search needs)
     returns-2)

@@ -31,7 +31,6 @@ same-spec =
     (tie.spec
     (λ c κs. search needs)
     (λ c. board-counts-differ _ _ (sym (c .before .same-counts .ensures) ∙ not-true _ (c .if1 .taken)))
-    (λ c κs. search needs)
-    (λ c κs. search needs)
+    (λ c κs. search needs) (λ c κs. search needs)
     returns-2
     returns-3)

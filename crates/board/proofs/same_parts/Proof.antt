@@ -44,13 +44,8 @@ same-parts-spec =
     Inv-loop
     μ-loop
     (λ c. (c .pre, c .good .0 .1 .0 .1, c .good .1 .0 .1 .0 .1, omega arith, refl))
-    (λ c. omega arith)
-    (λ c. omega arith)
-    (λ c. omega arith)
-    (λ c. omega arith)
-    (λ c κs. search needs)
+    (λ c. omega arith) (λ c. omega arith) (λ c. omega arith) (λ c. omega arith) (λ c κs. search needs)
     returns
-    (λ c. omega arith)
-    (λ c. omega arith)
+    (λ c. omega arith) (λ c. omega arith)
     loop-again
     (λ c. same-walk-end _ _ _ _ _ (omega arith) (omega arith) (c .before .loop .inv .4) (c .loop-test .left)))

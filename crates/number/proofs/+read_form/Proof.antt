@@ -57,10 +57,7 @@ pub +read-form-spec : {M : Type 1} → statement M
     (λ c.
     let at-if2 = c .before .before .before in
     form-one _ _ _ _ (at-if2 .before .if1 .left) (at-if2 .if2 .left) (c .before .wide .ensures .0) (c .if3 .taken))
-    (λ c. omega arith)
-    (λ c. omega arith)
-    (λ c κs. omega arith)
-    (λ c. search needs)
+    (λ c. omega arith) (λ c. omega arith) (λ c κs. omega arith) (λ c. search needs)
     (λ c.
     let at-wide = c .before .before .before in
     let at-if2 = at-wide .before .before in

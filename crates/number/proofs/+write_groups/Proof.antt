@@ -37,8 +37,7 @@ pub +write-groups-spec : {M : Type 1} → statement M
     write-groups.Post
     (λ c. omega arith)
     (λ c. let pre = c .before .before .pre .1 in encode-room _ _ _ _ (pre .0) (pre .2))
-    (λ c. omega arith)
-    (λ c. omega arith)
+    (λ c. omega arith) (λ c. omega arith)
     (λ c. let pre = c .before .before .pre .1 in encode-room _ _ _ _ (pre .0) (pre .2))
     (λ c. omega arith)
     (λ c. let pre = c .before .before .before .pre .1 in omega (arith, encode-room _ _ _ _ (pre .0) (pre .2)))

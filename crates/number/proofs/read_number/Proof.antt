@@ -28,11 +28,9 @@ pub read-number-spec : {M : Type 1} → statement M
 read-number-spec =
     tie.close
     (tie.spec
-    (λ c κs. search needs)
-    (λ c. search needs)
+    (λ c κs. search needs) (λ c. search needs)
     add-t7
-    (λ c. search needs)
-    (λ c. search needs)
+    (λ c. search needs) (λ c. search needs)
     returns
     (λ c. number-ends _ _ _ (c .before .before .read-form .ensures) (c .enum-told .given .1))
     (λ c. number-bad _ _ _ (c .before .before .read-form .ensures) (c .enum-told2 .given .1)))

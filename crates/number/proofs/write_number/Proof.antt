@@ -42,6 +42,5 @@ write-number-spec =
     (λ c. search needs)
     returns-3
     write-groups-requires
-    (λ c. search needs)
-    (λ c. search needs)
+    (λ c. search needs) (λ c. search needs)
     returns-4)

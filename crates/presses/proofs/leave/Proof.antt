@@ -8,7 +8,6 @@ pub leave-spec : {M : Type 1} → statement M
 leave-spec =
     tie.close
     (tie.spec
-    (λ c. search needs)
-    (λ c. search needs)
+    (λ c. search needs) (λ c. search needs)
     (λ c. leave-done _ _ _ (c .enum-told .given .1))
     (λ c. leave-refused _ _ _ _ (c .enum-told2 .given .1)))

@@ -34,9 +34,7 @@ pub read-within-spec : {M : Type 1} → statement M
 read-within-spec =
     tie.close
     (tie.spec
-    (λ c κs. search needs)
-    (λ c. search needs)
-    (λ c. search needs)
+    (λ c κs. search needs) (λ c. search needs) (λ c. search needs)
     returns
     returns-2
     returns-3

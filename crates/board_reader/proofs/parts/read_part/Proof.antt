@@ -13,7 +13,7 @@ use Rattle.board.specs.Rules.{inRange, terminalFine}
 use Rattle.board_reader.specs.Reading.{wanted, nameAt}
 use Rattle.board_reader.proofs.FieldLaws.{bound, told-found, told-refused, number-stopped}
 use Rattle.board_reader.proofs.PartLaws.{part-as, no-part-told, kind-refused, a-refused}
-use Rattle.board_reader.proofs.PartLaws.{b-refused, ends-equal, name-refused, winding-refused, part-found}
+use Rattle.board_reader.proofs.PartLaws.{b-refused, ends-equal, name-refused, winding-taken-refused, part-found}
 use Rattle.board_reader.proofs.PartLaws.{terminal-below, name-below}
 
 -- the fields that were found, each where the one before it ends
@@ -101,7 +101,7 @@ returns-6 c =
     let b = apart .before .before in
     let a = b .before .before .before .before in
     no-part-told (c .no-part2 .result) _ _ _ (c .no-part2 .ensures) (c .before .refuse2 .ensures)
-    ∙ winding-refused _ _ _ _ _ _ (kind (a .before .before .before .before)) _ _ (first-end a) _ _ (second-end b)
+    ∙ winding-taken-refused _ _ _ _ _ _ (kind (a .before .before .before .before)) _ _ (first-end a) _ _ (second-end b)
     (apart .if1 .left) _ _ (name n)
     (ap (windingFree _) (sym (c .before .before .before .before .of .ensures))
     ∙ sym (c .before .before .before .free .ensures) ∙ not-true _ (c .before .before .if2 .taken))
@@ -135,34 +135,18 @@ pub read-part-spec : {M : Type 1} → statement M
 read-part-spec =
     tie.close
     (tie.spec
-    (λ c κs. search needs)
-    (λ c. search needs)
-    (λ c. search needs)
-    (λ c κs. search needs)
+    (λ c κs. search needs) (λ c. search needs) (λ c. search needs) (λ c κs. search needs)
     returns
-    (λ c κs. search needs)
-    (λ c. search needs)
-    (λ c. search needs)
-    (λ c κs. search needs)
+    (λ c κs. search needs) (λ c. search needs) (λ c. search needs) (λ c κs. search needs)
     returns-2
-    (λ c κs. search needs)
-    (λ c. search needs)
-    (λ c. search needs)
-    (λ c κs. search needs)
+    (λ c κs. search needs) (λ c. search needs) (λ c. search needs) (λ c κs. search needs)
     returns-3
-    (λ c κs. search needs)
-    (λ c κs. search needs)
+    (λ c κs. search needs) (λ c κs. search needs)
     returns-4
-    (λ c κs. search needs)
-    (λ c. search needs)
-    (λ c. search needs)
-    (λ c κs. search needs)
+    (λ c κs. search needs) (λ c. search needs) (λ c. search needs) (λ c κs. search needs)
     returns-5
     cast-of
-    (λ c κs. search needs)
-    (λ c κs. search needs)
-    (λ c κs. search needs)
-    (λ c κs. search needs)
+    (λ c κs. search needs) (λ c κs. search needs) (λ c κs. search needs) (λ c κs. search needs)
     returns-6
     cast-t21
     cast-t24

@@ -88,8 +88,7 @@ write-part-spec =
     put-requires-2
     (λ c κs. search needs)
     put-requires-3
-    (λ c κs. search needs)
-    (λ c κs. search needs)
+    (λ c κs. search needs) (λ c κs. search needs)
     put-requires-4
     (λ c. search needs)
     returns

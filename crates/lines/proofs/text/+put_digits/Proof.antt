@@ -31,8 +31,7 @@ pub +put-digits-spec : {M : Type 1} → statement M
 )
     (put-digits-at t)
     put-digits.Post
-    (λ c. omega arith)
-    (λ c. omega arith)
+    (λ c. omega arith) (λ c. omega arith)
     (λ c. digit-room _ _ (c .before .before .pre .1))
     (λ c.
     let entry = c .before .before in
@@ -40,8 +39,7 @@ pub +put-digits-spec : {M : Type 1} → statement M
     (λ c. simp length-set)
     (λ c. digit-put _ _ _ (omega arith))
     (λ c κs. (omega arith, tenth-room _ _ (omega arith) (omega arith) (c .before .before .before .pre .1)))
-    (λ c. omega arith)
-    (λ c. omega arith)
+    (λ c. omega arith) (λ c. omega arith)
     (λ c.
     let entry = c .before .before .before .before .before .before in
     last-room _ _ _ (omega arith) (omega arith) (c .before .before .put-digits .ensures) (entry .pre .1))

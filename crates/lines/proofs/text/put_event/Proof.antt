@@ -1,6 +1,6 @@
 -- `lines::text::put_event` meets its contract: the pieces of an event's line, each where the one before it ended.
 use borrow.Author.Needs.{needs}
-use Rattle.lines.proofs.LineLaws.{word-room, field-room, drawn-room, event-refused, event-ran}
+use Rattle.lines.proofs.LineLaws.{word-room, field-room, drawn-room, event-text-refused, event-ran}
 use Rattle.lines.proofs.text.put_event.Statement.{statement}
 use Rattle.lines.proofs.text.put_event.Tie as tie
 
@@ -40,7 +40,7 @@ returns c =
     let at-put-word = at-word .before .before .before .before in
     let at-put-number = at-put-word .before .before .before .before in
     let entry = at-put-number .before .before .before in
-    event-refused (entry .args .number) (entry .args .moves) (entry .args .drawn) (entry .args .word)
+    event-text-refused (entry .args .number) (entry .args .moves) (entry .args .drawn) (entry .args .word)
     (entry .args .out .now) (entry .pre) (at-put-number .put-number .ensures) (at-put-word .put-word .ensures)
     (at-word .word .given .1) (c .before .before .put-number2 .ensures)
 
@@ -61,8 +61,7 @@ put-event-spec =
     (tie.spec
     (λ c κs. search needs)
     put-word-requires
-    (λ c. search needs)
-    (λ c. search needs)
+    (λ c. search needs) (λ c. search needs)
     put-number-requires-2
     put-number-requires-3
     put-number-requires-4

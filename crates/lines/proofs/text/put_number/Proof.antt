@@ -2,7 +2,7 @@
 use native.Mathlib.Omega.{arith}
 use borrow.Author.Needs.{needs}
 use Rattle.lines.specs.Texts.{decimal}
-use Rattle.lines.proofs.PieceLaws.{number-room, after-room, put-after}
+use Rattle.lines.proofs.PieceLaws.{digits-room, after-room, put-after}
 use Rattle.lines.proofs.text.put_number.Statement.{statement}
 use Rattle.lines.proofs.text.put_number.Tie as tie
 
@@ -25,7 +25,7 @@ pub put-number-spec : {M : Type 1} → statement M
 put-number-spec =
     tie.close
     (tie.spec
-    (λ c κs. number-room _ _ (c .before .before .pre))
+    (λ c κs. digits-room _ _ (c .before .before .pre))
     (λ c.
     after-room _ _ _ (c .before .before .put-digits .ensures) (c .before .before .before .before .before .pre))
     add-result

@@ -45,7 +45,6 @@ complete-spec =
     (λ c. (c .wide .ensures .0, c .wide .ensures .1, omega arith, every-none _))
     (λ c κs. search needs)
     returns
-    (λ c. omega arith)
-    (λ c. omega arith)
+    (λ c. omega arith) (λ c. omega arith)
     loop-again
     (λ c. let reached : c .before .loop .relay ≡ c .before .before .before .args .relays = omega arith in cc))

@@ -25,7 +25,6 @@ wound-spec =
     (tie.spec
     (λ c κs. search needs)
     (λ c. simp (sym (c .before .has .ensures) ∙ c .if1 .taken))
-    (λ c κs. search needs)
-    (λ c κs. search needs)
+    (λ c κs. search needs) (λ c κs. search needs)
     returns-2
     returns-3)
