@@ -1,7 +1,7 @@
 -- The two sorts of relay, counted over the parts. Rule book: "Every relay is regular, with exactly one part of kind 4,
 -- or steel-core, with exactly one of kind 5 and one of kind 6."
--- No code of this crate goes by these: they say the sentence itself, and `proofs/WindingLaws.antt` shows that rules 8 and 9 stand for
--- it.
+-- No code of this crate goes by these: they say the sentence itself, and `proofs/WindingLaws.antt` shows that rules 8
+-- and 9 stand for it.
 --     carries j r k        kind k has number j and carries relay r
 --     windingsOf j r ps    how many of the parts ps are of kind number j and carry relay r
 --     isRegular r ps       relay r is regular: one part of kind 4, none of 5 and 6

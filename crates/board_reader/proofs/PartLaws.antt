@@ -54,7 +54,8 @@ module _ (c : Counts) (w : WoundSoFar) (s : List ℕ) (at kind ka : ℕ)
         name-refused k p h = rw (kinds, as-a, as-b, ne-eqb a b apart, h)
 
         module _ (name next : ℕ) (names : nameAt c kind s bn ≡ found name next) where
-          pub winding-taken-refused : windingFree w (kindOf kind name) ≡ false → refused windingTaken bn ≡ partAt c w s at
+          pub winding-taken-refused : windingFree w (kindOf kind name) ≡ false
+              → refused windingTaken bn ≡ partAt c w s at
           unfolding partAt
           winding-taken-refused h = rw (kinds, as-a, as-b, ne-eqb a b apart, names, h)
 

@@ -23,7 +23,8 @@ use Rattle.session.specs.HandingOut.{Handed}
 use Rattle.session.proofs.ToldLaws.{told-session-injective}
 use Rattle.demands.specs.EveryCallComesBack.{against, InOrder, AsLent, EveryCallComesBack}
 use Rattle.demands.proofs.FirstNoLaws.{runnable-first, movable-first, pressable-first, release-first}
-use Rattle.demands.proofs.FirstNoLaws.{winding-for-first, writing-stands, number-writing-stands, line-text-stands}
+use Rattle.demands.proofs.FirstNoLaws.{winding-for-first, writing-stands, number-writing-stands}
+use Rattle.demands.proofs.FirstNoLaws.{line-text-stands}
 use Rattle.demands.proofs.RefusedLaws.{left-outcome, left-refused, against-then, nothing-written}
 use Rattle.demands.proofs.RefusedLaws.{verdict-against, verdict-refused, ran-against, ran-refused}
 use Rattle.demands.proofs.RefusedLaws.{next-line-stands}
@@ -34,7 +35,8 @@ in-order = record {
   reads = file-refused;
   eleven = eleven-exactly;
   writes-number =
-      λ v out out′ at x wrote. ap (λ (y : Outcome ℕ × List ℕ). against (y .0)) wrote ∙ number-writing-stands v out at .first;
+      λ v out out′ at x wrote. ap (λ (y : Outcome ℕ × List ℕ). against (y .0)) wrote
+      ∙ number-writing-stands v out at .first;
   writes-line =
       λ l out out′ x wrote. ap (λ (y : Outcome ℕ × List ℕ). against (y .0)) wrote
       ∙ line-text-stands (toldLine l) out .first;
@@ -70,7 +72,8 @@ as-lent = record {
       λ v out out′ at x n p wrote told. ap (λ (y : Outcome ℕ × List ℕ). y .1) wrote
       ∙ number-writing-stands v out at .left n p (sym (ap (λ (y : Outcome ℕ × List ℕ). y .0) wrote) ∙ told);
   writes-line =
-      λ l out out′ x n p wrote told. ap (λ (y : Outcome ℕ × List ℕ). y .1) wrote ∙ line-text-stands (toldLine l) out .left n p
+      λ l out out′ x n p wrote told. ap (λ (y : Outcome ℕ × List ℕ). y .1) wrote
+      ∙ line-text-stands (toldLine l) out .left n p
       (sym (ap (λ (y : Outcome ℕ × List ℕ). y .0) wrote) ∙ told);
   writes =
       λ b out out′ w n p wrote told. (
@@ -99,7 +102,8 @@ as-lent = record {
         (ap (λ (t : Ran). t .moves) none, (ap (λ (t : Ran). t .relay) none, ap (λ (t : Ran). t .log) none)),
       );
   hands = λ z s out out′ r n p called told.
-      let kept = next-line-stands (toldSession z) s out .left n p (sym (ap (λ (h : Handed). h .answer) called) ∙ told) in (
+      let kept =
+      next-line-stands (toldSession z) s out .left n p (sym (ap (λ (h : Handed). h .answer) called) ∙ told) in (
         told-session-injective (r .session) z (ap (λ (h : Handed). h .session) called ∙ kept .0),
         ap (λ (h : Handed). h .out) called ∙ kept .1,
       );

@@ -131,7 +131,8 @@ pub writing-stands : (b : Board) (out : List ℕ) → WriteStands out (writeLine
 unfolding writing
 writing-stands b out = two-lines _ _ out (boardFine b) brokenBoard _ bufferTooShort
 
-pub number-writing-stands : (v : ℕ) (out : List ℕ) (at : ℕ) → WriteStands out (numberLines v out at) (numberWriting v out at)
+pub number-writing-stands : (v : ℕ) (out : List ℕ) (at : ℕ) → WriteStands out (numberLines v out at)
+    (numberWriting v out at)
 unfolding numberWriting
 number-writing-stands v out at = two-lines _ _ out (leb v largest) badForm _ bufferTooShort
 

@@ -23,7 +23,8 @@ use Rattle.board_reader.specs.Reading.{wanted, countsAt, partAt, partsAt, board
 use Rattle.board_reader.proofs.FieldLaws.{wanted-refused, wanted-fails, wanted-passes, wanted-found, range-above}
 use Rattle.board_reader.proofs.FieldLaws.{name-carried}
 use Rattle.board_reader.proofs.CountsLaws.{terminals-refused, relays-refused, buttons-refused, parts-refused}
-use Rattle.board_reader.proofs.PartLaws.{kind-refused, a-refused, b-refused, ends-equal, name-refused, winding-taken-refused}
+use Rattle.board_reader.proofs.PartLaws.{kind-refused, a-refused, b-refused, ends-equal, name-refused}
+use Rattle.board_reader.proofs.PartLaws.{winding-taken-refused}
 use Rattle.file_means.specs.FileRefusals.{countFine, CountAt, Reads, Reached, AtKind, AtFirst, AtSecond, AtName}
 use Rattle.file_means.specs.FileRefusals.{WantedAt, a-count, a-kind, first-end, second-end, a-name, StandsAt}
 use Rattle.file_means.specs.FileRefusals.{LineHolds, line1, line2, line3, line4, line5-first, line5-second, line6}

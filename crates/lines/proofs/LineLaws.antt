@@ -123,7 +123,8 @@ module _ (e m d : ℕ) (w : code-ending.Ending) (out : List ℕ) (room : longest
       event-ran {at₄} {out₄} ran fourth =
           rw (← event-text e m d w ran)
           (put-piece-next out 0 (spaced (decimal e) ++ spaced (wordText (toldEnding w)) ++ spaced (decimal m))
-          (put-piece-next out 0 (spaced (decimal e) ++ spaced (wordText (toldEnding w))) both (spaced (decimal m)) third)
+          (put-piece-next out 0 (spaced (decimal e) ++ spaced (wordText (toldEnding w))) both (spaced (decimal m))
+          third)
           (ended (decimal d)) fourth)
 
 -- ---- the line that ends a session, piece by piece

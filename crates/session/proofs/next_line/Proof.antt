@@ -12,7 +12,8 @@ returns-2 c =
     let at-write-line = c .before .before .before in
     let at-coming = at-write-line .before .before .before in
     let at-advance = at-coming .before .before .before in
-    next-line-written _ _ _ (at-advance .advance .result) (at-advance .before .if1 .left) (at-advance .advance .ensures) _
+    next-line-written _ _ _ (at-advance .advance .result) (at-advance .before .if1 .left)
+    (at-advance .advance .ensures) _
     (at-write-line .write-line .result) (c .answer-of .result) _ (at-coming .coming .given .1)
     (at-write-line .write-line .ensures) (c .answer-of .ensures)
 

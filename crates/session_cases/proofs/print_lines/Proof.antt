@@ -19,7 +19,11 @@ abbrev μ-loop : tie.MeasureT-loop
 array-share-prefix-line : tie.Need-array-share-prefix-line Inv-loop μ-loop
 array-share-prefix-line c =
     let at-hand-out = c .before .before .before .before in
-    omega (arith, at-hand-out .hand-out .ensures _ (c .before .answer .given .1) .0, at-hand-out .before .before .loop .inv)
+    omega (
+      arith,
+      at-hand-out .hand-out .ensures _ (c .before .answer .given .1) .0,
+      at-hand-out .before .before .loop .inv,
+    )
 
 slice-aggregate-write-all : tie.Need-slice-aggregate-write-all Inv-loop μ-loop
 slice-aggregate-write-all c =
