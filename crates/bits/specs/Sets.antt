@@ -5,8 +5,7 @@
 --     excluding s n       s without n
 --     remaining s t       the members of s that are not in t: those of s and not of both
 --     firstFrom ok k n    the first of n, n + 1, … (k numbers) that passes the test `ok`; else the number after them
---     lowestFrom s n      the lowest member of s from n up; where there is none, the room of a word, or n if that is
---                         more
+--     lowestFrom s n      the lowest member of s from n up; where there is none, the larger of n and the room of a word
 --     within s n          every member of s is below n
 -- The rule book's sets are the drawn relays, the pushed buttons and the windings that each relay has; its "sum of 2 to
 -- the relay number over drawn relays" is such a set as a number.

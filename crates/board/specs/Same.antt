@@ -1,7 +1,8 @@
 -- When two boards are the same. Rule book: "Boards are compared by their counts and first C parts, each part by its
 -- kind and the fields the table gives it."
---     sameCounts, sameKind, samePart, sameParts  the comparisons, field by field
---     sameBoard x y    boards x and y are the same
+--     sameCounts, sameKind    the same counts, the same kind, field by field
+--     samePart, sameParts     the same part, the same parts one by one
+--     sameBoard x y           boards x and y are the same
 use mathlib.Core.Bool.{Bool, true, false, _&&_}
 use mathlib.Core.List.{List, [], _∷_}
 use lib.Dec.{eqb}

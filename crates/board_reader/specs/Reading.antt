@@ -1,6 +1,5 @@
 -- Reading a board. Rule book: "Order: 10 first; then left to right, each number's form (1, 2) before its meaning, and
--- for a part 4, 5, 5, 6, 7, 8 as its fields come; then 9." Each line of a `do` block leaves with its refusal if it has
--- one.
+-- for a part 4, 5, 5, 6, 7, 8 as its fields come; then 9." Each line of a `do` block that has a refusal leaves with it.
 --     wanted ok n s at                 the number at a place, which must pass the test ok, else n at that place
 --     countsAt s                       T, R, B and C at the start of the input
 --     nameAt c k s at                  the relay or button of a part of kind number k; a wire has none
@@ -10,8 +9,9 @@
 --     boardFrom c o                    the board of counts c with the parts that were read
 --     boardAt s                        the board at the start of the input, and the place just after it
 --     longestInput                     the longest input that is read
---     reading s                        what reading answers: "a refused read returns number, place and the empty board"
---                                      (`answered`)
+--     answered o                       the answer, by what was read: "a refused read returns number, place and the
+--                                      empty board"
+--     reading s                        what reading answers
 --     toldReadAnswer, toldBoardRead    the answers' cases in the rule book's numbers
 use Prim.Native.Nat.{ℕ, zero, suc}
 use mathlib.Core.Bool.{Bool, cond}

@@ -1,5 +1,5 @@
--- The bytes of a board file. Rule book: "The file: T, R, B, C, then each part as its kind and fields in the table's
--- order."
+-- The bytes of a board file. Rule book: "The file: T, R, B, C, then each part as its kind and fields in the
+-- table's order."
 --     nameBytes k      the bytes of the relay or button that a kind carries; a wire has none
 --     partBytes p      a part's kind, both ends, and its relay or button
 --     partsBytes ps    parts one after the other

@@ -7,6 +7,7 @@
 --     beyond j t f p x     the chains that begin with p, which ends at x, and go on by at most f terminals more
 --     chains j t           all chains on a board of t terminals
 --     crosses a b x y      the step from x to y goes from a to b or from b to a
+--     someCrosses a b l    one of the steps l does
 --     beside a b c         a and b stand side by side in c, in either order
 --     shows a b c          c ends at 1 and has a and b side by side
 -- proofs/ChainsCorrect, ChainsComplete and ChainsSorted show that these are exactly the chains of Chains.antt, in
@@ -36,8 +37,8 @@ tries go ok (suc k) n = cond (ok n) (go n) [] ++ tries go ok k (suc n)
 unfoldable pub beyond : (ℕ → ℕ → Bool) → ℕ → ℕ → List ℕ → ℕ → List (List ℕ)
 beyond j t zero p x = []
 beyond j t (suc f) p x =
-    cond (eqb x minus) [] (tries (λ (n : ℕ). (p ++ (n ∷ [])) ∷ beyond j t f (p ++ (n ∷ [])) n) (canFollow j p x) t
-    0)
+    cond (eqb x minus) []
+    (tries (λ (n : ℕ). (p ++ (n ∷ [])) ∷ beyond j t f (p ++ (n ∷ [])) n) (canFollow j p x) t 0)
 
 unfoldable pub chains : (ℕ → ℕ → Bool) → ℕ → List (List ℕ)
 chains j t = (plus ∷ []) ∷ beyond j t (t - 1) (plus ∷ []) plus
@@ -45,7 +46,6 @@ chains j t = (plus ∷ []) ∷ beyond j t (t - 1) (plus ∷ []) plus
 unfoldable pub crosses : ℕ → ℕ → ℕ → ℕ → Bool
 crosses a b x y = eqb x a && eqb y b || eqb x b && eqb y a
 
--- one of these steps crosses from a to b or from b to a
 unfoldable pub someCrosses : ℕ → ℕ → List (ℕ × ℕ) → Bool
 someCrosses a b [] = false
 someCrosses a b (s ∷ l) = crosses a b (s .0) (s .1) || someCrosses a b l

@@ -3,7 +3,9 @@
 -- part. A chain that reaches 1 ends there."
 --     plus, minus       "Terminal 0 is plus, terminal 1 is minus"
 --     steps c           the pairs of terminals that stand side by side in c, each with the later one second
+--     stepsFrom x c     the same of the list that begins with x and goes on as c
 --     ending c          the terminal that c ends at
+--     endingFrom x c    the same of the list that begins with x and goes on as c
 --     BeginsAtPlus c    c begins with 0
 --     Linked J c        neighbours in c are each joined, where J x y says that x and y are
 --     StopsAtMinus c    c ends where it reaches 1: no step leaves 1
@@ -25,7 +27,6 @@ plus = 0
 abbrev pub minus : ℕ
 minus = 1
 
--- the steps of a chain that begins with x and goes on as c
 abbrev pub stepsFrom : ℕ → List ℕ → List (ℕ × ℕ)
 stepsFrom x [] = []
 stepsFrom x (y ∷ c) = (x, y) ∷ stepsFrom y c

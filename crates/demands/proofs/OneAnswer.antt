@@ -1,6 +1,6 @@
 -- Each promise allows one answer only: an answer that is told as it is, by `one-itself`; one that is told by a
--- definition, by
--- `one-told`, because no two answers are told alike; one that leaves something in a lent log or buffer, by `one-lent`.
+-- definition, by `one-told`, because no two answers are told alike; one that leaves something in a lent log or buffer,
+-- by `one-lent`.
 use Prim.Native.Nat.{ℕ}
 use mathlib.Core.Path.{_≡_, sym, ap, _∙_}
 use mathlib.Core.List.{List}

@@ -2,8 +2,8 @@
 -- terminal twice runs from plus to minus through its winding, and drops when there is none. Board files keep their
 -- meaning: write then read gives the board, read then write gives the bytes read. A run moves the lowest relay that can
 -- move until it is idle or must stop."
---     AsTheModelSays    the demand: each field is a statement over the calls, which the file that defines it puts into
---                       words
+--     AsTheModelSays    the demand: each field is a statement over the calls, put into words in the file that
+--                       defines it
 use Rattle.file_means.specs.RoundTrip.{WriteThenRead, ReadThenWrite}
 use Rattle.judge_means.specs.Circuits.{PathsAreChains}
 use Rattle.judge_means.specs.Exactness.{TheChains, LiveExactly, DeadExactly, UndecidedExactly, LiveShows, DeadCounts}
@@ -17,8 +17,8 @@ use Rattle.session_means.specs.EventRefusals.{EventsRefused}
 use Rattle.session_means.specs.LinesDrawn.{LinesDrawn}
 
 pub record AsTheModelSays : Type 0 where
-  -- what a chain is, that the list of them is all of them in order, and that those to minus are the published model's
-  -- paths
+  -- what a chain is, that the list of them is all of them in order, and that those to minus are the published
+  -- model's paths
   pub chains : TheChains
   pub paths : PathsAreChains
   -- a winding is called live, dead or undecided exactly if it is so, and its first chain is shown
@@ -30,8 +30,8 @@ pub record AsTheModelSays : Type 0 where
   pub counted : DeadCounts
   pub reported : UndecidedReports
   pub current : AsPublished
-  -- a relay draws, drops, rests exactly if the chains through its windings say so, which is exactly by the published
-  -- guards
+  -- a relay draws, drops, rests exactly if the chains through its windings say so, which is exactly by the
+  -- published guards
   pub regular : RegularByChains
   pub steel : SteelByChains
   pub moves : MoveExactly
@@ -40,8 +40,8 @@ pub record AsTheModelSays : Type 0 where
   -- board files keep their meaning
   pub written-read : WriteThenRead
   pub read-written : ReadThenWrite
-  -- the lines handed out are the session's lines; its events are refused by 12 alone, and each prints the sum over its
-  -- drawn relays
+  -- the lines handed out are the session's lines; its events are refused by 12 alone, and each prints the sum over
+  -- its drawn relays
   pub lines : LinesHandedOut
   pub all-lines : AllHandedOut
   pub events : EventsRefused

@@ -7,7 +7,8 @@
 --     firstNo ls                  the first of these lines whose test fails, by its number at place 0, or nothing
 --     isGiven o                   whether o is given
 --     numberLines .. lineLines    "Calls: 15, 14, 13, 11, 7, 12, 16, those that apply": the lines of each call in that
---                                 order, each a test that must hold and the number for no
+--                                 order, each a test that must hold and the number for no; `usableLines` are the two
+--                                 that every call on a board and a state has first
 --     InOrder                     what stands against each call is the first of its lines whose test fails; a file is
 --                                 refused exactly by the first line of the table that holds, from left to right; and 11
 --                                 is its line

@@ -1,11 +1,12 @@
 -- Rule book, how tight the promises are: "Any pair of answers allowed by a promise is shown to be one answer". A line
 -- for each function that another crate can call: its promise, and that it allows one answer only. `docs/PROMISES.md`
 -- has the promises in words.
---     itself            an answer that is told as it is
---     One told a        two answers that are told as a are one answer
---     OneLent told a    two answers, with what they leave in a lent log or buffer, that are told as a are one answer,
---                       and leave the same
---     OneAnswer         the list
+--     itself                 an answer that is told as it is
+--     One told a             two answers that are told as a are one answer
+--     OneLent told a         two answers, with what they leave in a lent log or buffer, that are told as a are one
+--                            answer, and leave the same
+--     withBuffer told x l    the answer x as an outcome, with what it leaves in the buffer, l
+--     OneAnswer              the list
 use Prim.Native.Nat.{ℕ, _<_}
 use mathlib.Core.Path.{_≡_}
 use mathlib.Core.List.{List}
@@ -54,7 +55,6 @@ One {A} {R} told a = (x y : R) → told x ≡ a → told y ≡ a → x ≡ y
 abbrev pub OneLent : {A R : Type 0} → (R → List ℕ → A) → A → Type 0
 OneLent {A} {R} told a = (x y : R) (k l : List ℕ) → told x k ≡ a → told y l ≡ a → (x ≡ y) × (k ≡ l)
 
--- an answer as an outcome, with what it leaves in the buffer
 abbrev pub withBuffer : {R : Type 0} → (R → Outcome ℕ) → R → List ℕ → Outcome ℕ × List ℕ
 withBuffer told x l = (told x, l)
 

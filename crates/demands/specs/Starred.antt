@@ -1,14 +1,19 @@
--- The rule book's "Boards to try" as one table: the starred ones, and the others that compute quickly. The rest are run
--- and compared.
+-- The rule book's "Boards to try" as one table: the starred ones, and the others that compute quickly. The rest are
+-- run and compared.
+--     part k x y, board t r b ps    a part of kind k between x and y; a board of T t, R r, B b and the parts ps
 --     h0 .. h6, pair                the boards; `pair` is one of ours, on which two relays can move at once
+--     pushed0, pushedBoth           the states with button 0 pushed, and with buttons 0 and 1
+--     drawn0 s                      the state s with relay 0 drawn
+--     liveWith e c, deadWith e      live with effort e and the chain c shown; dead with effort e
+--     lent n                        a lent log of n bytes, each 7
 --     h0File, h2Session             H0 as a file, H2 as a session, byte by byte as the rule book prints them
 --     h2Lines, h0Line               what H2 and H0 print, character by character
 --     Row                           a call and the answer that the rule book states for it:
 --       reads s b o                 `read` of the bytes s: the board, and the place just after it or the refusal
 --       judges b s k w j            `judge` of winding k of relay 0 of board b in state s within the allowance w
 --       moves b s w t m             `move_relay` of relay 0: the word m, and the state t
---       runs b s w log e m t r l    `run` over the lent log: the word e, m moves, the state t, the relay r, and the log
---                                   l afterwards
+--       runs b s w log e m t r l    `run` over the lent log: the word e, m moves, the state t, the relay r, and the
+--                                   log l afterwards
 --       prints s x                  a session and all that it prints
 --     RowHolds x                    the row's call comes to its answer
 --     starred, Starred              the table; every row of it holds
@@ -111,7 +116,6 @@ liveWith e c = settled e (some c)
 abbrev pub deadWith : ℕ → Verdict
 deadWith e = settled e none
 
--- a lent log of so many bytes, each 7
 abbrev pub lent : ℕ → List ℕ
 lent n = replicate n 7
 

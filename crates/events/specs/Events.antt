@@ -8,8 +8,8 @@
 --     Shown                   a line, and the state after what it tells
 --     tells e r               event e tells what a run answers: its word, its moves and the drawn relays
 --     ranLine b e t w         event e tells of a run from state t
---     pressedLine b e x w     event e tells of the push or release x: of the run from the state that it leaves, or of
---                             its refusal
+--     pressedLine b e x w     event e tells of the push or release x: of the run from the state that it leaves, or
+--                             of its refusal
 --     eventLine b e t v w     event e, which is v, in state t
 --     toldShown               the code's line in the rule book's words
 use Prim.Native.Nat.{ℕ, _/_, _%_}

@@ -20,8 +20,8 @@ fn add_digit(digit: u8, digits: usize, bytes: &mut [u8; CASE_ROOM]) -> usize
     digits + 1
 }
 
-// Adds zero bytes up to the longest input to a case of so many digits, unless one is odd, and gives how many there are
-// then.
+// Adds zero bytes up to the longest input to a case of so many digits, unless one is odd, and gives how many there
+// are then.
 fn add_zeros(digits: usize, bytes: &mut [u8; CASE_ROOM]) -> usize
     requires { ⌜ digits ≤ 131080 ⌝ }
     ensures { λ r. ⌜ r ≤ 131080 ⌝ }

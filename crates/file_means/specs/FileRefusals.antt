@@ -118,5 +118,5 @@ abbrev pub FileRefused : Type 0
 FileRefused =
     (s : List ℕ) (r : BoardRead) (n p : ℕ)
     → WasRead s r
-    → toldReadAnswer (r .answer) ≡ refused n p ↔ ((longestInput < length s) × (n ≡ inputTooLong) × (p ≡ 0))
-    ⊎ ((length s ≤ longestInput) × LineHolds s n p)
+    → toldReadAnswer (r .answer) ≡ refused n p
+    ↔ ((longestInput < length s) × (n ≡ inputTooLong) × (p ≡ 0)) ⊎ ((length s ≤ longestInput) × LineHolds s n p)

@@ -1,8 +1,8 @@
 -- Demand 3, first half, over the call `judge::judge`: "A larger allowance never changes live or dead". Rule book, how
 -- tight the promises are: "an invented effort by demand 3, as the verdict turns at that number".
 --     Settled v          v is live or dead
---     LargerAllowance    what an allowance settles, every larger one settles the same way, with the same effort and the
---                        same chain
+--     LargerAllowance    what an allowance settles, every larger one settles the same way, with the same effort and
+--                        the same chain
 --     TurnsAtEffort      the verdict turns at the effort: settled the same way from it on, undecided below it
 --     EffortSome         "effort is at least 1"
 use Prim.Native.Nat.{ℕ, _<_, _≤_}

@@ -1,14 +1,16 @@
 -- The words of document 000, over a board in a state: the paper's network is the board in the state, its connectors are
 -- the terminals, its components the parts, and its poles pos and neg are terminals 0 and 1. The paper counts places in
--- a path from 1, a list here from 0. Its circuits have no parallel components and obey Danish wiring rules; our boards
--- need not.
---     actualConnections s p           the connections that part p makes in state s: (a, b) and (b, a) if it conducts,
---                                     else none
+-- a path from 1, a list here from 0. Its circuits have no parallel components and obey Danish wiring rules; our
+-- boards need not.
+--     pos, neg                        the poles
+--     place p i                       p(i), from place 0 on
+--     actualConnections s p           the connections that part p makes in state s: (a, b) and (b, a) if it
+--                                     conducts, else none
 --     AreConnected b s x y            "∃ cm : Component • cm ∈ components(n) ∧ (c1, c2) ∈ actualConnections(cm)"
---     Available b s p                 "len p ≥ 2 ∧ (∀ i ∈ {1 .. len p - 1} ⇒ areConnected(p(i), p(i + 1), n)) ∧ (∀ i, j
---                                     ⊆ {1 .. len p} ⇒ (i ≠ j ⇒ p(i) ≠ p(j)))"
---     AvailablePath b s from to p     p is in "availablePaths(from, to, n)": "available(p, n) ∧ p(1) = from ∧ p(len p)
---                                     = to"
+--     Available b s p                 "len p ≥ 2 ∧ (∀ i ∈ {1 .. len p - 1} ⇒ areConnected(p(i), p(i + 1), n))
+--                                     ∧ (∀ i, j ⊆ {1 .. len p} ⇒ (i ≠ j ⇒ p(i) ≠ p(j)))"
+--     AvailablePath b s from to p     p is in "availablePaths(from, to, n)":
+--                                     "available(p, n) ∧ p(1) = from ∧ p(len p) = to"
 --     PathContainsConnection p x y    "∃ i ∈ {1 .. len p - 1} ∧ (p(i), p(i + 1)) = (c1, c2)"
 --     CurrentCarrying b s x y         "∃ p : Path • p ∈ availablePaths(pos, neg, n) ∧ PathContainsConnection(p, con)"
 --     WindingCarries b s x y          one of the connections of a winding between x and y is current carrying
@@ -37,7 +39,6 @@ pos = 0
 abbrev pub neg : ℕ
 neg = 1
 
--- p(i), from place 0 on
 abbrev pub place : List ℕ → ℕ → ℕ
 place p i = getD p i 0
 
@@ -75,10 +76,12 @@ WindingCarries b s x y = CurrentCarrying b s x y ⊎ CurrentCarrying b s y x
 
 abbrev pub PathsAreChains : Type 0
 PathsAreChains =
-    (b : Board) (s : State) (p : List ℕ) → boardFine b ≡ true → AvailablePath b s pos neg p
-    ↔ IsChain (Joined b s) (b .counts .terminals) p × (ending p ≡ minus)
+    (b : Board) (s : State) (p : List ℕ)
+    → boardFine b ≡ true
+    → AvailablePath b s pos neg p ↔ IsChain (Joined b s) (b .counts .terminals) p × (ending p ≡ minus)
 
 abbrev pub LiveIsCarrying : Type 0
 LiveIsCarrying =
-    (b : Board) (s : State) (x y : ℕ) → boardFine b ≡ true → Live (Joined b s) (b .counts .terminals) x y
-    ↔ WindingCarries b s x y
+    (b : Board) (s : State) (x y : ℕ)
+    → boardFine b ≡ true
+    → Live (Joined b s) (b .counts .terminals) x y ↔ WindingCarries b s x y

@@ -1,7 +1,8 @@
 -- Refusal 11 and the winding that is judged. Rule book: 11, "no such relay, or a second winding asked of a regular
 -- one"; "A number is given exactly when its line holds and none before it in the order does."
---     ElevenExactly    on a board and a state that are not refused, 11 is given exactly if its line holds
---     TheWinding       the winding judged is that of the relay, and the only one
+--     ElevenExactly         on a board and a state that are not refused, 11 is given exactly if its line holds
+--     ItsWinding b r n e    e is winding n of relay r on board b, and no other part is
+--     TheWinding            the winding judged is that of the relay, and the only one
 use Prim.Native.Nat.{ℕ, _≤_}
 use mathlib.Core.Path.{_≡_}
 use mathlib.Core.Logic.{_⊎_, _↔_}
@@ -30,7 +31,6 @@ ElevenExactly =
     → stateFine (b .counts) s ≡ true
     → windingFor b s r n ≡ refused noSuchWinding 0 ↔ (b .counts .relays ≤ r) ⊎ ((n ≡ Second) × isRegular r (partsOf b))
 
--- e is winding n of relay r on board b, and no other part is
 pub record ItsWinding (b : Board) (r : ℕ) (n : Which) (e : Winding) : Type 0 where
   pub part : Part
   pub on-board : part ∈ partsOf b

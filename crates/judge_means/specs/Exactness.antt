@@ -1,19 +1,23 @@
 -- What live, dead and undecided mean, stated over the call `judge::judge`: whatever it answers under its promise. Rule
 -- book: "Live, with the first such chain shown, exactly if the winding is live and its effort is at most W. Dead
 -- exactly if it is dead and its effort is at most W. Undecided otherwise."
---     Judges b s r n w v           `judge` was called on board b, state s, winding n of relay r and allowance w, and
---                                  answered v
+--     Judges b s r n w v           `judge` was called on board b, state s, winding n of relay r and allowance w,
+--                                  and answered v
 --     AcceptedWinding b s r n e    the call is not refused, and e is the winding judged
 --     chainsOf b s                 the list of all chains of board b in state s
 --     ChainOf b s c                c is a chain of board b in state s
---     TheChains                    that list holds exactly the rule book's chains, in dictionary order, each once
+--     AllChains b s                that list holds exactly the rule book's chains, in dictionary order, each once
+--     TheChains                    so it is of every board that breaks no rule
 --     IsLive b s e                 "A winding between a and b is live if some chain ends at 1 and has a and b side by
 --                                  side, in either order"
 --     effortOf b s e               its effort
 --     OfEveryVerdict P             P holds of every verdict v, within the allowance w, on a winding e that is judged
---     LiveExactly, DeadExactly, UndecidedExactly  the three verdicts
---     LiveShows                    live shows the first chain that shows the winding, and the effort is the number of
+--     LiveExactly, DeadExactly     "Live .. exactly if", "Dead exactly if"
+--     UndecidedExactly             "Undecided otherwise"
+--     FirstChain b s e v           v shows the first chain that shows winding e, and its effort is the number of
 --                                  chains up to and including it
+--     LiveShows                    so it is of a live verdict
+--     ShowsNone v                  v shows no chain
 --     DeadCounts                   dead reports the number of all chains, and no chain
 --     UndecidedReports             undecided reports W, and no chain
 --     AsPublished                  live is what document 000 calls current carrying, dead that it is not
@@ -81,7 +85,6 @@ DeadExactly = OfEveryVerdict λ b s w e v. v .finding ≡ said.Dead ↔ ¬ (IsLi
 abbrev pub UndecidedExactly : Type 0
 UndecidedExactly = OfEveryVerdict λ b s w e v. v .finding ≡ said.Undecided ↔ w < effortOf b s e
 
--- what a live verdict v on winding e shows: the first chain that shows it, and how many chains there are up to it
 pub record FirstChain (b : Board) (s : State) (e : Winding) (v : Verdict) : Type 0 where
   pub chain : List ℕ
   pub its-length : v .length ≡ length chain
@@ -97,7 +100,6 @@ pub record FirstChain (b : Board) (s : State) (e : Winding) (v : Verdict) : Type
 abbrev pub LiveShows : Type 0
 LiveShows = OfEveryVerdict λ b s w e v. v .finding ≡ said.Live → FirstChain b s e v
 
--- no chain is shown
 abbrev pub ShowsNone : Verdict → Type 0
 ShowsNone v = (v .length ≡ 0) × (v .terminals ≡ places [])
 
@@ -110,5 +112,6 @@ UndecidedReports = OfEveryVerdict λ b s w e v. v .finding ≡ said.Undecided �
 
 abbrev pub AsPublished : Type 0
 AsPublished =
-    OfEveryVerdict λ b s w e v. (v .finding ≡ said.Live → WindingCarries b s (e .a) (e .b))
+    OfEveryVerdict λ b s w e v.
+    (v .finding ≡ said.Live → WindingCarries b s (e .a) (e .b))
     × (v .finding ≡ said.Dead → ¬ (WindingCarries b s (e .a) (e .b)))

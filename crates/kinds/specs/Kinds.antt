@@ -6,8 +6,8 @@
 --     lastKind        the highest kind number
 --     kindNumber k    the number of a kind in the rule book's table
 --     nameOf k        the relay or button that a kind carries; 0 for a wire, which carries none
---     kindOf k n      the kind of number k that carries n; above the last kind there is none (4), and n is a dropping
---                     winding's
+--     kindOf k n      the kind of number k that carries n; above the last kind there is none (4), and it is taken for
+--                     a dropping winding
 use Prim.Native.Nat.{ℕ}
 use mathlib.Core.Bool.{cond}
 use lib.Dec.{eqb}

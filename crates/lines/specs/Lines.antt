@@ -1,10 +1,11 @@
 -- The lines of a session. Rule book, "The session program": "One line for the first run (event 0), then one for each
 -- event: event number, word, moves, and the sum of 2 to the relay number over drawn relays. An event refused by 12
 -- prints its number, `refused` and 12"; "A bad file or event prints `refused`, number, place, and ends".
---     event e w m d                the line of event e: the word w of its run or what refused it, m moves, and the
+--     Line                         a line:
+--       event e w m d              the line of event e: the word w of its run or what refused it, m moves, and the
 --                                  drawn relays as the word d of bits, which is that sum
---     closing n p                  the line that ends a session: refused by n at place p
---     lineText                     a line as text, with its line end
+--       closing n p                the line that ends a session: refused by n at place p
+--     lineText l                   the line l as text, with its line end
 --     longestLine                  the room that a line's buffer must have
 --     lineWriting l out            what writing the line l into the buffer `out` answers, and the buffer afterwards:
 --                                  "Written bytes begin the buffer; the rest stays"

@@ -1,6 +1,6 @@
 -- Pieces of text written one after the other. Only for the inner functions that write them.
---     Put out at x r out′    the piece x was written into `out` at a place: r is the next place, out′ the buffer
---                            afterwards
+--     Put out at x r out′    the piece x was written into `out` at a place: r is the next place, and out′ is the
+--                            buffer afterwards
 --     endedBy x c            x and the byte c after it
 use Prim.Native.Nat.{ℕ, _+_}
 use mathlib.Core.Path.{_≡_}

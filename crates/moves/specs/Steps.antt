@@ -11,11 +11,11 @@
 --                               winding as y
 --     moveBy d x y              a relay by its first and its second winding: with a second one it is steel, else
 --                               regular; what the board lacks rests
---     findingOn near b r n w    winding n of relay r of board b, judged by the sets of neighbours `near` within the
---                               allowance w
+--     findingOn near b r n w    winding n of relay r of board b, judged by the sets of neighbours `near` within
+--                               the allowance w
 --     stepBy near b d r w       what relay r does, drawn if d
---     stepOf b s r w            what relay r of board b does in state s, within the allowance w. Runs know it by its
---                               laws alone
+--     stepOf b s r w            what relay r of board b does in state s, within the allowance w. Runs know it by
+--                               its laws alone
 --     stepper b w               the steps of board b within the allowance w, of every relay in every state
 --     made s r m                the state after relay r came to m: "A move changes that relay and nothing else"
 --     toldMove                  the answer's cases in the rule book's words

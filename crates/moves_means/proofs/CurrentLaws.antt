@@ -1,5 +1,5 @@
--- Current through a relay's winding is what verdicts call carrying: a winding conducts in every state, so its
--- connections are the two ways between its ends.
+-- Current through a relay's winding is what `judge_means` says of its two ends, `WindingCarries`: a winding conducts in
+-- every state, so its connections are the two ways between its ends.
 use Prim.Native.Nat.{ℕ}
 use mathlib.Core.Path.{_≡_, refl, sym, subst, _∙_}
 use mathlib.Core.Logic.{inl, inr}

@@ -51,8 +51,8 @@ SteelComes b s r e f drew w =
 SteelComes b s r e f dropped w =
     Decided b s e w × Decided b s f w × (isDrawn s r ≡ true) × IsLive b s f × ¬ (IsLive b s e)
 SteelComes b s r e f rests w =
-    Decided b s e w × Decided b s f w × (((isDrawn s r ≡ true) × ¬ (IsLive b s f))
-    ⊎ ((isDrawn s r ≡ false) × ¬ (IsLive b s e)))
+    Decided b s e w × Decided b s f w
+    × (((isDrawn s r ≡ true) × ¬ (IsLive b s f)) ⊎ ((isDrawn s r ≡ false) × ¬ (IsLive b s e)))
 
 abbrev pub RegularByChains : Type 0
 RegularByChains =

@@ -13,8 +13,8 @@
 --     CanDrawSteel b s r        002: canDrawSteelRelay, "neg(literal(id)), drawingCurrentThroughSteelRelay(id, d)"
 --     CanDropSteel b s r        002: canDropSteelRelay, "literal(id), droppingCurrentThroughSteelRelay(id, d)"
 --     CanDraw, CanDrop b s r    relay r can be drawn, dropped: "rid ∈ dom relays(n)", and the guard of its sort holds
---     Stable b s                000: is_stable, "∀ rid : RelayId • rid ∈ dom relays(n) ⇒ (~ can_draw(rid, n)) ∧ (~
---                               can_drop(rid, n))", with the guards of both sorts
+--     Stable b s                000: is_stable, "∀ rid : RelayId • rid ∈ dom relays(n) ⇒ (~ can_draw(rid, n))
+--                               ∧ (~ can_drop(rid, n))", with the guards of both sorts
 --     BothCurrents b s r        what must not be of a steel relay: 002, "there should never be a dropping and a drawing
 --                               current through a steel core relay at the same time"
 use Prim.Native.Nat.{ℕ, _<_}
@@ -56,13 +56,13 @@ CanDropSteel b s r = (isDrawn s r ≡ true) × CurrentThrough b s r Second
 
 abbrev pub CanDraw : Board → State → ℕ → Type 0
 CanDraw b s r =
-    (r < b .counts .relays) × ((isRegular r (partsOf b) × CanDrawRegular b s r)
-    ⊎ (isSteel r (partsOf b) × CanDrawSteel b s r))
+    (r < b .counts .relays)
+    × ((isRegular r (partsOf b) × CanDrawRegular b s r) ⊎ (isSteel r (partsOf b) × CanDrawSteel b s r))
 
 abbrev pub CanDrop : Board → State → ℕ → Type 0
 CanDrop b s r =
-    (r < b .counts .relays) × ((isRegular r (partsOf b) × CanDropRegular b s r)
-    ⊎ (isSteel r (partsOf b) × CanDropSteel b s r))
+    (r < b .counts .relays)
+    × ((isRegular r (partsOf b) × CanDropRegular b s r) ⊎ (isSteel r (partsOf b) × CanDropSteel b s r))
 
 abbrev pub Stable : Board → State → Type 0
 Stable b s = (r : ℕ) → r < b .counts .relays → ¬ (CanDraw b s r) × ¬ (CanDrop b s r)

@@ -3,10 +3,11 @@
 -- allowed: the last byte is 0 only if it is the only byte."
 --     longest, largest          the longest form, in bytes, and the largest value
 --     Bytes s                   every element of s is a byte
+--     below g f                 the group g below the rest of a number, whose form is f
 --     form k s                  the number of at most k bytes that the bytes s begin with: got its value and length;
 --                               ends, if s ends inside or before it; bad, if it is longer or not shortest
---     numberAt s at             the number at place `at` of the input s, by its value and the next place, or refusal 1
---                               or 2
+--     placed len at f           the form f at place `at` of an input of len bytes, as the rule book answers it
+--     numberAt s at             the number at place `at` of the input s: its value and the next place, or 1 or 2
 --     encode k v                the shortest form of v, in at most k bytes
 --     numberBytes v             the bytes that v is written as
 --     numberWriting v out at    what writing v into the buffer `out` at a place answers, and the buffer afterwards
@@ -36,7 +37,7 @@ largest = 2_097_151
 abbrev pub Bytes : List ℕ → Type 0
 Bytes s = (i : ℕ) → getD s i 0 < 256
 
--- a group g below the rest of the number: a rest of 0 would be a last byte 0 that is not the only byte
+-- a rest of 0 would be a last byte 0 that is not the only byte
 unfoldable pub below : ℕ → Form → Form
 below g (Got zero n) = Bad
 below g (Got (suc v) n) = Got (g + 128 * suc v) (suc n)
@@ -49,7 +50,6 @@ form zero s = Bad
 form (suc k) [] = Ends
 form (suc k) (b ∷ s) = cond (ltb b 128) (Got b 1) (below (b - 128) (form k s))
 
--- the form at place `at` of an input of len bytes as the rule book answers it
 unfoldable pub placed : ℕ → ℕ → Form → Outcome (Found ℕ)
 placed len at (Got v n) = cond (leb v largest) (found v (at + n)) (refused badForm at)
 placed len at Ends = refused inputEnds len

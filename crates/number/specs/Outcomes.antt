@@ -1,8 +1,11 @@
 -- What any reading or call comes to, in the rule book's words: what was asked for, or a refusal by number and place.
---     given a         what was asked for is a
---     refused n p     refused by number n at place p
---     found a next    a was read, and the place just after it is next
+--     Outcome         what it comes to:
+--       given a       what was asked for is a
+--       refused n p   refused by number n at place p
+--     Found           a thing that was read, with the place just after it
+--     found a n       a was read, and the place just after it is n
 --     o >>= f         where o gives a, what f makes of a; a refusal leaves at once. A `do` block is a row of these
+--     o >> q          where o gives anything, q; a refusal leaves at once
 --     unless t n p    go on where the test t holds, else refused by n at p
 -- "Order: left to right, each number's form before its meaning" is the order of the lines of a `do` block.
 use Prim.Native.Nat.{ℕ}
@@ -12,7 +15,6 @@ pub data Outcome (A : Type 0) : Type 0 where
   given : A → Outcome A
   refused : ℕ → ℕ → Outcome A
 
--- a thing that was read, with the place just after it
 pub record Found (A : Type 0) : Type 0 where
   pub value : A
   pub next : ℕ

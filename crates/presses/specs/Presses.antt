@@ -1,9 +1,9 @@
 -- Pushing and releasing a button. Rule book, calls: "15, 14, 13, 11, 7, 12, 16, those that apply"; "a refused call
 -- returns the number, place 0 and the state it was given".
---     pressable b s n p         what stands against setting button n of board b in state s, where p says that it is so
---                               already: refusals 15, 14, 7, 12
---     pushing, releasing        the two calls
---     toldPress, toldPressed    the answer's cases in the rule book's numbers
+--     pressable b s n already     what stands against setting button n of board b in state s, where `already` says
+--                                 that it is so: refusals 15, 14, 7, 12
+--     pushing, releasing b s n    the two calls
+--     toldPress, toldPressed      the answer's cases in the rule book's numbers
 use Prim.Native.Nat.{ℕ}
 use mathlib.Core.Bool.{Bool, not}
 use lib.Dec.{ltb}

@@ -2,8 +2,8 @@
 -- with that word. A move: if the lent log is full the run is spent, otherwise the move is made and logged and the run
 -- looks again from 0. The log's length is the move allowance."
 --     noRelay          255
---     Run              the word, the log bytes of the moves made, the state, and "the relay that stopped it (255 for
---                      idle)"
+--     Run              the word, the log bytes of the moves made, the state, and "the relay that stopped it (255
+--                      for idle)"
 --     ends e s r       a run that makes no move: it ends in state s with the word e, stopped by relay r
 --     settle l s go    what a look in state s makes of the run; after a move it goes on by `go`
 --     logged c x       a run that first logs the byte c and then goes on as x

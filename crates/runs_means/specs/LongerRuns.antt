@@ -1,8 +1,8 @@
 -- Demand 3, second half, over the call `runs::run`, whatever it answers under its promise: "of two runs from one board
 -- and state the more generous one starts with every move of the other". Where the other ended idle or in conflict, it
 -- ends with that word, in that same state, after the same moves.
---     Runs b s log w a l     `run` was called on board b, state s and allowance w, was lent `log`, answered a and left
---                            the log as l
+--     Runs b s log w a l     `run` was called on board b, state s, the lent log `log` and allowance w, answered a and
+--                            left the log as l
 --     AcceptedRun b s log    the call is not refused
 --     movesOf a l            the moves made: the log's bytes up to their number
 --     IsStart xs ys          ys starts with xs

@@ -1,5 +1,7 @@
 -- Judging a winding by the chains. Rule book: "Live, with the first such chain shown, exactly if the winding is live
 -- and its effort is at most W. Dead exactly if it is dead and its effort is at most W. Undecided otherwise."
+--     Finding                     the rule book's three words: live, dead or undecided
+--     Verdict                     one of them or a refusal, the effort, and the chain shown as its length and places
 --     firstShown s cs             the first of the chains cs that passes the test s, if one does
 --     effort s cs                 "the number of chains up to and including the first such one; for a dead winding it
 --                                 is the number of all chains"
@@ -7,10 +9,10 @@
 --     settled e f                 live with effort e and the chain shown, or dead with effort e
 --     unsettled w                 undecided: "undecided reports W"
 --     weighed s cs w              the verdict by the chains cs within the allowance w
---     verdictBy near t v w        the verdict on winding v within the allowance w, by all chains of t terminals that
---                                 `near` joins
---     inSets t                    of t terminals those that the sets have: they are of 64, and of more only those are
---                                 looked at
+--     verdictBy near t v w        the verdict on winding v within the allowance w, by all chains of t terminals
+--                                 that `near` joins
+--     inSets t                    how many of t terminals the sets have: they are of 64, and of more terminals only
+--                                 those are looked at
 --     unanswered n p              "a refused judgement no verdict, effort 0 and length 0"
 --     toldFinding, toldVerdict    the answer's cases in the rule book's words and numbers
 use Prim.Native.Nat.{ℕ, suc, _-_}
@@ -28,7 +30,6 @@ use Rattle.search.specs.declared.Finding as code-finding
 use Rattle.search.specs.declared.Finding.the-variants.{Live, Dead, Undecided, Refused}
 use Rattle.search.specs.declared.Verdict as code-verdict
 
--- the rule book's three words
 pub data Finding : Type 0 where
   live dead undecided : Finding
 

@@ -1,15 +1,17 @@
 -- What the walk's own functions promise each other. No promise of a public call needs this page.
---     pathIn c places          the terminals of a chain on its way: the first of the lent places
+--     pathIn c ps              the terminals of a chain on its way: the first of the lent places ps
 --     marked s p               the set s with the terminals p as members besides
 --     carried v p              what the walk carries for the terminals p while it looks for winding v
---     Carries v c places       a chain on its way carries just that, has a place in the sets for its end, and room in
---                              the lent places
+--     Carries v c ps           a chain on its way carries just that, has a place in the sets for its end, and room in
+--                              the lent places ps
 --     atPlus, gone v c n       the chain of plus alone; the chain c gone on to the terminal n
---     scan s cs w              going through the chains cs with w of the allowance left: showing the first that passes
---                              the test s, showing none, each with what is left, or with the allowance spent first
+--     Scan                     what going through chains comes to: showing a chain, showing none, each with what is
+--                              left of the allowance, or the allowance spent first
+--     scan s cs w              going through the chains cs with w of the allowance left, to the first that passes the
+--                              test s
 --     entered near t v p w     scan of the chains from p on, p among them
 --     tried near t v p n w     scan of those that go on from p to a number from n up
---     toldWalked r places      what an answer says, with the chain found in the lent places
+--     toldWalked r ps          what an answer says, with the chain found in the lent places ps
 --     WalkComes r c ps qs o    the answer r of a walk from chain c comes to o; the lent places were ps and are qs, and
 --                              c's own are as they were
 --     concluded o w            the verdict that a scan with the allowance w comes to
@@ -58,8 +60,7 @@ gone v c n =
       length = c .length + 1;
       end = n;
       met = including (c .met) n;
-      beside = c .beside
-          || crosses (v .a) (v .b) (c .end) n;
+      beside = c .beside || crosses (v .a) (v .b) (c .end) n;
     }
 
 pub data Scan : Type 0 where
@@ -79,7 +80,8 @@ unfoldable pub tried : List ℕ → ℕ → Winding → List ℕ → ℕ → ℕ
 tried near t v p n w =
     scan (shows (v .a) (v .b))
     (tries (λ (m : ℕ). (p ++ (m ∷ [])) ∷ beyond (joined near) t (t - length p - 1) (p ++ (m ∷ [])) m)
-    (canFollow (joined near) p (ending p)) (t - n) n) w
+    (canFollow (joined near) p (ending p)) (t - n) n)
+    w
 
 abbrev pub toldWalked : Walked → List ℕ → Scan
 toldWalked r ps = told (r .found)

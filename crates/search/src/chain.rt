@@ -12,8 +12,8 @@ ghost use Rattle.search.specs.Walks.{atPlus, gone};
 // Terminal 0.
 const PLUS: u8 = 0;
 
-// How many terminals it has, the one it ends at, the set of them, and whether the winding's ends stand side by side in
-// it.
+// How many terminals it has, the one it ends at, the set of them, and whether the winding's ends stand in it side by
+// side.
 pub struct Chain {
     pub length: usize,
     pub end: u8,

@@ -46,8 +46,7 @@ fn next_member(set: u64, n: u8, terminals: u8) -> u8
 }
 
 // Enters the terminal at which the chain ends: counts the chain, looks whether it shows the winding, and goes on from
-// it.
-// The chain's terminals stand in the first of the lent places, and stay there.
+// it. The chain's terminals stand in the first of the lent places, and stay there.
 fn enter(
     near: &[u64; 64],
     terminals: u8,

@@ -4,8 +4,8 @@
 --     Handed                     the session to carry on, the answer, and the buffer afterwards
 --     writtenAnswer o            the answer where writing the line came to o; only for the inner function `answer_of`
 --     handedBy x out             what is handed out where x comes next
---     nextLine z s out           the call: 16 if the longest line has no room in the buffer, and then the session as
---                                given
+--     nextLine z s out           the call: 16 if the longest line has no room in the buffer, and then the session
+--                                as given
 --     toldHandOut, toldHanded    the answer's cases in these words and the rule book's numbers
 use Prim.Native.Nat.{ℕ}
 use mathlib.Core.Bool.{cond}

@@ -1,7 +1,7 @@
--- How many lines can come at most. Only for the loop of a program that asks for line after line: by this number it
--- ends.
---     toComeAt k n        at the stage k, where n bytes of the input are left
---     toCome z s          of the session z on the input s
+-- How many lines can come at most. Only for the loop of a program that asks for line after line: it ends by this
+-- number.
+--     toComeAt k n        how many at the stage k, where n bytes of the input are left
+--     toCome z s          how many of the session z on the input s
 --     Advances z s n r    where the answer r to a call on z hands out a line, the line fits a buffer of n bytes, and
 --                         less is to come after it
 use Prim.Native.Nat.{ℕ, suc, _-_, _<_, _≤_}

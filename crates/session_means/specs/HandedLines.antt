@@ -1,7 +1,7 @@
 -- The lines that are handed out one after the other are the session's lines, for every input.
 --     Begun s z                z is what `begin` answers on the input s
---     Called z s out r out′    `next_line` on the session z, the input s and the lent buffer `out` answers r and leaves
---                              out′
+--     Called z s out r out′    `next_line` was called on session z, input s and the lent buffer `out`, answered r and
+--                              left the buffer out′
 --     Hands s z t y            a call on z hands out the text t, and leaves the session y to carry on
 --     HandsOut s z ts z′       calls from z on hand out the texts ts, one after the other, and leave the session z′
 --     Tells ts r out′          r hands out the first of the texts ts; where there is none, it says so

@@ -6,10 +6,10 @@
 --     PrintsSum h e t l d u    the line l is what event e shows in state t, and leaves state u, which fits the board;
 --                              and its last number d is the sum over those of the board's relays that are drawn in u
 --     SumsFrom h e t ls        so it is of each event's line of ls: the first is event e's, in state t, and each later
---                              one is the next event's, in the state that the line before it leaves. A closing line is
---                              the last
---     LinesDrawn               so it is of the lines of every session whose board and allowance are read, from the
---                              fresh state
+--                              one is the next event's, in the state that the line before it leaves. A closing line
+--                              is the last
+--     LinesDrawn               so it is of the lines of every session whose board and allowance are read, from
+--                              the fresh state
 use Prim.Native.Nat.{ℕ, zero, suc}
 use mathlib.Core.Path.{_≡_}
 use mathlib.Core.Bool.{true}

@@ -35,8 +35,8 @@ impl WoundSoFar {
         }
     }
 
-    // Whether a part of this kind may come now (8): its relay does not have this winding yet, and is not of the other
-    // sort.
+    // Whether a part of this kind may come now (8): its relay does not have this winding yet, and is not of the
+    // other sort.
     pub fn free(self, kind: Kind) -> bool
         ensures { λ r. ⌜ r ≡ windingFree self kind ⌝ }
     {

@@ -1,4 +1,4 @@
--- `board::empty` meets its contract: its 256 places are the filler.
+-- `board::empty` meets its contract: its 256 places are blank.
 use borrow.Author.Needs.{needs}
 use Rattle.board.proofs.empty.Statement.{statement}
 use Rattle.board.proofs.empty.Tie as tie
