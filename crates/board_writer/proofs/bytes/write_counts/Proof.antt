@@ -30,8 +30,8 @@ after-relays r =
     number-put (r .before .before .wide2 .ensures .0) (after-terminals (r .before .before .before .before .before))
     (r .put2 .ensures)
 
-after-buttons : (b : tie.After-put3) →
-    let t = b .before .before .before .before .before .before .before .before .before .before in
+after-buttons : (b : tie.After-put3)
+    → let t = b .before .before .before .before .before .before .before .before .before .before in
     CountsToCome (counts t) (lent t) (b .put3 .last .1 .0) (b .put3 .result) (counts t .parts ∷ [])
 after-buttons b =
     number-put (b .before .before .wide3 .ensures .0) (after-relays (b .before .before .before .before .before))

@@ -95,8 +95,8 @@ module _ (t : ℕ) where
   -- ---- trying the next neighbour
 
   -- once the next number is known
-  trying : (c : try-next-lts.After-next-member try-next-calls try-next-at try-next.Post) →
-      let args = c .before .before .before .before .args in
+  trying : (c : try-next-lts.After-next-member try-next-calls try-next-at try-next.Post)
+      → let args = c .before .before .before .before .args in
       Trying (args .near .now) (args .terminals) (args .n) (args .winding) (args .chain) (args .places .now)
       (c .before .remaining .result) (c .next-member .result)
   trying c =
