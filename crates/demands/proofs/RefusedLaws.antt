@@ -61,18 +61,18 @@ weighed-given t cs w = by (leb (effort t cs) w)
     by true = settled-given (effort t cs) (firstShown t cs)
     by false = refl
 
-judged-given : (b : Board) (s : State) (w : ℕ) (v : Winding) → against (verdictOn b s (given v) w .finding) ≡ given tt
+verdict-given : (b : Board) (s : State) (w : ℕ) (v : Winding) → against (verdictOn b s (given v) w .finding) ≡ given tt
 unfolding verdictBy
-judged-given b s w v = weighed-given _ _ w
+verdict-given b s w v = weighed-given _ _ w
 
 module _ (b : Board) (s : State) (w : ℕ) where
   pub verdict-against : (o : Outcome Winding) → against (verdictOn b s o w .finding) ≡ against o
-  verdict-against (given v) = judged-given b s w v
+  verdict-against (given v) = verdict-given b s w v
   verdict-against (refused n p) = refl
 
   pub verdict-refused : (o : Outcome Winding) (n p : ℕ) → verdictOn b s o w .finding ≡ refused n p
       → verdictOn b s o w ≡ unanswered n p
-  verdict-refused (given v) n p e = absurd (refused-never n p tt (sym (ap against e) ∙ judged-given b s w v))
+  verdict-refused (given v) n p e = absurd (refused-never n p tt (sym (ap against e) ∙ verdict-given b s w v))
   verdict-refused (refused m q) n p e = λ i. record { finding = e i; effort = 0; length = 0; places = places [] }
 
   -- ---- running

@@ -44,7 +44,7 @@ use Rattle.lines.specs.Lines as lines
 use Rattle.session.specs.declared.Session.{Session}
 use Rattle.events.specs.Events as events
 use Rattle.session.specs.Carried as session
-use Rattle.session.specs.HandingOut as handing
+use Rattle.session.specs.HandingOut as handing-out
 
 abbrev pub itself : {A : Type 0} → A → A
 itself x = x
@@ -111,4 +111,4 @@ pub record OneAnswer : Type 0 where
   pub events-event-line : (b : Board) (e : ℕ) (s : State) (v w : ℕ) → One events.toldShown (events.eventLine b e s v w)
   pub session-begin : (s : List ℕ) → One session.toldSession (session.beginning s)
   pub session-next-line : (z : Session) (s out : List ℕ)
-      → OneLent handing.toldHanded (handing.nextLine (session.toldSession z) s out)
+      → OneLent handing-out.toldHanded (handing-out.nextLine (session.toldSession z) s out)

@@ -12,7 +12,7 @@
 --       reads s b o                 `read` of the bytes s: the board, and the place just after it or the refusal
 --       judges b s k w j            `judge` of winding k of relay 0 of board b in state s within the allowance w
 --       moves b s w t m             `move_relay` of relay 0: the word m, and the state t
---       runs b s w log e m t r l    `run` over the lent log: the word e, m moves, the state t, the relay r, and the
+--       runs b s log w e m t r l    `run` over the lent log: the word e, m moves, the state t, the relay r, and the
 --                                   log l afterwards
 --       prints s x                  a session and all that it prints
 --     RowHolds x                    the row's call comes to its answer
@@ -123,22 +123,22 @@ pub data Row : Type 0 where
   reads : List ℕ → Board → Outcome ℕ → Row
   judges : Board → State → Which → ℕ → Verdict → Row
   moves : Board → State → ℕ → State → step.Move → Row
-  runs : Board → State → ℕ → List ℕ → Ending → ℕ → State → ℕ → List ℕ → Row
+  runs : Board → State → List ℕ → ℕ → Ending → ℕ → State → ℕ → List ℕ → Row
   prints : List ℕ → List ℕ → Row
 
 abbrev pub RowHolds : Row → Type 0
 RowHolds (reads s b o) = reading s ≡ (b, o)
 RowHolds (judges b s k w j) = judging b s 0 k w ≡ j
 RowHolds (moves b s w t m) = moving b s 0 w ≡ (t, given m)
-RowHolds (runs b s w log e m t r l) =
+RowHolds (runs b s log w e m t r l) =
     running b s log w ≡ record { word = given e; moves = m; state = t; relay = r; log = l }
 RowHolds (prints s x) = sessionText s ≡ x
 
 abbrev pub starred : List Row
 starred =
     reads h0File h0 (given 4)
-    ∷ runs h0 freshState 100 (lent 2) idle 0 freshState noRelay (lent 2)
-    ∷ runs h0 freshState 100 [] idle 0 freshState noRelay []
+    ∷ runs h0 freshState (lent 2) 100 idle 0 freshState noRelay (lent 2)
+    ∷ runs h0 freshState [] 100 idle 0 freshState noRelay []
     ∷ reads [] emptyBoard (refused inputEnds 0)
     ∷ reads (1 ∷ 0 ∷ 0 ∷ 0 ∷ []) emptyBoard (refused outOfRange 0)
     ∷ reads (65 ∷ 0 ∷ 0 ∷ 0 ∷ []) emptyBoard (refused outOfRange 0)
@@ -147,8 +147,8 @@ starred =
     ∷ judges h1 pushed0 First 100 (liveWith 3 (0 ∷ 2 ∷ 1 ∷ []))
     ∷ judges h1 pushed0 First 2 (unsettled 2)
     ∷ prints h2Session h2Lines
-    ∷ runs h3 freshState 100 (lent 5) spent 5 (drawn0 freshState) 0 (128 ∷ 0 ∷ 128 ∷ 0 ∷ 128 ∷ [])
-    ∷ runs h3 freshState 100 [] spent 0 freshState 0 []
+    ∷ runs h3 freshState (lent 5) 100 spent 5 (drawn0 freshState) 0 (128 ∷ 0 ∷ 128 ∷ 0 ∷ 128 ∷ [])
+    ∷ runs h3 freshState [] 100 spent 0 freshState 0 []
     ∷ judges h4 freshState First 100 (deadWith 6)
     ∷ judges h4 freshState First 5 (unsettled 5)
     ∷ judges h4wired freshState First 100 (deadWith 7)
@@ -159,13 +159,13 @@ starred =
     ∷ moves h5 pushedBoth 4 pushedBoth step.undecided
     ∷ moves h5 pushed0 100 (drawn0 pushed0) step.drew
     ∷ moves h5 (drawn0 freshState) 100 (drawn0 freshState) step.rests
-    ∷ runs h5 pushedBoth 100 (lent 2) conflict 0 pushedBoth 0 (lent 2)
-    ∷ runs h5 pushedBoth 4 (lent 2) undecided 0 pushedBoth 0 (lent 2)
-    ∷ runs h5 pushed0 100 (lent 2) idle 1 (drawn0 pushed0) noRelay (128 ∷ 7 ∷ [])
-    ∷ runs h5 pushed0 100 (lent 1) idle 1 (drawn0 pushed0) noRelay (128 ∷ [])
-    ∷ runs h5 (withReleased (drawn0 pushed0) 0) 100 (lent 2) idle 0 (drawn0 freshState) noRelay (lent 2)
+    ∷ runs h5 pushedBoth (lent 2) 100 conflict 0 pushedBoth 0 (lent 2)
+    ∷ runs h5 pushedBoth (lent 2) 4 undecided 0 pushedBoth 0 (lent 2)
+    ∷ runs h5 pushed0 (lent 2) 100 idle 1 (drawn0 pushed0) noRelay (128 ∷ 7 ∷ [])
+    ∷ runs h5 pushed0 (lent 1) 100 idle 1 (drawn0 pushed0) noRelay (128 ∷ [])
+    ∷ runs h5 (withReleased (drawn0 pushed0) 0) (lent 2) 100 idle 0 (drawn0 freshState) noRelay (lent 2)
     ∷ judges h6 freshState First 100 (liveWith 3 (0 ∷ 2 ∷ 1 ∷ []))
-    ∷ runs pair freshState 100 (lent 3) idle 2 (withDrawn (drawn0 freshState) 1) noRelay (128 ∷ 129 ∷ 7 ∷ [])
+    ∷ runs pair freshState (lent 3) 100 idle 2 (withDrawn (drawn0 freshState) 1) noRelay (128 ∷ 129 ∷ 7 ∷ [])
     ∷ reads (128 ∷ 0 ∷ []) emptyBoard (refused badForm 0)
     ∷ reads (128 ∷ 128 ∷ []) emptyBoard (refused inputEnds 2)
     ∷ reads (128 ∷ 128 ∷ 128 ∷ []) emptyBoard (refused badForm 0)

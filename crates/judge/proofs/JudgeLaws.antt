@@ -43,10 +43,10 @@ module _ (b : Board) (s : State) (r : ℕ) (n : Which) where
   unfolding judging
   judging-by w o e = ap (λ (q : Outcome Winding). verdictOn b s q w) (sym e)
 
-  pub judging-judged : (w : ℕ) (v : Winding) (near : List ℕ) → boardFine b ≡ true → stateFine (b .counts) s ≡ true
+  pub judging-verdict : (w : ℕ) (v : Winding) (near : List ℕ) → boardFine b ≡ true → stateFine (b .counts) s ≡ true
       → windingOf n r (partsOf b) ≡ given v → near ≡ neighbours b s
       → verdictBy near (inSets (b .counts .terminals)) v w ≡ judging b s r n w
-  judging-judged w v near fine fits found same =
+  judging-verdict w v near fine fits found same =
       ap (λ (k : List ℕ). verdictBy k (inSets (b .counts .terminals)) v w) same
       ∙ sym (in-sets-all (neighbours b s) (b .counts .terminals) v w (fine-range b fine .most-terminals))
       ∙ judging-by w (given v) (winding-for-sought fine fits ∙ found)

@@ -25,7 +25,7 @@ use Rattle.judge.proofs.JudgeLaws.{judging-by}
 use Rattle.judge_means.specs.Exactness.{Judges}
 use Rattle.judge_means.specs.Allowances.{Settled, LargerAllowance, TurnsAtEffort, EffortSome}
 use Rattle.judge_means.proofs.Exactness.{liveVerdict, deadVerdict, FindingBy, live-by, dead-by, undecided-by}
-use Rattle.judge_means.proofs.Exactness.{judged-finding}
+use Rattle.judge_means.proofs.Exactness.{verdict-finding}
 
 -- ---- by a list of chains
 
@@ -94,7 +94,7 @@ call-turns b s r n w x v u told also settled = by-call (windingFor b s r n) refl
   where
     by-call : (o : Outcome Winding) → windingFor b s r n ≡ o → (v .effort ≤ w) × Turned x v u
     by-call (given e) taken =
-        settled-turns _ _ x u (judged-finding b s r n x e u also taken) w v (judged-finding b s r n w e v told taken)
+        settled-turns _ _ x u (verdict-finding b s r n x e u also taken) w v (verdict-finding b s r n w e v told taken)
         settled
     by-call (refused k p) off = absurd (refused-unsettled b s r n w v k p told off settled)
 

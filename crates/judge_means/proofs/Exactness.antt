@@ -105,11 +105,11 @@ weighed-finding t cs w v told =
         by-verdict (deadVerdict (effort t cs))
         (told ∙ weighed-within t cs w within ∙ ap (settled (effort t cs)) e) (dead-by within e)
 
-pub judged-finding : (b : Board) (s : State) (r : ℕ) (n : Which) (w : ℕ) (e : Winding) (v : Verdict)
+pub verdict-finding : (b : Board) (s : State) (r : ℕ) (n : Which) (w : ℕ) (e : Winding) (v : Verdict)
     → Judges b s r n w v → AcceptedWinding b s r n e
     → FindingBy (shows (e .a) (e .b)) (chainsOf b s) w v (v .finding)
 unfolding verdictBy
-judged-finding b s r n w e v told taken = weighed-finding _ _ w v (told ∙ sym (judging-by b s r n w (given e) taken))
+verdict-finding b s r n w e v told taken = weighed-finding _ _ w v (told ∙ sym (judging-by b s r n w (given e) taken))
 
 -- ---- live and listed are one
 
@@ -149,7 +149,7 @@ module _ (b : Board) (s : State) (r : ℕ) (n : Which) (w : ℕ) (e : Winding) (
   ComesTo f = FindingBy (shows (e .a) (e .b)) (chainsOf b s) w v f
 
   comes-to : ComesTo (v .finding)
-  comes-to = judged-finding b s r n w e v told taken
+  comes-to = verdict-finding b s r n w e v told taken
 
   comes-to-this : (f : Finding) → v .finding ≡ f → ComesTo f
   comes-to-this f h = subst ComesTo h comes-to

@@ -21,7 +21,7 @@ use Rattle.judge.specs.declared.Which.{Which}
 use Rattle.judge.specs.declared.Which.the-variants.{First, Second}
 use Rattle.judge.specs.RelayWindings.{windingOf}
 use Rattle.judge.specs.Judging.{judging}
-use Rattle.judge.proofs.JudgeLaws.{winding-for-sought, judging-by, judging-judged}
+use Rattle.judge.proofs.JudgeLaws.{winding-for-sought, judging-by, judging-verdict}
 use Rattle.moves.specs.Steps.{Move, drew, dropped, rests, undecided, conflict, moveBy, findingOn, stepBy, stepOf}
 use Rattle.moves.specs.Steps.{made}
 use Rattle.moves.proofs.MoveLaws.{move-larger}
@@ -34,10 +34,10 @@ module _ (near : List ℕ) (b : Board) (r : ℕ) (n : Which) (w : ℕ) where
   unfolding findingOn
   finding-missing k p e = rw e refl
 
-  pub finding-judged : (v : Winding) → windingOf n r (partsOf b) ≡ given v
+  pub finding-verdict : (v : Winding) → windingOf n r (partsOf b) ≡ given v
       → findingOn near b r n w ≡ verdict.verdictBy near (verdict.inSets (b .counts .terminals)) v w .finding
   unfolding findingOn
-  finding-judged v e = rw e refl
+  finding-verdict v e = rw e refl
 
 -- on a board and in a state that are not refused, the finding is that of the call `judge`
 pub finding-judging : (b : Board) (s : State) (r : ℕ) (n : Which) (w : ℕ) → boardFine b ≡ true
@@ -47,8 +47,8 @@ finding-judging b s r n w fine fits = by-sought (windingOf n r (partsOf b)) refl
     by-sought : (o : Outcome Winding) → windingOf n r (partsOf b) ≡ o → findingOn (neighbours b s) b r n w ≡ judging
         b s r n w .finding
     by-sought (given v) e =
-        finding-judged (neighbours b s) b r n w v e ∙ ap (λ (j : verdict.Verdict). j .finding)
-        (judging-judged b s r n w v (neighbours b s) fine fits e refl)
+        finding-verdict (neighbours b s) b r n w v e ∙ ap (λ (j : verdict.Verdict). j .finding)
+        (judging-verdict b s r n w v (neighbours b s) fine fits e refl)
     by-sought (refused k p) e =
         finding-missing (neighbours b s) b r n w k p e ∙ ap (λ (j : verdict.Verdict). j .finding)
         (judging-by b s r n w (refused k p) (winding-for-sought b s r n fine fits ∙ e))
@@ -62,7 +62,7 @@ finding-larger near b r n w x more = by-sought (windingOf n r (partsOf b)) refl
         → (findingOn near b r n w ≡ given verdict.undecided) ⊎ (findingOn near b r n x ≡ findingOn near b r n w)
     by-sought (refused k p) e = inr (finding-missing near b r n x k p e ∙ sym (finding-missing near b r n w k p e))
     by-sought (given v) e =
-        rw (finding-judged near b r n w v e, finding-judged near b r n x v e)
+        rw (finding-verdict near b r n w v e, finding-verdict near b r n x v e)
         (⊎-elim inl (λ same. inr (ap (λ (j : verdict.Verdict). j .finding) same))
         (verdict-by-larger near _ v w x more))
 

@@ -343,9 +343,9 @@ pub entered-left : (near : List ℕ) (t : ℕ) (v : Winding) (p : List ℕ) (w :
 unfolding entered
 entered-left near t v p w o e = subst (λ (o : Scan). LeftWithin o w) (sym e) (scan-left _ _ w)
 
-pub entered-judgement : (near : List ℕ) (t : ℕ) (v : Winding) (p : List ℕ) (w : ℕ) (o : Scan) → p ≡ plus ∷ []
+pub entered-verdict : (near : List ℕ) (t : ℕ) (v : Winding) (p : List ℕ) (w : ℕ) (o : Scan) → p ≡ plus ∷ []
     → o ≡ entered near t v p w → concluded o w ≡ verdictBy near t v w
 unfolding entered verdictBy chains
-entered-judgement near t v p w o alone e =
+entered-verdict near t v p w o alone e =
     ap (λ (o : Scan). concluded o w) (e ∙ ap (λ (q : List ℕ). entered near t v q w) alone)
     ∙ scan-weighed (shows (v .a) (v .b)) (chains (joined near) t) w

@@ -7,7 +7,7 @@ use mathlib.Core.Path.{sym, _∙_}
 use borrow.Author.Tests.{not-true, not-false}
 use Rattle.state.proofs.StateLaws.{usable-broken, usable-beyond}
 use Rattle.judge.proofs.SoughtLaws.{told-nowhere, told-between}
-use Rattle.judge.proofs.JudgeLaws.{winding-for-unusable, winding-for-sought, judging-by, judging-judged}
+use Rattle.judge.proofs.JudgeLaws.{winding-for-unusable, winding-for-sought, judging-by, judging-verdict}
 
 returns : tie.Need-returns
 returns c =
@@ -40,7 +40,7 @@ returns-4 c =
     let at-fits2 = at-if2 .before in
     let at-if1 = at-fits2 .before .before in
     let at-check = at-if1 .before in
-    c .search .ensures ∙ judging-judged _ _ _ _ _ _ _
+    c .search .ensures ∙ judging-verdict _ _ _ _ _ _ _
     (sym (at-check .check .ensures) ∙ not-false _ (at-if1 .if1 .left))
     (sym (at-fits2 .fits2 .ensures) ∙ not-false _ (at-if2 .if2 .left))
     (told-between _ _ _ (c .before .before .before .before .sought .given .1) (at-winding .winding .ensures))

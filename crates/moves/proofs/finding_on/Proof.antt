@@ -5,7 +5,7 @@ use Rattle.moves.proofs.finding_on.Tie as tie
 use mathlib.Core.Path.{sym, ap, _∙_}
 use Rattle.search.specs.Verdicts.{Verdict}
 use Rattle.judge.proofs.SoughtLaws.{told-nowhere, told-between}
-use Rattle.moves.proofs.StepLaws.{finding-missing, finding-judged}
+use Rattle.moves.proofs.StepLaws.{finding-missing, finding-verdict}
 
 returns : tie.Need-returns
 returns c =
@@ -16,7 +16,7 @@ returns-2 : tie.Need-returns-2
 returns-2 c =
     ap (λ (j : Verdict). j .finding) (c .search .ensures)
     ∙ sym
-    (finding-judged _ _ _ _ _ _ (told-between _ _ _ (c .before .before .sought .given .1)
+    (finding-verdict _ _ _ _ _ _ (told-between _ _ _ (c .before .before .sought .given .1)
     (c .before .before .before .before .winding .ensures)))
 
 pub finding-on-spec : {M : Type 1} → statement M

@@ -3,7 +3,7 @@ use borrow.Author.Needs.{needs}
 use Rattle.search.proofs.walk.from_plus.Statement.{statement}
 use Rattle.search.proofs.walk.from_plus.Tie as tie
 use mathlib.Core.Path.{refl, _∙_}
-use Rattle.search.proofs.WalkLaws.{begun-path, begun-carries, entered-left, entered-judgement}
+use Rattle.search.proofs.WalkLaws.{begun-path, begun-carries, entered-left, entered-verdict}
 
 enter-requires : tie.Need-enter-requires
 enter-requires c κs = (
@@ -17,7 +17,7 @@ verdict-requires c κs = (c .enter .ensures .short, entered-left _ _ _ _ _ _ (c 
 
 returns : tie.Need-returns
 returns c =
-    c .verdict .ensures ∙ entered-judgement _ _ _ _ _ _
+    c .verdict .ensures ∙ entered-verdict _ _ _ _ _ _
     (begun-path _ _ (c .before .before .before .at-plus .ensures) refl) (c .before .enter .ensures .told)
 
 pub from-plus-spec : {M : Type 1} → statement M
