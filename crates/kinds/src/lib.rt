@@ -48,10 +48,10 @@ impl Kind {
             Kind::Wire => 0,
             Kind::Upper(_) => 1,
             Kind::Lower(_) => 2,
-            Kind::Button(_) => 3,
-            Kind::Regular(_) => 4,
-            Kind::Drawing(_) => 5,
-            Kind::Dropping(_) => 6,
+            Kind::Button(_) => BUTTON_KIND,
+            Kind::Regular(_) => REGULAR_KIND,
+            Kind::Drawing(_) => DRAWING_KIND,
+            Kind::Dropping(_) => DROPPING_KIND,
         }
     }
 
