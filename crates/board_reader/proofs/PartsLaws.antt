@@ -23,18 +23,18 @@ use Rattle.board_reader.specs.declared.BoardRead.{BoardRead}
 use Rattle.number.specs.declared.Refusal.{Refusal}
 
 -- parts that were read before those of an outcome
-abbrev after : List Part → Outcome (Found (List Part)) → Outcome (Found (List Part))
-after ps (given f) = found (ps ++ f .value) (f .next)
-after ps (refused k p) = refused k p
+abbrev readAfter : List Part → Outcome (Found (List Part)) → Outcome (Found (List Part))
+readAfter ps (given f) = found (ps ++ f .value) (f .next)
+readAfter ps (refused k p) = refused k p
 
-after-none : (o : Outcome (Found (List Part))) → o ≡ after [] o
-after-none (given f) = refl
-after-none (refused k p) = refl
+read-after-none : (o : Outcome (Found (List Part))) → o ≡ readAfter [] o
+read-after-none (given f) = refl
+read-after-none (refused k p) = refl
 
-after-more : (ps : List Part) (p : Part) (o : Outcome (Found (List Part)))
-    → after ps (o >>= λ f. found (p ∷ f .value) (f .next)) ≡ after (ps ++ (p ∷ [])) o
-after-more ps p (given f) = ap (λ (l : List Part). found l (f .next)) (sym (append-assoc ps (p ∷ []) (f .value)))
-after-more ps p (refused k q) = refl
+read-after-more : (ps : List Part) (p : Part) (o : Outcome (Found (List Part)))
+    → readAfter ps (o >>= λ f. found (p ∷ f .value) (f .next)) ≡ readAfter (ps ++ (p ∷ [])) o
+read-after-more ps p (given f) = ap (λ (l : List Part). found l (f .next)) (sym (append-assoc ps (p ∷ []) (f .value)))
+read-after-more ps p (refused k q) = refl
 
 module _ (c : Counts) (n : ℕ) (w : WoundSoFar) (s : List ℕ) (at : ℕ) where
   parts-next : (p : Part) (next : ℕ) → partAt c w s at ≡ found p next
@@ -60,7 +60,7 @@ pub record Walk (c : Counts) (s : List ℕ) (start : ℕ) (parts : List Part) (w
   pub so-far : List Part
   pub counted : length so-far ≡ i
   pub array : parts ≡ padded so-far
-  pub rest : partsAt c (c .parts) noneWound s start ≡ after so-far (partsAt c (c .parts - i) w s at)
+  pub rest : partsAt c (c .parts) noneWound s start ≡ readAfter so-far (partsAt c (c .parts - i) w s at)
 
 pub walk-start : (c : Counts) (s : List ℕ) (start : ℕ) (p : Part) (w : WoundSoFar) → p ≡ blank → w ≡ noneWound
     → Walk c s start (replicate mostParts p) w start 0
@@ -71,7 +71,7 @@ walk-start c s start p w filler none =
       so-far = [];
       counted = refl;
       array = ap (replicate mostParts) filler;
-      rest = rw (whole, none) (after-none (partsAt c (c .parts) noneWound s start));
+      rest = rw (whole, none) (read-after-none (partsAt c (c .parts) noneWound s start));
     }
 
 module _ (c : Counts) (s : List ℕ) (start : ℕ) (parts : List Part) (w : WoundSoFar) (at i : ℕ)
@@ -89,33 +89,33 @@ module _ (c : Counts) (s : List ℕ) (start : ℕ) (parts : List Part) (w : Woun
             ap (λ (l : List Part). set l i p) (walk .array) ∙ ap (λ (n : ℕ). set (padded ps) n p) (sym long)
             ∙ padded-set ps p (omega arith);
         rest = walk .rest
-            ∙ ap (λ (n : ℕ). after ps (partsAt c n w s at)) one
-            ∙ ap (after ps) (parts-next c (c .parts - (i + 1)) w s at p next here)
-            ∙ after-more ps p (partsAt c (c .parts - (i + 1)) (gained w (p .kind)) s next)
-            ∙ ap (λ (v : WoundSoFar). after (ps ++ (p ∷ [])) (partsAt c (c .parts - (i + 1)) v s next)) (sym more);
+            ∙ ap (λ (n : ℕ). readAfter ps (partsAt c n w s at)) one
+            ∙ ap (readAfter ps) (parts-next c (c .parts - (i + 1)) w s at p next here)
+            ∙ read-after-more ps p (partsAt c (c .parts - (i + 1)) (gained w (p .kind)) s next)
+            ∙ ap (λ (v : WoundSoFar). readAfter (ps ++ (p ∷ [])) (partsAt c (c .parts - (i + 1)) v s next)) (sym more);
       }
 
   pub walk-refused : (k p : ℕ) → i < c .parts → partAt c w s at ≡ refused k p
       → partsAt c (c .parts) noneWound s start ≡ refused k p
   walk-refused k p below here =
       let one : c .parts - i ≡ suc (c .parts - (i + 1)) = omega arith in
-      walk .rest ∙ ap (λ (n : ℕ). after (walk .so-far) (partsAt c n w s at)) one
-      ∙ ap (after (walk .so-far)) (parts-stop c (c .parts - (i + 1)) w s at k p here)
+      walk .rest ∙ ap (λ (n : ℕ). readAfter (walk .so-far) (partsAt c n w s at)) one
+      ∙ ap (readAfter (walk .so-far)) (parts-stop c (c .parts - (i + 1)) w s at k p here)
 
   pub walk-lacking : c .parts ≤ i → complete (c .relays) w ≡ false
       → partsAt c (c .parts) noneWound s start ≡ refused windingLacking at
   walk-lacking past off =
       let none : c .parts - i ≡ 0 = omega arith in
-      walk .rest ∙ ap (λ (n : ℕ). after (walk .so-far) (partsAt c n w s at)) none
-      ∙ ap (after (walk .so-far)) (parts-lacking c w s at off)
+      walk .rest ∙ ap (λ (n : ℕ). readAfter (walk .so-far) (partsAt c n w s at)) none
+      ∙ ap (readAfter (walk .so-far)) (parts-lacking c w s at off)
 
   pub walk-end : c .parts ≤ i → complete (c .relays) w ≡ true → partsAt c (c .parts) noneWound s start ≡ found
       (walk .so-far) at
   walk-end past fine =
       let none : c .parts - i ≡ 0 = omega arith in
       walk .rest
-      ∙ ap (λ (n : ℕ). after (walk .so-far) (partsAt c n w s at)) none
-      ∙ ap (after (walk .so-far)) (parts-done c w s at fine)
+      ∙ ap (λ (n : ℕ). readAfter (walk .so-far) (partsAt c n w s at)) none
+      ∙ ap (readAfter (walk .so-far)) (parts-done c w s at fine)
       ∙ ap (λ (l : List Part). found l at) (append-nil (walk .so-far))
 
 -- what the answer beside a thing says of the outcome that both tell

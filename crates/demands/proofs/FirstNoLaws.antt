@@ -98,14 +98,15 @@ module _ (b : Board) (s : State) where
 -- ---- calls that test and then answer
 
 -- the lines ls stand against a call that answers x, and so came to `word x`; where that is a refusal, x is So
-pub record Stands {A R : Type 0} (word : R → Outcome A) (So : R → Type 0) (ls : List (Bool × ℕ)) (x : R) : Type 0 where
+pub record StandsAgainst {A R : Type 0} (word : R → Outcome A) (So : R → Type 0) (ls : List (Bool × ℕ))
+    (x : R) : Type 0 where
   pub first : against (word x) ≡ firstNo ls
   pub left : (n p : ℕ) → word x ≡ refused n p → So x
 
 -- one line before others: `done` is answered, or `refusal` where the test fails
 pub test-stands : {A R : Type 0} (word : R → Outcome A) (So : R → Type 0) (done refusal : R) (t : Bool) (m : ℕ)
-    (ls : List (Bool × ℕ)) → word refusal ≡ refused m 0 → So refusal → Stands word So ls done
-    → Stands word So ((t, m) ∷ ls) (cond t done refusal)
+    (ls : List (Bool × ℕ)) → word refusal ≡ refused m 0 → So refusal → StandsAgainst word So ls done
+    → StandsAgainst word So ((t, m) ∷ ls) (cond t done refusal)
 unfolding firstNo
 test-stands word So done refusal true m ls stops left so = record { first = so .first; left = so .left }
 test-stands word So done refusal false m ls stops left so = record { first = ap against stops; left = λ n p e. left }
@@ -113,7 +114,7 @@ test-stands word So done refusal false m ls stops left so = record { first = ap 
 -- ---- writing into a buffer: k bytes are written and it becomes l, unless a line stands against it
 
 abbrev pub WriteStands : List ℕ → List (Bool × ℕ) → Outcome ℕ × List ℕ → Type 0
-WriteStands out = Stands (λ x. x .0) (λ x. x .1 ≡ out)
+WriteStands out = StandsAgainst (λ x. x .0) (λ x. x .1 ≡ out)
 
 module _ (k : ℕ) (l out : List ℕ) where
   written : WriteStands out [] (given k, l)

@@ -25,7 +25,7 @@ use Rattle.lines.specs.Lines.{longestLine}
 use Rattle.session.specs.Carried.{Session, Coming, line, no-line, nextOf}
 use Rattle.session.specs.HandingOut.{Handed, handedBy, nextLine}
 use Rattle.demands.specs.EveryCallComesBack.{against, firstNo, lineLines}
-use Rattle.demands.proofs.FirstNoLaws.{Stands, test-stands}
+use Rattle.demands.proofs.FirstNoLaws.{StandsAgainst, test-stands}
 
 -- ---- what a call leaves beside what it came to
 module _ {A : Type 0} (s : State) (f : A → State) where
@@ -96,7 +96,8 @@ module _ (z : Session) (s out : List ℕ) where
   handed-given (y, line l) = refl
   handed-given (y, no-line) = refl
 
-  pub next-line-stands : Stands (λ (h : Handed). h .answer) (λ h. (h .session ≡ z) × (h .out ≡ out)) (lineLines out)
+  pub next-line-stands : StandsAgainst (λ (h : Handed). h .answer) (λ h. (h .session ≡ z) × (h .out ≡ out))
+      (lineLines out)
       (nextLine z s out)
   unfolding nextLine firstNo
   next-line-stands =

@@ -124,12 +124,12 @@ board-reads b s next places fine here =
     ap (λ (n : ℕ). partsAt (b .counts) n noneWound s mid) (sym counted) ∙ parts in
     rw (counts, all)
 
-pub record BoardRead (s : List ℕ) (b : Board) (next : ℕ) : Type 0 where
+pub record BoardIsFine (s : List ℕ) (b : Board) (next : ℕ) : Type 0 where
   pub fine : boardFine b ≡ true
   pub stands : Bytes s → StandsTo s 0 next (boardBytes b)
 
 board-made : (c : Counts) (s : List ℕ) (mid : ℕ) (ps : Found (List Part)) → CountsFound s c mid
-    → PartsRead c (c .parts) noneWound s mid ps → BoardRead s (boardOf c (ps .value)) (ps .next)
+    → PartsRead c (c .parts) noneWound s mid ps → BoardIsFine s (boardOf c (ps .value)) (ps .next)
 unfolding boardFine boardBytes
 board-made c s mid ps first rest =
     let same = padded-parts c (ps .value) (sym (rest .counted)) in
@@ -140,7 +140,7 @@ board-made c s mid ps first rest =
           (rest .stands bytes));
     }
 
-pub board-read : (s : List ℕ) → Gives (λ (b : Found Board). BoardRead s (b .value) (b .next)) (boardAt s)
+pub board-read : (s : List ℕ) → Gives (λ (b : Found Board). BoardIsFine s (b .value) (b .next)) (boardAt s)
 unfolding boardAt boardFrom
 board-read s =
     gives-after _ (countsAt s) _ (λ c counts.

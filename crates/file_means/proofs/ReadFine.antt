@@ -9,16 +9,16 @@ use Rattle.number.specs.Refusals.{inputTooLong}
 use Rattle.board.specs.declared.Board.{Board}
 use Rattle.board_reader.specs.Reading.{longestInput, boardAt, answered, reading}
 use Rattle.file_means.proofs.GivesLaws.{Gives, gives-unless}
-use Rattle.file_means.proofs.BoardTrip.{BoardRead, board-read}
+use Rattle.file_means.proofs.BoardTrip.{BoardIsFine, board-read}
 
 answer-read : (s : List ℕ) (o : Outcome (Found Board))
-    → Gives (λ (b : Found Board). BoardRead s (b .value) (b .next)) o → Gives (BoardRead s (answered o .0))
+    → Gives (λ (b : Found Board). BoardIsFine s (b .value) (b .next)) o → Gives (BoardIsFine s (answered o .0))
     (answered o .1)
 unfolding answered
 answer-read s (given b) was = was
 answer-read s (refused n p) was = tt
 
-pub read-fine : (s : List ℕ) → Gives (BoardRead s (reading s .0)) (reading s .1)
+pub read-fine : (s : List ℕ) → Gives (BoardIsFine s (reading s .0)) (reading s .1)
 unfolding reading
 read-fine s =
     answer-read s _ (gives-unless _ (leb (length s) longestInput) inputTooLong 0 (boardAt s)

@@ -24,7 +24,7 @@ use Rattle.board_writer.proofs.FileLaws.{board-file-bound, WasWritten, writing-
 use Rattle.file_means.specs.RoundTrip.{WriteThenRead, ReadThenWrite}
 use Rattle.file_means.proofs.StandLaws.{StandsTo}
 use Rattle.file_means.proofs.GivesLaws.{Gives}
-use Rattle.file_means.proofs.BoardTrip.{board-reads, BoardRead}
+use Rattle.file_means.proofs.BoardTrip.{board-reads, BoardIsFine}
 use Rattle.file_means.proofs.ReadFine.{read-fine}
 
 -- bytes stand at the start of an input that begins with them
@@ -77,8 +77,8 @@ writes b out n fine long room =
 pub read-then-write : ReadThenWrite
 read-then-write s out out′ n r w bytes read told wrote =
     let b = r .board in
-    let was : BoardRead s b n =
-    subst (λ (a : Board × Outcome ℕ). Gives (BoardRead s (a .0)) (a .1))
+    let was : BoardIsFine s b n =
+    subst (λ (a : Board × Outcome ℕ). Gives (BoardIsFine s (a .0)) (a .1))
     (sym read ∙ ap (λ (o : Outcome ℕ). (b, o)) told) (read-fine s) in
     let long : n ≡ length (boardBytes b) = omega (arith, was .stands bytes .ends) in (
       was .fine,

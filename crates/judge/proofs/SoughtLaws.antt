@@ -36,11 +36,11 @@ carries-other j r k n number d = rw (ne-eqb (kindNumber k) j (λ e. d (number �
 
 -- ---- the winding among the parts
 
-abbrev pub ends : Part → Winding
-ends p = record { a = p .a; b = p .b }
+abbrev pub endsOf : Part → Winding
+endsOf p = record { a = p .a; b = p .b }
 
 pub winding-here : (w : Which) (r : ℕ) (p : Part) (ps : List Part) → isWinding w r (p .kind) ≡ true
-    → windingOf w r (p ∷ ps) ≡ given (ends p)
+    → windingOf w r (p ∷ ps) ≡ given (endsOf p)
 unfolding windingOf
 winding-here w r p ps e = rw e refl
 
@@ -59,14 +59,14 @@ pub winding-refused : (w : Which) (r : ℕ) (ps : List Part) (k q : ℕ) → win
 winding-refused w r [] k q e = winding-none w r
 winding-refused w r (p ∷ ps) k q e =
     by-test (isWinding w r (p .kind))
-    (λ on. absurd (refused-never k q (ends p) (sym e ∙ winding-here w r p ps on)))
+    (λ on. absurd (refused-never k q (endsOf p) (sym e ∙ winding-here w r p ps on)))
     (λ off. winding-past w r p ps off ∙ winding-refused w r ps k q (sym (winding-past w r p ps off) ∙ e))
 
 -- at place i of the first n parts of l, `all` is the winding among the parts from there on
 module _ (w : Which) (r : ℕ) (l : List Part) (n i : ℕ) (all : Outcome Winding)
     (here : all ≡ windingOf w r (drop i (take n l))) where
   pub sought-here : i < n → i < length l → isWinding w r (getD l i blank .kind) ≡ true
-      → given (ends (getD l i blank)) ≡ all
+      → given (endsOf (getD l i blank)) ≡ all
   sought-here below there e =
       sym (here ∙ ap (windingOf w r) (taken-from blank l n i below there) ∙ winding-here w r (getD l i blank)
       (drop (i + 1) (take n l)) e)

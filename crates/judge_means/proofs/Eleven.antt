@@ -27,7 +27,7 @@ use Rattle.search.specs.declared.Winding.{Winding}
 use Rattle.judge.specs.declared.Which.{Which}
 use Rattle.judge.specs.declared.Which.the-variants.{First, Second}
 use Rattle.judge.specs.RelayWindings.{isFirst, isWinding, windingOf}
-use Rattle.judge.proofs.SoughtLaws.{ends, winding-here, winding-past, winding-none}
+use Rattle.judge.proofs.SoughtLaws.{endsOf, winding-here, winding-past, winding-none}
 use Rattle.judge.proofs.JudgeLaws.{winding-for-sought, winding-for-given}
 use Rattle.judge_means.specs.Eleven.{ElevenExactly, TheWinding}
 use Rattle.lists.proofs.CountedLaws.{worth, counted, member-counted, counted-only}
@@ -124,7 +124,7 @@ module _ (n : Which) (r : ℕ) where
     part : Part
     among : part ∈ ps
     is-winding : its n r part ≡ true
-    found : windingOf n r ps ≡ given (ends part)
+    found : windingOf n r ps ≡ given (endsOf part)
 
   record Missing (ps : List Part) : Type 0 where
     missing : windingOf n r ps ≡ refused noSuchWinding 0
@@ -153,7 +153,7 @@ module _ (n : Which) (r : ℕ) where
 
   refused-none : (ps : List Part) → windingOf n r ps ≡ refused noSuchWinding 0 → these n r ps ≡ 0
   refused-none ps refusal =
-      ⊎-elim (λ f. absurd (refused-never noSuchWinding 0 (ends (f .part)) (sym refusal ∙ f .found))) (λ m. m .none)
+      ⊎-elim (λ f. absurd (refused-never noSuchWinding 0 (endsOf (f .part)) (sym refusal ∙ f .found))) (λ m. m .none)
       (sought ps)
 
   none-refused : (ps : List Part) → these n r ps ≡ 0 → windingOf n r ps ≡ refused noSuchWinding 0
@@ -203,7 +203,7 @@ pub the-winding : TheWinding
 the-winding b s r n e accepted =
     let answer = winding-for-given b s r n e accepted in
     let f = given-found n r (partsOf b) e (answer .1) in
-    let same = given-injective (ends (f .part)) e (sym (f .found) ∙ answer .1) in
+    let same = given-injective (endsOf (f .part)) e (sym (f .found) ∙ answer .1) in
     record {
       part = f .part;
       on-board = f .among;

@@ -15,7 +15,7 @@ use Rattle.state.specs.States.{freshState, stateFine}
 use Rattle.state.proofs.StateLaws.{fresh-fits}
 use Rattle.board_reader.specs.Reading.{reading}
 use Rattle.file_means.proofs.GivesLaws.{Gives, gives-then, gives-after, wanted-gives}
-use Rattle.file_means.proofs.BoardTrip.{BoardRead}
+use Rattle.file_means.proofs.BoardTrip.{BoardIsFine}
 use Rattle.file_means.proofs.ReadFine.{read-fine}
 use Rattle.lines.specs.Lines.{Line, closing}
 use Rattle.events.specs.Events.{Shown, eventAt, eventLine}
@@ -77,7 +77,7 @@ HeadFine h = boardFine (h .value .board) ≡ true
 pub head-fine : (s : List ℕ) → Gives HeadFine (headAt s)
 unfolding headAt withAllowance
 head-fine s =
-    gives-then (BoardRead s (reading s .0)) HeadFine (reading s .1) _ (read-fine s)
+    gives-then (BoardIsFine s (reading s .0)) HeadFine (reading s .1) _ (read-fine s)
     (λ at was. gives-after HeadFine (numberAt s at) _ (λ w read. was .fine))
 
 pub head-walk : (h : Found Head) (s : List ℕ) → HeadFine h → (Q : ℕ → State → List Line → Type 0)
