@@ -5,9 +5,8 @@
 --     AsTheModelSays    the demand: each field is a statement over the calls, put into words in the file that
 --                       defines it
 use Rattle.file_means.specs.RoundTrip.{WriteThenRead, ReadThenWrite}
-use Rattle.judge_means.specs.Circuits.{PathsAreChains}
-use Rattle.judge_means.specs.Exactness.{TheChains, LiveExactly, DeadExactly, UndecidedExactly, LiveShows, DeadCounts}
-use Rattle.judge_means.specs.Exactness.{UndecidedReports, AsPublished}
+use Rattle.judge_means.specs.Circuits.{PathsAreChains, LiveIsCarrying}
+use Rattle.judge_means.specs.Exactness.{Judges, AsPublished}
 use Rattle.judge_means.specs.Eleven.{TheWinding}
 use Rattle.moves_means.specs.SingleMoves.{MoveExactly}
 use Rattle.moves_means.specs.ByChains.{RegularByChains, SteelByChains}
@@ -17,19 +16,12 @@ use Rattle.session_means.specs.EventRefusals.{EventsRefused}
 use Rattle.session_means.specs.LinesDrawn.{LinesDrawn}
 
 pub record AsTheModelSays : Type 0 where
-  -- what a chain is, that the list of them is all of them in order, and that those to minus are the published
-  -- model's paths
-  pub chains : TheChains
+  -- the chains to minus are the published model's paths, and a winding is live exactly if it is current carrying
   pub paths : PathsAreChains
-  -- a winding is called live, dead or undecided exactly if it is so, and its first chain is shown
+  pub carrying : LiveIsCarrying
+  -- the winding judged is the relay's; it is called live or dead exactly by that current, within the allowance
   pub winding : TheWinding
-  pub live : LiveExactly
-  pub dead : DeadExactly
-  pub undecided : UndecidedExactly
-  pub shown : LiveShows
-  pub counted : DeadCounts
-  pub reported : UndecidedReports
-  pub current : AsPublished
+  pub current : AsPublished Judges
   -- a relay draws, drops, rests exactly if the chains through its windings say so, which is exactly by the
   -- published guards
   pub regular : RegularByChains

@@ -1,8 +1,8 @@
 -- What live, dead and undecided mean, stated of any judge, and proved of each that keeps the promise of the call
--- `judge::judge`. Demand 3: "Number the chains from plus in the order of our rule book. A winding is called live exactly
--- when the first chain that shows it lies within the allowance, dead exactly when there is none and all chains lie
--- within it, otherwise undecided." Rule book: "Live, with the first such chain shown, exactly if the winding is live
--- and its effort is at most W. Dead exactly if it is dead and its effort is at most W. Undecided otherwise."
+-- `judge::judge`. Demand 3: "Number the chains from plus in the order of our rule book. A winding is called live
+-- exactly when the first chain that shows it lies within the allowance, dead exactly when there is none and all chains
+-- lie within it, otherwise undecided." Rule book: "Live, with the first such chain shown, exactly if the winding is
+-- live and its effort is at most W. Dead exactly if it is dead and its effort is at most W. Undecided otherwise."
 --     Judges b s r n w v           `judge` was called on board b, state s, winding n of relay r and allowance w,
 --                                  and answered v
 --     Judge                        which verdicts a judge can answer on a board, a state, a winding of a relay and an

@@ -33,7 +33,7 @@ use Rattle.judge.specs.Judging.{windingFor, judging}
 use Rattle.judge.proofs.SoughtLaws.{winding-refused}
 use Rattle.judge.proofs.JudgeLaws.{winding-for-sought, judging-by}
 use Rattle.judge_means.specs.Exactness.{Judges, AcceptedWinding, chainsOf, effortOf}
-use Rattle.judge_means.proofs.Exactness.{liveVerdict, deadVerdict, as-published}
+use Rattle.judge_means.proofs.Exactness.{liveVerdict, deadVerdict, judges-keep, as-published}
 use Rattle.judge_means.proofs.Eleven.{eleven-exactly, the-winding}
 use Rattle.moves_means.specs.Guards.{CurrentThrough}
 use Rattle.moves_means.specs.SingleMoves.{NeedsMore}
@@ -99,7 +99,7 @@ module _ (b : Board) (w : ℕ) (s : State) (r : ℕ) (n : Which) (e : Winding)
             says = (
               found-within enough,
               carries-through b s r n e (the-winding b s r n e taken)
-                  (as-published b s r n w e (liveVerdict (effortOf b s e) c) told taken .0 refl),
+                  (as-published _ judges-keep b s r n w e (liveVerdict (effortOf b s e) c) told taken .0 .0 refl .0),
             );
           }
       by-first none first enough =
@@ -109,8 +109,8 @@ module _ (b : Board) (w : ℕ) (s : State) (r : ℕ) (n : Which) (e : Winding)
             judged = ap (λ (j : Verdict). j .finding) (sym told);
             says = (
               found-within enough,
-              λ current. as-published b s r n w e (deadVerdict (effortOf b s e)) told
-                  taken .1 refl (through-carries b s r n e (the-winding b s r n e taken) current),
+              λ current. as-published _ judges-keep b s r n w e (deadVerdict (effortOf b s e)) told
+                  taken .1 .0 refl .0 (through-carries b s r n e (the-winding b s r n e taken) current),
             );
           }
 
