@@ -5,7 +5,7 @@
 -- 2) is all that `read_number` refuses, and its definition says when.
 --     against o                   what stands against a call that came to o: its refusal, or nothing
 --     firstNo ls                  the first of these lines whose test fails, by its number at place 0, or nothing
---     isGiven o                   whether o is given
+--     isThere o                   whether o is something, and not none
 --     numberLines .. lineLines    "Calls: 15, 14, 13, 11, 7, 12, 16, those that apply": the lines of each call in that
 --                                 order, each a test that must hold and the number for no; `usableLines` are the two
 --                                 that every call on a board and a state has first
@@ -21,6 +21,7 @@ use Prim.Native.Nat.{ℕ, _+_}
 use mathlib.Core.Path.{_≡_}
 use mathlib.Core.Bool.{Bool, true, false, not, cond}
 use mathlib.Core.List.{List, [], _∷_}
+use mathlib.Core.Option.{Option, none, some}
 use lib.Dec.{ltb, leb}
 use lib.ListN.{length}
 use Rattle.number.specs.Outcomes.{Outcome, given, refused}
@@ -71,9 +72,9 @@ unfoldable pub firstNo : List (Bool × ℕ) → Outcome (Unit {0})
 firstNo [] = given tt
 firstNo ((t, n) ∷ ls) = cond t (firstNo ls) (refused n 0)
 
-abbrev pub isGiven : {A : Type 0} → Outcome A → Bool
-isGiven (given a) = true
-isGiven (refused n p) = false
+abbrev pub isThere : {A : Type 0} → Option A → Bool
+isThere (some a) = true
+isThere none = false
 
 -- a number too large to write is too long for a file
 abbrev pub numberLines : ℕ → List ℕ → ℕ → List (Bool × ℕ)
@@ -89,7 +90,7 @@ abbrev pub runLines : Board → State → List ℕ → List (Bool × ℕ)
 runLines b s log = usableLines b s ((leb (length log) longestLog, logTooLong) ∷ [])
 
 abbrev pub judgeLines : Board → State → ℕ → Which → List (Bool × ℕ)
-judgeLines b s r k = usableLines b s ((isGiven (windingOf k r (partsOf b)), noSuchWinding) ∷ [])
+judgeLines b s r k = usableLines b s ((isThere (windingOf k r (partsOf b)), noSuchWinding) ∷ [])
 
 abbrev pub moveLines : Board → State → ℕ → List (Bool × ℕ)
 moveLines b s r = usableLines b s ((ltb r (b .counts .relays), noSuchWinding) ∷ [])

@@ -13,12 +13,12 @@ use Rattle.neighbours.specs.Neighbours.{neighbours}
 use Rattle.search.specs.declared.Winding.{Winding}
 use Rattle.search.specs.Verdicts.{Verdict, verdictBy, unanswered}
 use Rattle.judge.specs.declared.Which.{Which}
-use Rattle.judge.specs.RelayWindings.{windingOf}
+use Rattle.judge.specs.RelayWindings.{windingOf, orNoSuchWinding}
 
 unfoldable pub windingFor : Board → State → ℕ → Which → Outcome Winding
 windingFor b s r n = do
   usable b s
-  windingOf n r (partsOf b)
+  orNoSuchWinding (windingOf n r (partsOf b))
 
 abbrev pub verdictOn : Board → State → Outcome Winding → ℕ → Verdict
 verdictOn b s (given v) w = verdictBy (neighbours b s) (b .counts .terminals) v w

@@ -64,7 +64,7 @@ fn is_winding(kind: Kind, relay: u32, which: Which) -> bool
     }
 }
 
-// The ends of that winding of this relay (11 where there is none).
+// The ends of that winding of this relay, or that there is none.
 pub fn winding(board: Board, relay: u32, which: Which) -> Sought
     ensures { λ r. ⌜ toldSought r ≡ windingOf which relay (partsOf board) ⌝ }
 {

@@ -12,7 +12,7 @@
 --     moveBy d x y              a relay by its first and its second winding: with a second one it is steel, else
 --                               regular; what the board lacks rests
 --     findingOn near b r n w    winding n of relay r of board b, judged by the sets of neighbours `near` within
---                               the allowance w
+--                               the allowance w; refused by 11 where there is none
 --     stepBy near b d r w       what relay r does, drawn if d
 --     stepOf b s r w            what relay r of board b does in state s, within the allowance w. Runs know it by
 --                               its laws alone
@@ -31,7 +31,7 @@ use Rattle.neighbours.specs.Neighbours.{neighbours}
 use Rattle.search.specs.Verdicts as verdict
 use Rattle.judge.specs.declared.Which.{Which}
 use Rattle.judge.specs.declared.Which.the-variants.{First, Second}
-use Rattle.judge.specs.RelayWindings.{windingOf}
+use Rattle.judge.specs.RelayWindings.{windingOf, orNoSuchWinding}
 use Rattle.moves.specs.declared.Move as code-move
 use Rattle.moves.specs.declared.Move.the-variants as said
 
@@ -74,7 +74,8 @@ moveBy d x y = cond (isMissing x) rests (cond (isMissing y) (regularMove d x) (s
 
 unfoldable pub findingOn : List ℕ → Board → ℕ → Which → ℕ → Outcome verdict.Finding
 findingOn near b r n w =
-    windingOf n r (partsOf b) >>= λ v. verdict.verdictBy near (verdict.inSets (b .counts .terminals)) v w .finding
+    orNoSuchWinding (windingOf n r (partsOf b))
+    >>= λ v. verdict.verdictBy near (verdict.inSets (b .counts .terminals)) v w .finding
 
 unfoldable pub stepBy : List ℕ → Board → Bool → ℕ → ℕ → Move
 stepBy near b d r w = moveBy d (findingOn near b r First w) (findingOn near b r Second w)

@@ -11,6 +11,7 @@ use Prim.Native.Nat.{ℕ, _<_}
 use mathlib.Core.Path.{_≡_}
 use mathlib.Core.Logic.{_↔_}
 use mathlib.Core.Bool.{true}
+use mathlib.Core.Option.{some}
 use Rattle.number.specs.Outcomes.{given}
 use Rattle.board.specs.declared.Board.{Board}
 use Rattle.board.specs.Parts.{partsOf}
@@ -29,7 +30,7 @@ use Rattle.moves_means.specs.Guards.{CanDraw, CanDrop, BothCurrents}
 pub record NeedsMore (b : Board) (s : State) (r w : ℕ) : Type 0 where
   pub which : Which
   pub winding : Winding
-  pub its-winding : windingOf which r (partsOf b) ≡ given winding
+  pub its-winding : windingOf which r (partsOf b) ≡ some winding
   pub more : w < effortOf b s winding
 
 abbrev pub Comes : Board → State → ℕ → Move → ℕ → Type 0
