@@ -7,12 +7,15 @@
 --     Moves b s r w a      `move_relay` was called on board b, state s, relay r and allowance w, and answered a
 --     MoveExactly          the call's word is m exactly if `Comes` holds of m, and the state is changed by drew and
 --                          dropped alone, and only in that relay
-use Prim.Native.Nat.{ℕ, _<_}
+--     MoveElevenExactly    the call refuses by 11, "no such relay", exactly if neither 15 nor 14 holds and the board
+--                          has no relay r
+use Prim.Native.Nat.{ℕ, _<_, _≤_}
 use mathlib.Core.Path.{_≡_}
 use mathlib.Core.Logic.{_↔_}
 use mathlib.Core.Bool.{true}
 use mathlib.Core.Option.{some}
-use Rattle.number.specs.Outcomes.{given}
+use Rattle.number.specs.Outcomes.{given, refused}
+use Rattle.number.specs.Refusals.{noSuchWinding}
 use Rattle.board.specs.declared.Board.{Board}
 use Rattle.board.specs.Parts.{partsOf}
 use Rattle.board.specs.Rules.{boardFine}
@@ -58,3 +61,10 @@ MoveExactly =
     → movable b s r ≡ given tt
     → (toldMoveAnswer (a .answer) ≡ given m ↔ Comes b s r m w)
     × (toldMoveAnswer (a .answer) ≡ given m → a .state ≡ made s r m)
+
+abbrev pub MoveElevenExactly : Type 0
+MoveElevenExactly =
+    (b : Board) (s : State) (r w : ℕ) (a : Moved)
+    → Moves b s r w a
+    → toldMoveAnswer (a .answer) ≡ refused noSuchWinding 0
+    ↔ (boardFine b ≡ true) × (stateFine (b .counts) s ≡ true) × (b .counts .relays ≤ r)
