@@ -4,9 +4,11 @@
 --     isWinding n r k              kind k is that winding of relay r
 --     windingOf n r ps             the ends of that winding of relay r among the parts ps; 11 where there is none
 --     toldSought                   the answer's cases in the rule book's numbers
+--     SeeksWinding b r n x         promise: `winding` n of relay r of board b answers x
 -- `judge_means` shows that on a board that breaks no rule 11 is given exactly if its line holds, and that the winding
 -- is the only one.
 use Prim.Native.Nat.{ℕ}
+use mathlib.Core.Path.{_≡_}
 use mathlib.Core.Bool.{Bool, cond, _||_}
 use mathlib.Core.List.{List, [], _∷_}
 use Rattle.number.specs.Outcomes.{Outcome, given, refused}
@@ -14,6 +16,8 @@ use Rattle.number.specs.Refusals.{noSuchWinding}
 use Rattle.kinds.specs.declared.Kind.{Kind}
 use Rattle.kinds.specs.Kinds.{regularKind, drawingKind, droppingKind}
 use Rattle.board.specs.declared.Part.{Part}
+use Rattle.board.specs.declared.Board.{Board}
+use Rattle.board.specs.Parts.{partsOf}
 use Rattle.board.specs.Sorts.{carries}
 use Rattle.search.specs.declared.Winding.{Winding}
 use Rattle.judge.specs.declared.Which.{Which}
@@ -38,3 +42,6 @@ windingOf n r (p ∷ ps) = cond (isWinding n r (p .kind)) (given (record { a = p
 abbrev pub toldSought : Sought → Outcome Winding
 toldSought (Between v) = given v
 toldSought Nowhere = refused noSuchWinding 0
+
+abbrev pub SeeksWinding : Board → ℕ → Which → Sought → Type 0
+SeeksWinding b r n x = toldSought x ≡ windingOf n r (partsOf b)
