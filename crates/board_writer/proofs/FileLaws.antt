@@ -8,7 +8,8 @@ use borrow.Author.Tests.{ltb-true, leb-true, leb-false}
 use lib.Dec.{eqb, ltb, leb}
 use lib.ListN.{length, take, drop, length-append, length-take}
 use lib.Seq.{take-all}
-use Rattle.number.proofs.OutcomeLaws.{refusal-equal, given-injective, refused-never}
+use Rattle.number.proofs.OutcomeLaws.{given-injective, refused-never}
+use Rattle.number.proofs.Told.{Told}
 use Rattle.number.specs.Outcomes.{Outcome, given, refused}
 use Rattle.number.specs.Refusals.{brokenBoard, bufferTooShort}
 use Rattle.number.specs.Numbers.{numberBytes}
@@ -211,9 +212,18 @@ write-bytes b out out′ (Bytes n) wrote =
     was .begins ∙ ap (λ (l : List ℕ). l ++ drop n out) (sym (take-all n (boardBytes b) (omega (arith, was .count))))
 write-bytes b out out′ (Refused r) wrote = writing-refused b out (r .number) (r .place) out′ (sym wrote) .0
 
--- an answer is known by what it tells
-pub told-written-injective : (x y : Written) → toldWritten x ≡ toldWritten y → x ≡ y
-told-written-injective (Bytes n) (Bytes m) e = cc
-told-written-injective (Bytes n) (Refused q) e = cc
-told-written-injective (Refused r) (Bytes m) e = cc
-told-written-injective (Refused r) (Refused q) e = ap Refused (refusal-equal r q (cc) (cc))
+-- answers and what they tell
+pub written-told : Told toldWritten
+written-told = record { untold = untold; back = back; onto = onto }
+  where
+    untold : Outcome ℕ → Written
+    untold (given n) = Bytes n
+    untold (refused n p) = Refused (record { number = n; place = p })
+
+    back : (x : Written) → untold (toldWritten x) ≡ x
+    back (Bytes n) = refl
+    back (Refused r) = refl
+
+    onto : (y : Outcome ℕ) → toldWritten (untold y) ≡ y
+    onto (given n) = refl
+    onto (refused n p) = refl

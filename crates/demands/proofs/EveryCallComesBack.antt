@@ -20,7 +20,8 @@ use Rattle.judge_means.proofs.Eleven.{eleven-exactly}
 use Rattle.lines.specs.Lines.{toldLine}
 use Rattle.session.specs.Carried.{toldSession}
 use Rattle.session.specs.HandingOut.{Handed}
-use Rattle.session.proofs.ToldLaws.{told-session-injective}
+use Rattle.number.proofs.Told.{told-injective}
+use Rattle.session.proofs.ToldLaws.{session-told}
 use Rattle.demands.specs.EveryCallComesBack.{against, InOrder, AsLent, EveryCallComesBack}
 use Rattle.demands.proofs.FirstNoLaws.{runnable-first, movable-first, pressable-first, release-first}
 use Rattle.demands.proofs.FirstNoLaws.{winding-for-first, writing-stands, number-writing-stands}
@@ -104,7 +105,7 @@ as-lent = record {
   hands = λ z s out out′ r n p called told.
       let kept =
       next-line-stands (toldSession z) s out .left n p (sym (ap (λ (h : Handed). h .answer) called) ∙ told) in (
-        told-session-injective (r .session) z (ap (λ (h : Handed). h .session) called ∙ kept .0),
+        told-injective toldSession session-told (r .session) z (ap (λ (h : Handed). h .session) called ∙ kept .0),
         ap (λ (h : Handed). h .out) called ∙ kept .1,
       );
 }

@@ -1,6 +1,6 @@
 -- Each promise allows one answer only: an answer that is told as it is, by `one-itself`; one that is told by a
 -- definition, by `one-told`, because no two answers are told alike; one that leaves something in a lent log or buffer,
--- by `one-lent`.
+-- by `one-lent`, and where what is told stands beside the buffer, by `one-written`.
 use Prim.Native.Nat.{ℕ}
 use mathlib.Core.Path.{_≡_, sym, ap, _∙_}
 use mathlib.Core.List.{List}
@@ -16,25 +16,26 @@ use Rattle.runs.proofs.RunningLaws.{told-ran-injective}
 use Rattle.lines.proofs.ToldLaws.{told-line-written-injective}
 use Rattle.events.proofs.ToldLaws.{told-shown-injective}
 use Rattle.session.proofs.ToldLaws.{told-session-injective, told-handed-injective}
-use Rattle.demands.specs.OneAnswer.{itself, One, OneLent, withBuffer, OneAnswer}
+use Rattle.demands.specs.OneAnswer.{One, OneLent, OneAnswer}
 
-one-itself : {A : Type 0} (a : A) → One itself a
+one-itself : {A : Type 0} (a : A) → One (λ (x : A). x ≡ a)
 one-itself a x y e f = e ∙ sym f
 
-one-told : {A R : Type 0} (told : R → A) → ((x y : R) → told x ≡ told y → x ≡ y) → (a : A) → One told a
+one-told : {A R : Type 0} (told : R → A) → ((x y : R) → told x ≡ told y → x ≡ y) → (a : A) → One (λ x. told x ≡ a)
 one-told told injective a x y e f = injective x y (e ∙ sym f)
 
 one-lent : {A R : Type 0} (told : R → List ℕ → A)
     → ((x y : R) (k l : List ℕ) → told x k ≡ told y l → (x ≡ y) × (k ≡ l))
     → (a : A)
-    → OneLent told a
+    → OneLent (λ x k. told x k ≡ a)
 one-lent told injective a x y k l e f = injective x y k l (e ∙ sym f)
 
--- no two answers with their buffers are told alike, where no two answers are
-buffer-injective : {R : Type 0} (told : R → Outcome ℕ) → ((x y : R) → told x ≡ told y → x ≡ y)
-    → (x y : R) (k l : List ℕ) → withBuffer told x k ≡ withBuffer told y l → (x ≡ y) × (k ≡ l)
-buffer-injective told injective x y k l e =
-    (injective x y (ap (λ (p : Outcome ℕ × List ℕ). p .0) e), ap (λ (p : Outcome ℕ × List ℕ). p .1) e)
+-- an answer beside its buffer
+one-written : {R : Type 0} (told : R → Outcome ℕ) → ((x y : R) → told x ≡ told y → x ≡ y) → (a : Outcome ℕ × List ℕ)
+    → OneLent (λ x k. _≡_ {A = Outcome ℕ × List ℕ} (told x, k) a)
+one-written told injective a x y k l e f =
+    (injective x y (ap (λ (p : Outcome ℕ × List ℕ). p .0) (e ∙ sym f)),
+    ap (λ (p : Outcome ℕ × List ℕ). p .1) (e ∙ sym f))
 
 pub one-answer : OneAnswer
 one-answer = record {
@@ -47,7 +48,7 @@ one-answer = record {
   bits-wide = λ x p q e f. one-itself x p q (e .0) (f .0);
   number-read-number = λ s at. one-told _ told-number-injective _;
   number-number-length = λ v. one-itself _;
-  number-write-number = λ v out at. one-lent _ (buffer-injective _ told-number-written-injective) _;
+  number-write-number = λ v out at. one-written _ told-number-written-injective _;
   kinds-of = λ k n. one-itself _;
   kinds-number = λ k. one-itself _;
   kinds-name = λ k. one-itself _;
@@ -69,7 +70,7 @@ one-answer = record {
   presses-push = λ b s n. one-told _ told-pressed-injective _;
   presses-release = λ b s n. one-told _ told-pressed-injective _;
   board-reader-read = λ s. one-told _ told-board-read-injective _;
-  board-writer-write = λ b out. one-lent _ (buffer-injective _ told-written-injective) _;
+  board-writer-write = λ b out. one-written _ told-written-injective _;
   neighbours-conducts = λ k s. one-itself _;
   neighbours-neighbours = λ b s. one-itself _;
   search-search = λ near t v w. one-told _ told-verdict-injective _;
@@ -79,7 +80,7 @@ one-answer = record {
   moves-after = λ s r m. one-itself _;
   moves-move-relay = λ b s r w. one-told _ told-moved-injective _;
   runs-run = λ b s log w. one-lent _ told-ran-injective _;
-  lines-write-line = λ l out. one-lent _ (buffer-injective _ told-line-written-injective) _;
+  lines-write-line = λ l out. one-written _ told-line-written-injective _;
   events-run-line = λ b e s w. one-told _ told-shown-injective _;
   events-event-line = λ b e s v w. one-told _ told-shown-injective _;
   session-begin = λ s. one-told _ told-session-injective _;

@@ -5,9 +5,11 @@
 --     windingOf n r ps             the ends of that winding of relay r among the parts ps, if it is there
 --     orNoSuchWinding o            the winding o of which a call asks; where there is none, 11
 --     toldSought                   the answer's cases as windings, or none
+--     SeeksWinding b r n x         promise: `winding` n of relay r of board b answers x
 -- `judge_means` shows that on a board that breaks no rule 11 is given exactly if its line holds, and that the winding
 -- is the only one.
 use Prim.Native.Nat.{ℕ}
+use mathlib.Core.Path.{_≡_}
 use mathlib.Core.Bool.{Bool, cond, _||_}
 use mathlib.Core.List.{List, [], _∷_}
 use mathlib.Core.Option.{Option, none, some}
@@ -16,6 +18,8 @@ use Rattle.number.specs.Refusals.{noSuchWinding}
 use Rattle.kinds.specs.declared.Kind.{Kind}
 use Rattle.kinds.specs.Kinds.{regularKind, drawingKind, droppingKind}
 use Rattle.board.specs.declared.Part.{Part}
+use Rattle.board.specs.declared.Board.{Board}
+use Rattle.board.specs.Parts.{partsOf}
 use Rattle.board.specs.Sorts.{carries}
 use Rattle.search.specs.declared.Winding.{Winding}
 use Rattle.judge.specs.declared.Which.{Which}
@@ -44,3 +48,6 @@ orNoSuchWinding none = refused noSuchWinding 0
 abbrev pub toldSought : Sought → Option Winding
 toldSought (Between v) = some v
 toldSought Nowhere = none
+
+abbrev pub SeeksWinding : Board → ℕ → Which → Sought → Type 0
+SeeksWinding b r n x = toldSought x ≡ windingOf n r (partsOf b)
