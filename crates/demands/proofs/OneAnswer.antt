@@ -33,9 +33,10 @@ one-lent told injective a x y k l e f = injective x y k l (e ∙ sym f)
 -- an answer beside its buffer
 one-written : {R : Type 0} (told : R → Outcome ℕ) → ((x y : R) → told x ≡ told y → x ≡ y) → (a : Outcome ℕ × List ℕ)
     → OneLent (λ x k. _≡_ {A = Outcome ℕ × List ℕ} (told x, k) a)
-one-written told injective a x y k l e f =
-    (injective x y (ap (λ (p : Outcome ℕ × List ℕ). p .0) (e ∙ sym f)),
-    ap (λ (p : Outcome ℕ × List ℕ). p .1) (e ∙ sym f))
+one-written told injective a x y k l e f = (
+  injective x y (ap (λ (p : Outcome ℕ × List ℕ). p .0) (e ∙ sym f)),
+  ap (λ (p : Outcome ℕ × List ℕ). p .1) (e ∙ sym f),
+)
 
 pub one-answer : OneAnswer
 one-answer = record {

@@ -5,13 +5,14 @@ use mathlib.Core.Path.{_≡_, refl, sym, ap, _∙_}
 use mathlib.Core.Logic.{_⊎_, ⊎-elim}
 use mathlib.Core.Bool.{true, false}
 use mathlib.Core.List.{List, [], _∷_}
-use mathlib.Core.Option.{Option, none, some, Option·none-ne-some, Option·some-injective}
+use mathlib.Core.Option.{Option, none, some}
 use lib.Dec.{eqb}
 use lib.ListN.{length, getD, take, drop}
 use borrow.Author.Tests.{eq-eqb, ne-eqb}
-use Rattle.number.specs.Outcomes.{given}
+use Rattle.number.specs.Outcomes.{given, refused}
 use Rattle.number.specs.Refusals.{noSuchWinding}
 use Rattle.number.proofs.OutcomeLaws.{refused-never, given-injective}
+use Rattle.number.proofs.Told.{Told}
 use Rattle.kinds.specs.declared.Kind.{Kind}
 use Rattle.kinds.specs.Kinds.{kindNumber, nameOf}
 use Rattle.board.specs.declared.Part.{Part}
@@ -53,10 +54,14 @@ pub winding-none : (w : Which) (r : ℕ) → windingOf w r [] ≡ none
 unfolding windingOf
 winding-none w r = refl
 
--- a winding that is asked for and given is there
+-- a winding that is asked for is there where it is given, and is not where it is refused
 pub asked-given : (o : Option Winding) (e : Winding) → orNoSuchWinding o ≡ given e → o ≡ some e
 asked-given (some v) e is = ap some (given-injective v e is)
 asked-given none e is = absurd (refused-never noSuchWinding 0 e is)
+
+pub asked-refused : (o : Option Winding) (k p : ℕ) → orNoSuchWinding o ≡ refused k p → o ≡ none
+asked-refused (some v) k p is = absurd (refused-never k p v (sym is))
+asked-refused none k p is = refl
 
 -- at place i of the first n parts of l, `all` is the winding among the parts from there on
 module _ (w : Which) (r : ℕ) (l : List Part) (n i : ℕ) (all : Option Winding)
@@ -77,13 +82,22 @@ module _ (w : Which) (r : ℕ) (l : List Part) (n i : ℕ) (all : Option Winding
   sought-end past =
       sym (here ∙ ap (windingOf w r) (⊎-elim (taken-past blank l n i) (taken-full blank l n i) past) ∙ winding-none w r)
 
--- ---- two answers that say the same are one
+-- ---- answers and what they tell
 
-pub told-sought-injective : (x y : Sought) → toldSought x ≡ toldSought y → x ≡ y
-told-sought-injective (Between v) (Between w) e = ap Between (Option·some-injective v w e)
-told-sought-injective (Between v) Nowhere e = absurd (Option·none-ne-some v (sym e))
-told-sought-injective Nowhere (Between w) e = absurd (Option·none-ne-some w e)
-told-sought-injective Nowhere Nowhere e = refl
+pub sought-told : Told toldSought
+sought-told = record { untold = untold; back = back; onto = onto }
+  where
+    untold : Option Winding → Sought
+    untold (some v) = Between v
+    untold none = Nowhere
+
+    back : (x : Sought) → untold (toldSought x) ≡ x
+    back (Between v) = refl
+    back Nowhere = refl
+
+    onto : (y : Option Winding) → toldSought (untold y) ≡ y
+    onto (some v) = refl
+    onto none = refl
 
 -- what an answer says of the winding
 pub told-between : (x : Sought) (v : Winding) (o : Option Winding) → x ≡ Between v → toldSought x ≡ o → o ≡ some v

@@ -6,13 +6,13 @@ use mathlib.Core.Path.{_≡_, refl, sym, ap, _∙_}
 use mathlib.Core.Logic.{_⊎_, _↔_, inl, inr, ⊎-map, ⊎-elim}
 use mathlib.Core.Bool.{Bool, true, false}
 use mathlib.Core.List.{List, [], _∷_}
-use mathlib.Core.Option.{Option, none, some, Option·none-ne-some, Option·some-injective}
+use mathlib.Core.Option.{none, some, Option·none-ne-some, Option·some-injective}
 use lib.Dec.{eqb, ltb}
 use borrow.Author.Tests.{eqb-true, ne-eqb, ltb-true, ltb-false}
 use Rattle.lists.specs.Members.{_∈_}
 use Rattle.bits.proofs.BoolLaws.{both-true, by-test}
-use Rattle.number.specs.Outcomes.{Outcome, given, refused, _>>_, unless}
-use Rattle.number.specs.Refusals.{noSuchWinding, stateBeyondBoard, brokenBoard}
+use Rattle.number.specs.Outcomes.{Outcome, given, refused}
+use Rattle.number.specs.Refusals.{noSuchWinding}
 use Rattle.number.proofs.OutcomeLaws.{refused-never}
 use Rattle.kinds.specs.declared.Kind.{Kind}
 use Rattle.kinds.specs.Kinds.{kindNumber, nameOf, buttonKind, regularKind, drawingKind, droppingKind}
@@ -25,7 +25,6 @@ use Rattle.board.specs.Sorts.{carries, windingsOf, isRegular, isSteel, partsFit
 use Rattle.board.proofs.WindingLaws.{part-named}
 use Rattle.board.proofs.FineLaws.{fine-parts-fit, fine-relays-wound}
 use Rattle.state.specs.declared.State.{State}
-use Rattle.state.specs.States.{stateFine, usable}
 use Rattle.search.specs.declared.Winding.{Winding}
 use Rattle.search.specs.declared.Verdict.{Verdict}
 use Rattle.search.specs.declared.Finding.{Finding}
@@ -33,10 +32,10 @@ use Rattle.search.specs.declared.Finding.the-variants as said
 use Rattle.search.specs.Verdicts as verdict
 use Rattle.judge.specs.declared.Which.{Which}
 use Rattle.judge.specs.declared.Which.the-variants.{First, Second}
-use Rattle.judge.specs.RelayWindings.{isFirst, isWinding, windingOf, orNoSuchWinding}
+use Rattle.judge.specs.RelayWindings.{isFirst, isWinding, windingOf}
 use Rattle.judge.specs.Judging.{windingFor}
 use Rattle.judge.proofs.SoughtLaws.{endsOf, winding-here, winding-past, winding-none}
-use Rattle.judge.proofs.JudgeLaws.{winding-for-sought, winding-for-given, judging-by}
+use Rattle.judge.proofs.JudgeLaws.{winding-for-sought, winding-for-given, winding-for-eleven, judging-by}
 use Rattle.judge_means.specs.Exactness.{Judges}
 use Rattle.judge_means.specs.Eleven.{LineEleven, ElevenExactly, TheWinding}
 use Rattle.judge_means.proofs.Exactness.{FindingBy, live-by, dead-by, undecided-by, verdict-finding}
@@ -209,20 +208,6 @@ module _ (b : Board) (r : ℕ) (n : Which) (fine : boardFine b ≡ true) where
   )
 
 -- ---- over the call
-
--- of 15, 14 and 11 one after the other, where 11 is given the others do not hold
-eleven-last : (t u : Bool) (o : Option Winding)
-    → (unless t brokenBoard 0 >> unless u stateBeyondBoard 0 >> orNoSuchWinding o) ≡ refused noSuchWinding 0
-    → (t ≡ true) × (u ≡ true) × (o ≡ none)
-eleven-last false u o is = let z : _≡_ {A = ℕ} brokenBoard noSuchWinding = cc in absurd (omega arith)
-eleven-last true false o is = let z : _≡_ {A = ℕ} stateBeyondBoard noSuchWinding = cc in absurd (omega arith)
-eleven-last true true (some e) is = absurd (refused-never noSuchWinding 0 e (sym is))
-eleven-last true true none is = (refl, refl, refl)
-
-winding-for-eleven : (b : Board) (s : State) (r : ℕ) (n : Which) → windingFor b s r n ≡ refused noSuchWinding 0
-    → (boardFine b ≡ true) × (stateFine (b .counts) s ≡ true) × (windingOf n r (partsOf b) ≡ none)
-unfolding windingFor usable
-winding-for-eleven b s r n is = eleven-last (boardFine b) (stateFine (b .counts) s) (windingOf n r (partsOf b)) is
 
 -- a finding by the chains is no refusal
 finding-by-said : (t : List ℕ → Bool) (cs : List (List ℕ)) (w : ℕ) (v : Verdict) (f : Finding) (k p : ℕ)

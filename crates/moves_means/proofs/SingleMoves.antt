@@ -8,8 +8,8 @@ use mathlib.Core.Logic.{⊎-elim}
 use mathlib.Core.Bool.{Bool, true, false}
 use lib.Dec.{ltb}
 use borrow.Author.Tests.{ltb-false}
-use Rattle.number.specs.Outcomes.{Outcome, given, refused, _>>_, unless}
-use Rattle.number.specs.Refusals.{noSuchWinding, stateBeyondBoard, brokenBoard}
+use Rattle.number.specs.Outcomes.{Outcome, given, refused, unless}
+use Rattle.number.specs.Refusals.{noSuchWinding}
 use Rattle.number.proofs.OutcomeLaws.{refused-never, given-injective}
 use Rattle.board.specs.declared.Board.{Board}
 use Rattle.board.specs.Parts.{partsOf}
@@ -17,8 +17,8 @@ use Rattle.board.specs.Rules.{boardFine}
 use Rattle.board.specs.Sorts.{isRegular, isSteel}
 use Rattle.board.proofs.FineLaws.{fine-relays-wound}
 use Rattle.state.specs.declared.State.{State}
-use Rattle.state.specs.States.{isDrawn, stateFine, usable}
-use Rattle.state.proofs.StateLaws.{usable-fine}
+use Rattle.state.specs.States.{isDrawn, stateFine}
+use Rattle.state.proofs.StateLaws.{usable-fine, usable-next}
 use Rattle.search.specs.Verdicts.{Finding}
 use Rattle.judge.specs.declared.Which.the-variants.{First, Second}
 use Rattle.judge.specs.Judging.{judging}
@@ -66,41 +66,37 @@ step-means b w s r fine fits below =
     ⊎-elim (regular-means b w s r fine fits below) (steel-means b w s r fine fits below)
     (fine-relays-wound b fine r below)
 
--- ---- 15, 14 and 11 before a move
-
--- of the three one after the other, where 11 is given the others do not hold
-eleven-last : (t u below : Bool)
-    → (unless t brokenBoard 0 >> unless u stateBeyondBoard 0 >> unless below noSuchWinding 0) ≡ refused noSuchWinding 0
-    → (t ≡ true) × (u ≡ true) × (below ≡ false)
-eleven-last false u below is = let z : _≡_ {A = ℕ} brokenBoard noSuchWinding = cc in absurd (omega arith)
-eleven-last true false below is = let z : _≡_ {A = ℕ} stateBeyondBoard noSuchWinding = cc in absurd (omega arith)
-eleven-last true true true is = absurd (refused-never noSuchWinding 0 tt (sym is))
-eleven-last true true false is = (refl, refl, refl)
-
+-- where 11 is given, neither 15 nor 14 holds, and the relay is not there
 movable-eleven : (b : Board) (s : State) (r : ℕ) → movable b s r ≡ refused noSuchWinding 0 → (boardFine b ≡ true)
     × (stateFine (b .counts) s ≡ true) × (b .counts .relays ≤ r)
-unfolding movable usable
+unfolding movable
 movable-eleven b s r is =
-    let last = eleven-last (boardFine b) (stateFine (b .counts) s) (ltb r (b .counts .relays)) is in
-    (last .0, last .1, ltb-false r (b .counts .relays) (last .2))
+    let next = usable-next b s (unless (ltb r (b .counts .relays)) noSuchWinding 0) noSuchWinding 0 (λ e. omega arith)
+    (λ e. omega arith) is in
+    (next .0, next .1, past (ltb r (b .counts .relays)) refl (next .2))
+  where
+    past : (t : Bool) → ltb r (b .counts .relays) ≡ t → unless t noSuchWinding 0 ≡ refused noSuchWinding 0
+        → b .counts .relays ≤ r
+    past true below refusal = absurd (refused-never noSuchWinding 0 tt (sym refusal))
+    past false beyond refusal = ltb-false r (b .counts .relays) beyond
 
 -- ---- what the call tells, where it is known whether the relay is moved
 
 module _ (b : Board) (s : State) (r w : ℕ) (a : Moved) (moves : Moves b s r w a) where
-  moved-told : movable b s r ≡ given tt → toldMoved a ≡ (made s r (stepOf b s r w), given (stepOf b s r w))
-  moved-told taken =
+  call-moved : movable b s r ≡ given tt → toldMoved a ≡ (made s r (stepOf b s r w), given (stepOf b s r w))
+  call-moved taken =
       moves ∙ sym (moving-moved b s r w (stepOf b s r w) (made s r (stepOf b s r w)) taken refl refl)
 
-  refused-told : (k p : ℕ) → movable b s r ≡ refused k p → toldMoved a ≡ (s, refused k p)
-  refused-told k p off = moves ∙ sym (moving-refused b s r w k p off)
+  call-refused : (k p : ℕ) → movable b s r ≡ refused k p → toldMoved a ≡ (s, refused k p)
+  call-refused k p off = moves ∙ sym (moving-refused b s r w k p off)
 
-  told-refused : (k p : ℕ) → toldMoveAnswer (a .answer) ≡ refused k p → movable b s r ≡ refused k p
-  told-refused k p says = by-call (movable b s r) refl
+  refused-call : (k p : ℕ) → toldMoveAnswer (a .answer) ≡ refused k p → movable b s r ≡ refused k p
+  refused-call k p says = by-call (movable b s r) refl
     where
       by-call : (o : Outcome (Unit {0})) → movable b s r ≡ o → movable b s r ≡ refused k p
-      by-call (given tt) taken = absurd (refused-never k p (stepOf b s r w) (sym says ∙ λ i. moved-told taken i .1))
+      by-call (given tt) taken = absurd (refused-never k p (stepOf b s r w) (sym says ∙ λ i. call-moved taken i .1))
       by-call (refused m q) off =
-          let same : _≡_ {A = Outcome Move} (refused m q) (refused k p) = sym (λ i. refused-told m q off i .1) ∙ says in
+          let same : _≡_ {A = Outcome Move} (refused m q) (refused k p) = sym (λ i. call-refused m q off i .1) ∙ says in
           cc
 
 -- ---- the theorems
@@ -116,7 +112,7 @@ pub move-exactly : MoveExactly
 move-exactly b s r w a m moves taken =
     let fit = movable-given b s r taken in
     let exactly = step-exactly b w s r m (fit .0) (fit .1) (fit .2) in
-    let told = moved-told b s r w a moves taken in
+    let told = call-moved b s r w a moves taken in
     let answers : toldMoveAnswer (a .answer) ≡ given (stepOf b s r w) = λ i. told i .1 in
     let leaves : a .state ≡ made s r (stepOf b s r w) = λ i. told i .0 in
     let same : toldMoveAnswer (a .answer) ≡ given m → stepOf b s r w ≡ m =
@@ -127,7 +123,7 @@ move-exactly b s r w a m moves taken =
 
 pub move-eleven-exactly : MoveElevenExactly
 move-eleven-exactly b s r w a moves = (
-  λ says. movable-eleven b s r (told-refused b s r w a moves noSuchWinding 0 says),
+  λ says. movable-eleven b s r (refused-call b s r w a moves noSuchWinding 0 says),
   λ (fine, fits, past) i.
-      refused-told b s r w a moves noSuchWinding 0 (movable-lacking b s r (usable-fine b s fine fits) past) i .1,
+      call-refused b s r w a moves noSuchWinding 0 (movable-lacking b s r (usable-fine b s fine fits) past) i .1,
 )
