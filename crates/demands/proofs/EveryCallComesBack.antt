@@ -17,6 +17,7 @@ use Rattle.moves.specs.Moving.{movable, moving}
 use Rattle.runs.specs.Running.{Ran, runnable, running}
 use Rattle.file_means.proofs.FileRefusals.{file-refused}
 use Rattle.judge_means.proofs.Eleven.{eleven-exactly}
+use Rattle.moves_means.proofs.SingleMoves.{move-eleven-exactly}
 use Rattle.lines.specs.Lines.{toldLine}
 use Rattle.session.specs.Carried.{toldSession}
 use Rattle.session.specs.HandingOut.{Handed}
@@ -35,6 +36,7 @@ unfolding pushing releasing judging moving running
 in-order = record {
   reads = file-refused;
   eleven = eleven-exactly;
+  eleven-moved = move-eleven-exactly;
   writes-number =
       λ v out out′ at x wrote. ap (λ (y : Outcome ℕ × List ℕ). against (y .0)) wrote
       ∙ number-writing-stands v out at .first;

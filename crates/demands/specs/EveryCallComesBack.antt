@@ -51,7 +51,7 @@ use Rattle.judge_means.specs.Exactness.{Judges}
 use Rattle.judge_means.specs.Eleven.{ElevenExactly}
 use Rattle.moves.specs.declared.Moved.{Moved}
 use Rattle.moves.specs.Moving.{toldMoveAnswer}
-use Rattle.moves_means.specs.SingleMoves.{Moves}
+use Rattle.moves_means.specs.SingleMoves.{Moves, MoveElevenExactly}
 use Rattle.runs.specs.declared.Ran.{Ran}
 use Rattle.runs.specs.Runs.{noRelay}
 use Rattle.runs.specs.Running.{longestLog, toldEnding}
@@ -107,6 +107,7 @@ lineLines out = (leb longestLine (length out), bufferTooShort) ∷ []
 pub record InOrder : Type 0 where
   pub reads : FileRefused
   pub eleven : ElevenExactly
+  pub eleven-moved : MoveElevenExactly
   pub writes-number : (v : ℕ) (out out′ : List ℕ) (at : ℕ) (x : NumberWritten)
       → _≡_ {A = Outcome ℕ × List ℕ} (toldNumberWritten x, out′) (numberWriting v out at)
       → against (toldNumberWritten x) ≡ firstNo (numberLines v out at)

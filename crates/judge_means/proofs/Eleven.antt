@@ -229,9 +229,7 @@ module _ (b : Board) (s : State) (r : ℕ) (n : Which) (w : ℕ) (v : Verdict) (
       by-call : (o : Outcome Winding) → windingFor b s r n ≡ o → windingFor b s r n ≡ refused k p
       by-call (given e) taken =
           absurd (finding-by-said _ _ w v (v .finding) k p (verdict-finding b s r n w e v told taken) says)
-      by-call (refused m q) off =
-          let same : _≡_ {A = Outcome verdict.Finding} (refused m q) (refused k p) = sym (refused-said m q off) ∙ says in
-          cc
+      by-call (refused m q) off = let same = sym (refused-said m q off) ∙ says in cc
 
 -- ---- the theorems
 

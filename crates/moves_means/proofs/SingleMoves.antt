@@ -66,22 +66,9 @@ step-means b w s r fine fits below =
     ⊎-elim (regular-means b w s r fine fits below) (steel-means b w s r fine fits below)
     (fine-relays-wound b fine r below)
 
--- where 11 is given, neither 15 nor 14 holds, and the relay is not there
-movable-eleven : (b : Board) (s : State) (r : ℕ) → movable b s r ≡ refused noSuchWinding 0 → (boardFine b ≡ true)
-    × (stateFine (b .counts) s ≡ true) × (b .counts .relays ≤ r)
-unfolding movable
-movable-eleven b s r is =
-    let next = usable-next b s (unless (ltb r (b .counts .relays)) noSuchWinding 0) noSuchWinding 0 (λ e. omega arith)
-    (λ e. omega arith) is in
-    (next .0, next .1, past (ltb r (b .counts .relays)) refl (next .2))
-  where
-    past : (t : Bool) → ltb r (b .counts .relays) ≡ t → unless t noSuchWinding 0 ≡ refused noSuchWinding 0
-        → b .counts .relays ≤ r
-    past true below refusal = absurd (refused-never noSuchWinding 0 tt (sym refusal))
-    past false beyond refusal = ltb-false r (b .counts .relays) beyond
+-- ---- over the call
 
--- ---- what the call tells, where it is known whether the relay is moved
-
+-- what it tells, where it is known whether the relay is moved
 module _ (b : Board) (s : State) (r w : ℕ) (a : Moved) (moves : Moves b s r w a) where
   call-moved : movable b s r ≡ given tt → toldMoved a ≡ (made s r (stepOf b s r w), given (stepOf b s r w))
   call-moved taken =
@@ -96,8 +83,22 @@ module _ (b : Board) (s : State) (r w : ℕ) (a : Moved) (moves : Moves b s r w 
       by-call : (o : Outcome (Unit {0})) → movable b s r ≡ o → movable b s r ≡ refused k p
       by-call (given tt) taken = absurd (refused-never k p (stepOf b s r w) (sym says ∙ λ i. call-moved taken i .1))
       by-call (refused m q) off =
-          let same : _≡_ {A = Outcome Move} (refused m q) (refused k p) = sym (λ i. call-refused m q off i .1) ∙ says in
+          let same = sym (ap (λ (x : State × Outcome Move). x .1) (call-refused m q off)) ∙ says in
           cc
+
+-- where 11 is given, neither 15 nor 14 holds, and the relay is not there
+movable-eleven : (b : Board) (s : State) (r : ℕ) → movable b s r ≡ refused noSuchWinding 0 → (boardFine b ≡ true)
+    × (stateFine (b .counts) s ≡ true) × (b .counts .relays ≤ r)
+unfolding movable
+movable-eleven b s r is =
+    let next = usable-next b s (unless (ltb r (b .counts .relays)) noSuchWinding 0) noSuchWinding 0 (λ e. omega arith)
+    (λ e. omega arith) is in
+    (next .0, next .1, past (ltb r (b .counts .relays)) refl (next .2))
+  where
+    past : (t : Bool) → ltb r (b .counts .relays) ≡ t → unless t noSuchWinding 0 ≡ refused noSuchWinding 0
+        → b .counts .relays ≤ r
+    past true below refusal = absurd (refused-never noSuchWinding 0 tt (sym refusal))
+    past false beyond refusal = ltb-false r (b .counts .relays) beyond
 
 -- ---- the theorems
 
