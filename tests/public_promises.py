@@ -17,9 +17,11 @@ for line in page.split("\n"):
     if row:
         rows[row.group(1)] = line
 
-# A line of the list may go on below, further in.
-listed = dict(re.findall(r"^  pub ([\w-]+) : (.*(?:\n    .*)*)$", repository.text("crates", "demands", "specs", "OneAnswer.antt"), re.M))
-proved = re.findall(r"^  ([\w-]+) = ", repository.text("crates", "demands", "proofs", "OneAnswer.antt"), re.M)
+# The list is the last of its file. A line of it may go on below, further in.
+statements = repository.text("crates", "demands", "specs", "OneAnswer.antt").partition("pub record OneAnswer ")[2]
+listed = dict(re.findall(r"^  pub ([\w-]+) : (.*(?:\n    .*)*)$", statements, re.M))
+answers = repository.text("crates", "demands", "proofs", "OneAnswer.antt").partition("pub one-answer ")[2]
+proved = re.findall(r"^  ([\w-]+) = ", answers, re.M)
 
 
 def line_of(name):
@@ -51,6 +53,8 @@ def says_one(line, relation, contract):
     law = "OneLent" if "&mut " in contract else "One"
     said = f"({relation} {' '.join(names)})" if names else relation
     whole = "".join(f"({group}) " for group in re.findall(r"\(([\w ]+ : [\w ]+)\)", line))
+    # A byte is below 256, which `wide` promises of its answer; a number of the definitions does not say so by itself.
+    whole += "→ x < 256 " if relation == "Wide" else ""
     return len(names) == len(set(names)) == len(parameters(contract)) and line == (f"{whole}→ {law} {said}" if names else f"{law} {said}")
 
 

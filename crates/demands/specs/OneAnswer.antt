@@ -1,11 +1,11 @@
--- Rule book, how tight the promises are: "Any pair of answers allowed by a promise is shown to be one answer". A line
--- for each function that another crate can call: its promise, by the name that its `ensures` cites, and that it allows
--- one answer only. `docs/PROMISES.md` has the promises in words.
---     One P        two answers that the promise P allows are one answer
---     OneLent P    two answers, each with what it leaves in a lent log or buffer, that P allows are one answer, and
---                  leave the same
---     OneAnswer    the list
-use Prim.Native.Nat.{ℕ}
+-- Demand 1: "Every call comes back." Rule book, how tight the promises are: "Any pair of answers allowed by a promise is
+-- shown to be one answer". A line for each function that another crate can call: its promise, by the name that its
+-- `ensures` cites, allows exactly one answer, whatever the call is given. `docs/PROMISES.md` has the promises in words.
+--     One P        the promise P allows an answer, and any two that it allows are one
+--     OneLent P    P allows an answer with what it leaves in a lent log or buffer, and any two that it allows are one
+--                  answer, and leave the same
+--     OneAnswer    the list; an argument of `wide` is a byte
+use Prim.Native.Nat.{ℕ, _<_}
 use mathlib.Core.Path.{_≡_}
 use mathlib.Core.List.{List}
 use Rattle.bits.specs.Sets.{Has, With, Without, Remaining, LowestFrom, AllBelow, Wide}
@@ -42,11 +42,16 @@ use Rattle.session.specs.declared.Session.{Session}
 use Rattle.session.specs.Carried.{Begins}
 use Rattle.session.specs.HandingOut.{NextLine}
 
-abbrev pub One : {R : Type 0} → (R → Type 0) → Type 0
-One {R} P = (x y : R) → P x → P y → x ≡ y
+pub record One {R : Type 0} (P : R → Type 0) : Type 0 where
+  pub answer : R
+  pub allowed : P answer
+  pub only : (x y : R) → P x → P y → x ≡ y
 
-abbrev pub OneLent : {R : Type 0} → (R → List ℕ → Type 0) → Type 0
-OneLent {R} P = (x y : R) (k l : List ℕ) → P x k → P y l → (x ≡ y) × (k ≡ l)
+pub record OneLent {R : Type 0} (P : R → List ℕ → Type 0) : Type 0 where
+  pub answer : R
+  pub left : List ℕ
+  pub allowed : P answer left
+  pub only : (x y : R) (k l : List ℕ) → P x k → P y l → (x ≡ y) × (k ≡ l)
 
 pub record OneAnswer : Type 0 where
   pub bits-has : (s n : ℕ) → One (Has s n)
@@ -55,7 +60,7 @@ pub record OneAnswer : Type 0 where
   pub bits-remaining : (s t : ℕ) → One (Remaining s t)
   pub bits-lowest-from : (s n : ℕ) → One (LowestFrom s n)
   pub bits-all-below : (s n : ℕ) → One (AllBelow s n)
-  pub bits-wide : (x : ℕ) → One (Wide x)
+  pub bits-wide : (x : ℕ) → x < 256 → One (Wide x)
   pub number-read-number : (s : List ℕ) (at : ℕ) → One (ReadsNumber s at)
   pub number-number-length : (v : ℕ) → One (NumberLength v)
   pub number-write-number : (v : ℕ) (out : List ℕ) (at : ℕ) → OneLent (WritesNumber v out at)
