@@ -6,7 +6,6 @@
 --     NoWordAlways          rule book: "a judge that says undecided always, or dead always", is shut out "by the
 --                           'exactly' in demand 3"
 --     LargerNeverChanges    the demand
-use Prim.Native.Nat.{ℕ}
 use mathlib.Core.Path.{_≡_}
 use Rattle.search.specs.declared.Finding.{Finding}
 use Rattle.judge_means.specs.Exactness.{Judges, Judge, TheChains, EffortNumbers, LiveExactly, DeadExactly}
