@@ -22,7 +22,7 @@ use Rattle.search.proofs.VerdictLaws.{effort-some}
 use Rattle.judge.specs.declared.Which.{Which}
 use Rattle.judge.specs.Judging.{windingFor}
 use Rattle.judge.proofs.JudgeLaws.{judging-by}
-use Rattle.judge_means.specs.Exactness.{Judges, Judge, Keeps}
+use Rattle.judge_means.specs.Exactness.{Judges, Judge, Keeps, effortOf}
 use Rattle.judge_means.specs.Allowances.{Settled, LargerAllowance, TurnsAtEffort, EffortSome}
 use Rattle.judge_means.proofs.Exactness.{liveVerdict, deadVerdict, FindingBy, live-by, dead-by, undecided-by}
 use Rattle.judge_means.proofs.Exactness.{verdict-finding}
@@ -90,6 +90,11 @@ settled-effort t cs w v this =
     dead-effort : FindingBy t cs w v said.Dead → effort t cs ≡ v .effort
     dead-effort (dead-by within first is) = sym (ap (λ (q : Verdict). q .effort) is)
 
+-- plus alone is a chain
+winding-effort-some : (b : Board) (s : State) (e : Winding) → 1 ≤ effortOf b s e
+unfolding chains
+winding-effort-some b s e = effort-some (shows (e .a) (e .b)) _ _
+
 -- ---- over the call
 
 -- a refused call settles nothing
@@ -126,8 +131,9 @@ module _ (J : Judge) (keeps : Keeps J) where
       (turned .1 .enough, turned .1 .short)
 
   pub effort-some-always : EffortSome J
-  unfolding chains
-  effort-some-always b s r n w e v told taken =
-      let some = effort-some (shows (e .a) (e .b)) _ _ in
-      let comes = verdict-finding b s r n w e v (keeps b s r n w v told) taken in
-      (some, λ settled. subst (λ (k : ℕ). 1 ≤ k) (settled-effort _ _ w v comes settled) some)
+  effort-some-always = (
+    winding-effort-some,
+    λ b s r n w e v told taken settled.
+        let comes = verdict-finding b s r n w e v (keeps b s r n w v told) taken in
+        subst (λ (k : ℕ). 1 ≤ k) (settled-effort _ _ w v comes settled) (winding-effort-some b s e),
+  )

@@ -127,8 +127,8 @@ module _ (b : Board) (s : State) (e : Winding) (fine : boardFine b ≡ true) whe
         showing = shows-true (e .a) (e .b) c (shown .1);
       }
 
-  live-listed : firstShown test (chainsOf b s) ≡ none → ¬ (IsLive b s e)
-  live-listed first live =
+  unlisted-dead : firstShown test (chainsOf b s) ≡ none → ¬ (IsLive b s e)
+  unlisted-dead first live =
       false≢true
       (sym (first-shown-none test (chainsOf b s) first (live .chain) (chain-listed b s (live .chain) fine
       (live .is-chain))) ∙ true-shows (e .a) (e .b) (live .chain) (live .showing))
@@ -155,7 +155,7 @@ module _ (b : Board) (s : State) (e : Winding) (fine : boardFine b ≡ true) whe
     λ dead. absurd (dead (listed-live c first)),
   )
   effort-numbered none first =
-      (λ live. absurd (live-listed first live), λ dead. effort-none test (chainsOf b s) first)
+      (λ live. absurd (unlisted-dead first live), λ dead. effort-none test (chainsOf b s) first)
 
 pub effort-numbers : EffortNumbers
 effort-numbers b s e fine = effort-numbered b s e fine (firstShown _ _) refl
@@ -190,14 +190,14 @@ module _ (b : Board) (s : State) (r : ℕ) (n : Which) (w : ℕ) (e : Winding) (
 
       back : (f : Finding) → ComesTo f → IsLive b s e × (effortOf b s e ≤ w) → f ≡ said.Live
       back said.Live (live-by c within first is) h = refl
-      back said.Dead (dead-by within first is) h = absurd (live-listed b s e fine first (h .0))
+      back said.Dead (dead-by within first is) h = absurd (unlisted-dead b s e fine first (h .0))
       back said.Undecided (undecided-by short is) h = absurd (omega (arith, short, h .1))
 
   its-dead : v .finding ≡ said.Dead ↔ ¬ (IsLive b s e) × (effortOf b s e ≤ w)
   its-dead = (λ h. there (comes-to-this said.Dead h), back (v .finding) comes-to)
     where
       there : ComesTo said.Dead → ¬ (IsLive b s e) × (effortOf b s e ≤ w)
-      there (dead-by within first is) = (live-listed b s e fine first, within)
+      there (dead-by within first is) = (unlisted-dead b s e fine first, within)
 
       back : (f : Finding) → ComesTo f → ¬ (IsLive b s e) × (effortOf b s e ≤ w) → f ≡ said.Dead
       back said.Live (live-by c within first is) h = absurd (h .0 (listed-live b s e fine c first))

@@ -5,12 +5,13 @@
 --     LargerAllowance J    what an allowance settles, every larger one settles the same way, with the same effort and
 --                          the same chain
 --     TurnsAtEffort J      the verdict turns at the effort: settled the same way from it on, undecided below it
---     EffortSome J         "So effort is at least 1": that of the winding, and that reported with live and dead
+--     EffortSome J         "So effort is at least 1": that of every winding, and that reported with live and dead
 use Prim.Native.Nat.{ℕ, _<_, _≤_}
 use mathlib.Core.Path.{_≡_}
 use mathlib.Core.Logic.{_⊎_}
 use Rattle.board.specs.declared.Board.{Board}
 use Rattle.state.specs.declared.State.{State}
+use Rattle.search.specs.declared.Winding.{Winding}
 use Rattle.search.specs.declared.Verdict.{Verdict}
 use Rattle.search.specs.declared.Finding.the-variants as said
 use Rattle.judge.specs.declared.Which.{Which}
@@ -37,4 +38,6 @@ TurnsAtEffort J =
     → (v .effort ≤ x → u ≡ v) × (x < v .effort → u .finding ≡ said.Undecided)
 
 abbrev pub EffortSome : Judge → Type 0
-EffortSome J = OfEveryVerdict J λ b s w e v. (1 ≤ effortOf b s e) × (Settled v → 1 ≤ v .effort)
+EffortSome J =
+    ((b : Board) (s : State) (e : Winding) → 1 ≤ effortOf b s e)
+    × (OfEveryVerdict J λ b s w e v. Settled v → 1 ≤ v .effort)
