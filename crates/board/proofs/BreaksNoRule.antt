@@ -3,10 +3,10 @@
 use Prim.Native.Nat.{ℕ, _≤_, _<_}
 use native.Mathlib.Omega.{arith}
 use mathlib.Core.Path.{_≡_, refl, sym, _∙_}
-use mathlib.Core.Logic.{_⊎_, inl, inr}
+use mathlib.Core.Logic.{_⊎_, _↔_, inl, inr}
 use mathlib.Core.Bool.{true, not}
 use mathlib.Core.List.{List, [], _∷_}
-use lib.Dec.{eqb}
+use lib.Dec.{ltb, eqb}
 use borrow.Author.Tests.{ltb-true, lt-ltb, le-leb, eqb-false, ne-eqb, not-true}
 use Rattle.lists.specs.Members.{All}
 use Rattle.kinds.specs.declared.Kind.{Kind}
@@ -42,26 +42,19 @@ range-counts c fit =
 
 -- ---- 5 to 7: a part, and all of them
 
-module _ (c : Counts) where
-  name-fits : (k : Kind) → nameFine c k ≡ true → Names c k
-  unfolding nameFine
-  name-fits Wire fine = tt
-  name-fits (Upper n) fine = ltb-true n (c .relays) fine
-  name-fits (Lower n) fine = ltb-true n (c .relays) fine
-  name-fits (Button n) fine = ltb-true n (c .buttons) fine
-  name-fits (Regular n) fine = ltb-true n (c .relays) fine
-  name-fits (Drawing n) fine = ltb-true n (c .relays) fine
-  name-fits (Dropping n) fine = ltb-true n (c .relays) fine
+below-exactly : (n limit : ℕ) → ltb n limit ≡ true ↔ n < limit
+below-exactly n limit = (ltb-true n limit, lt-ltb n limit)
 
-  name-test : (k : Kind) → Names c k → nameFine c k ≡ true
+module _ (c : Counts) where
+  name-exactly : (k : Kind) → nameFine c k ≡ true ↔ Names c k
   unfolding nameFine
-  name-test Wire below = refl
-  name-test (Upper n) below = lt-ltb n (c .relays) below
-  name-test (Lower n) below = lt-ltb n (c .relays) below
-  name-test (Button n) below = lt-ltb n (c .buttons) below
-  name-test (Regular n) below = lt-ltb n (c .relays) below
-  name-test (Drawing n) below = lt-ltb n (c .relays) below
-  name-test (Dropping n) below = lt-ltb n (c .relays) below
+  name-exactly Wire = (λ fine. tt, λ named. refl)
+  name-exactly (Upper n) = below-exactly n (c .relays)
+  name-exactly (Lower n) = below-exactly n (c .relays)
+  name-exactly (Button n) = below-exactly n (c .buttons)
+  name-exactly (Regular n) = below-exactly n (c .relays)
+  name-exactly (Drawing n) = below-exactly n (c .relays)
+  name-exactly (Dropping n) = below-exactly n (c .relays)
 
   part-fits : (p : Part) → partFits c p ≡ true → Fits c p
   unfolding partFits
@@ -73,7 +66,7 @@ module _ (c : Counts) where
         a-below = ltb-true (p .a) (c .terminals) (below .0);
         b-below = ltb-true (p .b) (c .terminals) (below .1);
         ends-differ = eqb-false (p .a) (p .b) (not-true (eqb (p .a) (p .b)) (apart .1));
-        named = name-fits (p .kind) (named .1);
+        named = name-exactly (p .kind) .0 (named .1);
       }
 
   apart-test : (a b : ℕ) → ¬ (a ≡ b) → not (eqb a b) ≡ true
@@ -86,7 +79,7 @@ module _ (c : Counts) where
       (true-both
       (true-both (lt-ltb (p .a) (c .terminals) (fits .a-below)) (lt-ltb (p .b) (c .terminals) (fits .b-below)))
       (apart-test (p .a) (p .b) (fits .ends-differ)))
-      (name-test (p .kind) (fits .named))
+      (name-exactly (p .kind) .1 (fits .named))
 
   parts-fit : (ps : List Part) → partsFit c ps ≡ true → All (Fits c) ps
   unfolding partsFit

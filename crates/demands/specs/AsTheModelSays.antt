@@ -32,7 +32,7 @@ pub record AsTheModelSays : Type 0 where
   pub counted : DeadCounts
   pub reported : UndecidedReports
   pub current : AsPublished
-  -- each relay is regular or steel-core, and not both
+  -- each relay is regular or steel-core and not both, so that the next two fields are all cases
   pub sorts : EveryRelaySort
   -- a relay draws, drops, rests exactly if the chains through its windings say so, which is exactly by the
   -- published guards
