@@ -168,6 +168,19 @@ module _ (b : Board) (out : List ℕ) {A : Type 0} where
       (omega (arith, board-bytes-sum b, leb-false (length (boardBytes b)) (length out) off)) refl)))
       (λ off. broken (writing-broken b out off refl))
 
+-- so `write` never refuses such a buffer by 16
+pub write-never-short : (b : Board) (out out′ : List ℕ) (w : Written) → longestFile ≤ length out
+    → _≡_ {A = Answered} (toldWritten w, out′) (writing b out) → ¬ (toldWritten w ≡ refused bufferTooShort 0)
+write-never-short b out out′ w room wrote short =
+    by-test (boardFine b)
+    (λ fine. refused-never bufferTooShort 0 (length (boardBytes b))
+    (sym short ∙ ap answer (wrote ∙ write-fits b out fine room)))
+    (λ off.
+    let other : _≡_ {A = Outcome ℕ} (refused brokenBoard 0) (refused bufferTooShort 0) =
+    ap answer (writing-broken b out off refl ∙ sym wrote) ∙ short in
+    let same : brokenBoard ≡ bufferTooShort = cc in
+    omega (arith, same))
+
 -- a refused write leaves the buffer as it was, and its place is 0
 pub writing-refused : (b : Board) (out : List ℕ) (n p : ℕ) (out′ : List ℕ)
     → _≡_ {A = Outcome ℕ × List ℕ} (writing b out) (refused n p, out′) → (out′ ≡ out) × (p ≡ 0)

@@ -1,10 +1,12 @@
 -- Demand 2: each field is a theorem of a wing.
 use Rattle.file_means.proofs.RoundTrip.{write-then-read, read-then-write}
+use Rattle.board.proofs.BreaksNoRule.{every-relay-sort}
 use Rattle.judge_means.proofs.Circuits.{paths-are-chains, live-is-carrying}
 use Rattle.judge_means.proofs.Exactness.{judges-keep, as-published}
 use Rattle.judge_means.proofs.Eleven.{the-winding}
 use Rattle.moves_means.proofs.SingleMoves.{move-exactly}
 use Rattle.moves_means.proofs.ByChains.{regular-by-chains, steel-by-chains}
+use Rattle.moves_means.proofs.OneRelay.{changes-one-relay}
 use Rattle.runs_means.proofs.Courses.{run-exactly}
 use Rattle.session_means.proofs.HandedLines.{lines-handed-out, all-handed-out}
 use Rattle.session_means.proofs.EventRefusals.{events-refused}
@@ -17,9 +19,11 @@ as-the-model-says = record {
   carrying = live-is-carrying;
   winding = the-winding;
   current = as-published _ judges-keep;
+  sorts = every-relay-sort;
   regular = regular-by-chains;
   steel = steel-by-chains;
   moves = move-exactly;
+  changes = changes-one-relay;
   runs = run-exactly;
   written-read = write-then-read;
   read-written = read-then-write;

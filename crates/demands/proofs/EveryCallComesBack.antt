@@ -6,6 +6,7 @@ use Rattle.number.specs.Outcomes.{Outcome, given, _>>_}
 use Rattle.board.specs.declared.Board.{Board}
 use Rattle.state.specs.declared.State.{State}
 use Rattle.state.specs.States.{isPushed}
+use Rattle.board.proofs.BreaksNoRule.{fifteen-exactly}
 use Rattle.presses.specs.Presses.{pressable, pushing, releasing}
 use Rattle.presses.proofs.PressLaws.{push-refused, release-refused}
 use Rattle.board_reader.proofs.ReadLaws.{reading-refused}
@@ -19,17 +20,20 @@ use Rattle.file_means.proofs.FileRefusals.{file-refused}
 use Rattle.judge_means.proofs.Eleven.{eleven-exactly}
 use Rattle.moves_means.proofs.SingleMoves.{move-eleven-exactly}
 use Rattle.lines.specs.Lines.{toldLine}
+use Rattle.events.specs.Events.{Shown}
 use Rattle.session.specs.Carried.{toldSession}
 use Rattle.session.specs.HandingOut.{Handed}
 use Rattle.number.proofs.Told.{told-injective}
 use Rattle.session.proofs.ToldLaws.{session-told}
 use Rattle.demands.specs.EveryCallComesBack.{against, InOrder, AsLent, EveryCallComesBack}
+use Rattle.demands.specs.EveryCallComesBack.{wordOf}
 use Rattle.demands.proofs.FirstNoLaws.{runnable-first, movable-first, pressable-first, release-first}
 use Rattle.demands.proofs.FirstNoLaws.{winding-for-first, writing-stands, number-writing-stands}
 use Rattle.demands.proofs.FirstNoLaws.{line-text-stands}
 use Rattle.demands.proofs.RefusedLaws.{left-outcome, left-refused, against-then, nothing-written}
 use Rattle.demands.proofs.RefusedLaws.{verdict-against, verdict-refused, ran-against, ran-refused}
 use Rattle.demands.proofs.RefusedLaws.{next-line-stands}
+use Rattle.demands.proofs.EventLineLaws.{ran-line-stands, event-line-stands, shown-untouched}
 
 pub in-order : InOrder
 unfolding pushing releasing judging moving running
@@ -37,6 +41,7 @@ in-order = record {
   reads = file-refused;
   eleven = eleven-exactly;
   eleven-moved = move-eleven-exactly;
+  fifteen = fifteen-exactly;
   writes-number =
       λ v out out′ at x wrote. ap (λ (y : Outcome ℕ × List ℕ). against (y .0)) wrote
       ∙ number-writing-stands v out at .first;
@@ -60,6 +65,10 @@ in-order = record {
   runs =
       λ b s w log log′ a ran. ap (λ (t : Ran). against (t .word)) ran ∙ ran-against b s w log (runnable b s log)
       ∙ runnable-first b s log;
+  tells-run =
+      λ b e s w x told. ap (λ (y : Shown). against (wordOf (y .0))) told ∙ ran-line-stands b e w s .first;
+  tells-event =
+      λ b e s v w x told. ap (λ (y : Shown). against (wordOf (y .0))) told ∙ event-line-stands b s e w v .first;
   hands =
       λ z s out out′ r called. ap (λ (h : Handed). against (h .answer)) called
       ∙ next-line-stands (toldSession z) s out .first;
@@ -104,6 +113,10 @@ as-lent = record {
         ap (λ (t : Ran). t .state) none,
         (ap (λ (t : Ran). t .moves) none, (ap (λ (t : Ran). t .relay) none, ap (λ (t : Ran). t .log) none)),
       );
+  tells-run = λ b e s w x n p shown word.
+      shown-untouched e s _ _ n p shown word (ran-line-stands b e w s .left n p);
+  tells-event = λ b e s v w x n p shown word.
+      shown-untouched e s _ _ n p shown word (event-line-stands b s e w v .left n p);
   hands = λ z s out out′ r n p called told.
       let kept =
       next-line-stands (toldSession z) s out .left n p (sym (ap (λ (h : Handed). h .answer) called) ∙ told) in (

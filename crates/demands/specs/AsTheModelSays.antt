@@ -5,11 +5,13 @@
 --     AsTheModelSays    the demand: each field is a statement over the calls, put into words in the file that
 --                       defines it
 use Rattle.file_means.specs.RoundTrip.{WriteThenRead, ReadThenWrite}
+use Rattle.board.specs.BreaksNoRule.{EveryRelaySort}
 use Rattle.judge_means.specs.Circuits.{PathsAreChains, LiveIsCarrying}
 use Rattle.judge_means.specs.Exactness.{Judges, AsPublished}
 use Rattle.judge_means.specs.Eleven.{TheWinding}
 use Rattle.moves_means.specs.SingleMoves.{MoveExactly}
 use Rattle.moves_means.specs.ByChains.{RegularByChains, SteelByChains}
+use Rattle.moves_means.specs.OneRelay.{ChangesOneRelay}
 use Rattle.runs_means.specs.Courses.{RunExactly}
 use Rattle.session_means.specs.HandedLines.{LinesHandedOut, AllHandedOut}
 use Rattle.session_means.specs.EventRefusals.{EventsRefused}
@@ -22,11 +24,15 @@ pub record AsTheModelSays : Type 0 where
   -- the winding judged is the relay's; it is called live or dead exactly by that current, within the allowance
   pub winding : TheWinding
   pub current : AsPublished Judges
+  -- each relay is regular or steel-core and not both, so that the next two fields are all cases
+  pub sorts : EveryRelaySort
   -- a relay draws, drops, rests exactly if the chains through its windings say so, which is exactly by the
   -- published guards
   pub regular : RegularByChains
   pub steel : SteelByChains
   pub moves : MoveExactly
+  -- a move changes that relay and nothing else
+  pub changes : ChangesOneRelay
   -- a run makes the lowest relay's move, again and again, until it is idle or must stop
   pub runs : RunExactly
   -- board files keep their meaning

@@ -9,9 +9,13 @@
 --     numberLines .. lineLines    "Calls: 15, 14, 13, 11, 7, 12, 16, those that apply": the lines of each call in that
 --                                 order, each a test that must hold and the number for no; `usableLines` are the two
 --                                 that every call on a board and a state has first
+--     pressLines b s v            those of the event v, which pushes or releases its button
+--     wordOf l                    the word of the run that a line tells of, or what refused it
 --     InOrder                     what stands against each call is the first of its lines whose test fails; a file is
 --                                 refused exactly by the first line of the table that holds, from left to right; and 11
 --                                 is its line
+--                                 and 15 is its line: `boardFine`, the first test of every call on a board, says that
+--                                 the board breaks no rule
 --     AsLent                      "A refused read returns number, place and the empty board. A refused call returns the
 --                                 number, place 0 and the state it was given, if it takes one; a refused run also 0
 --                                 moves and relay 255, a refused judgement no verdict, effort 0 and length 0, a refused
@@ -32,6 +36,7 @@ use Rattle.number.specs.Numbers.{largest, numberBytes, numberWriting, toldNumbe
 use Rattle.board.specs.declared.Board.{Board}
 use Rattle.board.specs.Parts.{partsOf, emptyBoard}
 use Rattle.board.specs.Rules.{boardFine}
+use Rattle.board.specs.BreaksNoRule.{FifteenExactly}
 use Rattle.state.specs.declared.State.{State}
 use Rattle.state.specs.States.{isPushed, stateFine}
 use Rattle.presses.specs.declared.Pressed.{Pressed}
@@ -56,9 +61,14 @@ use Rattle.runs.specs.declared.Ran.{Ran}
 use Rattle.runs.specs.Runs.{noRelay}
 use Rattle.runs.specs.Running.{longestLog, toldEnding}
 use Rattle.runs_means.specs.LongerRuns.{Runs}
+use Rattle.runs.specs.Looks.{Ending}
 use Rattle.lines.specs.declared.Line.{Line}
 use Rattle.lines.specs.declared.LineWritten.{LineWritten}
+use Rattle.lines.specs.Lines as told
+use Rattle.lines.specs.Lines.{event, closing}
 use Rattle.lines.specs.Lines.{longestLine, lineWriting, toldLine, toldLineWritten}
+use Rattle.events.specs.declared.Shown.{Shown}
+use Rattle.events.specs.Events.{buttonOf, pushes, ranLine, eventLine, toldShown}
 use Rattle.session.specs.declared.Session.{Session}
 use Rattle.session.specs.declared.Handed.{Handed}
 use Rattle.session.specs.HandingOut.{toldHandOut}
@@ -101,13 +111,21 @@ pushLines b s n = usableLines b s ((ltb n (b .counts .buttons), noSuchName) ∷ 
 abbrev pub releaseLines : Board → State → ℕ → List (Bool × ℕ)
 releaseLines b s n = usableLines b s ((ltb n (b .counts .buttons), noSuchName) ∷ (isPushed s n, alreadySo) ∷ [])
 
+abbrev pub pressLines : Board → State → ℕ → List (Bool × ℕ)
+pressLines b s v = cond (pushes v) (pushLines b s (buttonOf v)) (releaseLines b s (buttonOf v))
+
 abbrev pub lineLines : List ℕ → List (Bool × ℕ)
 lineLines out = (leb longestLine (length out), bufferTooShort) ∷ []
+
+abbrev pub wordOf : told.Line → Outcome Ending
+wordOf (event e o m d) = o
+wordOf (closing n p) = refused n p
 
 pub record InOrder : Type 0 where
   pub reads : FileRefused
   pub eleven : ElevenExactly
   pub eleven-moved : MoveElevenExactly
+  pub fifteen : FifteenExactly
   pub writes-number : (v : ℕ) (out out′ : List ℕ) (at : ℕ) (x : NumberWritten)
       → _≡_ {A = Outcome ℕ × List ℕ} (toldNumberWritten x, out′) (numberWriting v out at)
       → against (toldNumberWritten x) ≡ firstNo (numberLines v out at)
@@ -132,6 +150,13 @@ pub record InOrder : Type 0 where
   pub runs : (b : Board) (s : State) (w : ℕ) (log log′ : List ℕ) (a : Ran)
       → Runs b s log w a log′
       → against (toldEnding (a .word)) ≡ firstNo (runLines b s log)
+  -- a session's log of 4,096 is never too long (13), and the run after a push or release is never refused
+  pub tells-run : (b : Board) (e : ℕ) (s : State) (w : ℕ) (x : Shown)
+      → toldShown x ≡ ranLine b e s w
+      → against (wordOf (toldLine (x .line))) ≡ firstNo (usableLines b s [])
+  pub tells-event : (b : Board) (e : ℕ) (s : State) (v w : ℕ) (x : Shown)
+      → toldShown x ≡ eventLine b e s v w
+      → against (wordOf (toldLine (x .line))) ≡ firstNo (pressLines b s v)
   pub hands : (z : Session) (s out out′ : List ℕ) (r : Handed)
       → Called z s out r out′
       → against (toldHandOut (r .answer)) ≡ firstNo (lineLines out)
@@ -173,6 +198,14 @@ pub record AsLent : Type 0 where
       → Runs b s log w a log′
       → toldEnding (a .word) ≡ refused n p
       → (a .state ≡ s) × ((a .moves ≡ 0) × ((a .relay ≡ noRelay) × (log′ ≡ log)))
+  pub tells-run : (b : Board) (e : ℕ) (s : State) (w : ℕ) (x : Shown) (n p : ℕ)
+      → toldShown x ≡ ranLine b e s w
+      → wordOf (toldLine (x .line)) ≡ refused n p
+      → (toldLine (x .line) ≡ event e (refused n p) 0 (s .drawn)) × (x .state ≡ s)
+  pub tells-event : (b : Board) (e : ℕ) (s : State) (v w : ℕ) (x : Shown) (n p : ℕ)
+      → toldShown x ≡ eventLine b e s v w
+      → wordOf (toldLine (x .line)) ≡ refused n p
+      → (toldLine (x .line) ≡ event e (refused n p) 0 (s .drawn)) × (x .state ≡ s)
   pub hands : (z : Session) (s out out′ : List ℕ) (r : Handed) (n p : ℕ)
       → Called z s out r out′
       → toldHandOut (r .answer) ≡ refused n p

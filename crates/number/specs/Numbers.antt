@@ -8,8 +8,10 @@
 --                                     length; ends, if s ends inside or before it; bad, if it is longer or not shortest
 --     placed len at f                 the form f at place `at` of an input of len bytes, as the rule book answers it
 --     numberAt s at                   the number at place `at` of the input s: its value and the next place, or 1 or 2
---     encode k v                      the shortest form of v, in at most k bytes
---     numberBytes v                   the bytes that v is written as
+--     encode k v                      the shortest form of v, where it has at most k bytes; else the k lowest groups of
+--                                     v, each with its top bit set
+--     numberBytes v                   the bytes that v is written as: its shortest form; three bytes that are no number
+--                                     where v is above the largest, which is not written
 --     numberWriting v out at          what writing v into the buffer `out` at a place answers, and the buffer
 --                                     afterwards
 --     toldNumber r                    an answer to reading in the rule book's numbers

@@ -111,7 +111,7 @@ pub fn read_number(s: &[u8], at: usize) -> Number
     }
 }
 
-// How many bytes a number takes.
+// How many bytes a number's shortest form has. What is above the largest number has none, and 3 is answered.
 pub fn number_length(value: u32) -> usize
     ensures { λ r. ⌜ NumberLength value r ⌝ }
 {
