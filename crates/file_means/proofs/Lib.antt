@@ -5,6 +5,7 @@ pub mod PartTrip
 pub mod BoardTrip
 pub mod ReadFine
 pub mod RoundTrip
+pub mod BytesAfter
 pub mod RefusesLaws
 pub mod RefusedHolds
 pub mod HoldsRefused
