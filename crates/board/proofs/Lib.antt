@@ -4,3 +4,4 @@ pub mod SameLaws
 pub mod PaddedLaws
 pub mod FineLaws
 pub mod WindingLaws
+pub mod TallyLaws
