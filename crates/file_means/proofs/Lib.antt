@@ -6,7 +6,9 @@ pub mod BoardTrip
 pub mod ReadFine
 pub mod RoundTrip
 pub mod BytesAfter
-pub mod RefusesLaws
-pub mod RefusedHolds
+pub mod TakenLaws
+pub mod LeadsLaws
+pub mod ReadLeads
+pub mod ReachedRead
 pub mod HoldsRefused
 pub mod FileRefusals
