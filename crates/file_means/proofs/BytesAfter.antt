@@ -1,5 +1,5 @@
--- The theorem on the bytes after a board: a board that was read stands at the start of the input by its bytes, and these
--- are read as that board whatever stands after them.
+-- The theorem on the bytes after a board: a board that was read stands at the start of the input by its bytes, and
+-- these are read as that board whatever stands after them.
 use Prim.Native.Nat.{ℕ, _≤_}
 use native.Mathlib.Omega.{arith}
 use mathlib.Core.Path.{_≡_, sym, ap, _∙_}

@@ -1,22 +1,22 @@
 -- A line to its refusal: where a line of the table holds at a place and none before it, reading a board is refused by
 -- it there. What a line says of the numbers before it is that their stage is reached, so that the reader comes to it.
-use Prim.Native.Nat.{ℕ, suc, _+_, _-_, _<_, _≤_}
+use Prim.Native.Nat.{ℕ, suc, _-_, _<_}
 use native.Mathlib.Omega.{arith}
 use mathlib.Core.Path.{_≡_, refl, sym, _∙_}
 use mathlib.Core.Logic.{inl, inr, ⊎-elim}
-use mathlib.Core.Bool.{Bool, true, false}
-use mathlib.Core.List.{List, []}
-use lib.Dec.{ltb, eqb}
+use mathlib.Core.Bool.{Bool, false}
+use mathlib.Core.List.{List}
+use lib.Dec.{ltb}
 use lib.ListN.{length}
-use borrow.Author.Tests.{lt-ltb, le-ltb, eqb-true}
+use borrow.Author.Tests.{le-ltb}
 use Rattle.bits.proofs.BoolLaws.{by-test}
-use Rattle.number.specs.Outcomes.{refused, found}
+use Rattle.number.specs.Outcomes.{refused}
 use Rattle.number.specs.Refusals.{outOfRange, noSuchKind, noSuchTerminal, endsEqual, noSuchName, windingTaken}
 use Rattle.number.specs.Refusals.{windingLacking}
 use Rattle.number.specs.Numbers.{numberAt}
-use Rattle.kinds.specs.Kinds.{buttonKind, lastKind, kindOf}
+use Rattle.kinds.specs.Kinds.{buttonKind, lastKind}
 use Rattle.windings.specs.declared.WoundSoFar.{WoundSoFar}
-use Rattle.windings.specs.Windings.{wound, every, complete}
+use Rattle.windings.specs.Windings.{wound, complete}
 use Rattle.windings.proofs.EveryLaws.{every-fails}
 use Rattle.board.specs.declared.Counts.{Counts}
 use Rattle.board.specs.declared.Part.{Part}
@@ -24,22 +24,22 @@ use Rattle.board.specs.Parts.{mostParts}
 use Rattle.board.specs.Rules.{leastTerminals, mostTerminals, mostRelays, mostButtons, inRange, terminalFine, limitOf}
 use Rattle.board.specs.Sorts.{isRegular, isSteel}
 use Rattle.board.proofs.TallyLaws.{tallied-wound}
-use Rattle.board_reader.specs.Reading.{wanted, countsAt, nameAt, partAt, partsAt, boardFrom, boardAt}
+use Rattle.board_reader.specs.Reading.{wanted, countsAt, partAt, partsAt, boardAt}
 use Rattle.board_reader.proofs.FieldLaws.{wanted-refused, wanted-fails, wanted-passes, wanted-found, range-below}
 use Rattle.board_reader.proofs.FieldLaws.{range-above, name-carried}
-use Rattle.board_reader.proofs.CountsLaws.{countAt, terminals-refused, relays-refused, buttons-refused, parts-refused}
+use Rattle.board_reader.proofs.CountsLaws.{terminals-refused, relays-refused, buttons-refused, parts-refused}
 use Rattle.board_reader.proofs.PartLaws.{kind-refused, a-refused, b-refused, ends-equal, name-refused}
 use Rattle.board_reader.proofs.PartLaws.{winding-taken-refused}
-use Rattle.file_means.specs.FileRefusals.{Taken, Stage, Reached, Comes, at-T, at-R, at-B, at-C, at-part, at-first, at-second}
-use Rattle.file_means.specs.FileRefusals.{at-name, NumberWanted, StandsAt, LineHolds, line1, line2, line3-T, line3-R}
-use Rattle.file_means.specs.FileRefusals.{line3-B, line3-C, line4, line5-first, line5-second, line6, line7-button}
-use Rattle.file_means.specs.FileRefusals.{line7-relay, line8, line9}
+use Rattle.file_means.specs.FileRefusals.{Taken, FileStage, Reached, NumberStands, at-T, at-R, at-B, at-C}
+use Rattle.file_means.specs.FileRefusals.{at-part, at-first, at-second, at-name, NumberWanted, LineHolds, line1}
+use Rattle.file_means.specs.FileRefusals.{line2, line3-T, line3-R, line3-B, line3-C, line4, line5-first}
+use Rattle.file_means.specs.FileRefusals.{line5-second, line6, line7-button, line7-relay, line8, line9}
 use Rattle.file_means.proofs.TakenLaws.{taken-winding, taken-barred}
 use Rattle.file_means.proofs.ReachedRead.{PartsSoFar, StageRead, kind-most, relay-limit}
 use Rattle.file_means.proofs.ReachedRead.{name-found, reached-read}
 
 -- the reader's test of the number that is wanted at a stage, and the number for no of it
-abbrev testOf : Stage → ℕ → Bool
+abbrev testOf : FileStage → ℕ → Bool
 testOf at-T = inRange leastTerminals mostTerminals
 testOf (at-R t) = inRange 0 mostRelays
 testOf (at-B t r) = inRange 0 mostButtons
@@ -49,7 +49,7 @@ testOf (at-first c ps k) = terminalFine c
 testOf (at-second c ps k a) = terminalFine c
 testOf (at-name c ps k a b) = λ v. ltb v (limitOf c k)
 
-abbrev lineOf : Stage → ℕ
+abbrev lineOf : FileStage → ℕ
 lineOf at-T = outOfRange
 lineOf (at-R t) = outOfRange
 lineOf (at-B t r) = outOfRange
@@ -72,7 +72,7 @@ module _ (s : List ℕ) where
     unfolding partsAt
     board-part c ps w at x more e = x .onward (suc (c .parts - length ps - 1)) n p (omega (arith, more)) (rw (← e))
 
-    board-stage : (f : Stage) (at : ℕ) → StageRead s f at → NumberWanted f
+    board-stage : (f : FileStage) (at : ℕ) → StageRead s f at → NumberWanted f
         → wanted (testOf f) (lineOf f) s at ≡ refused n p → boardAt s ≡ refused n p
     board-stage at-T at here asked e = board-counts (terminals-refused s n p (rw here at e))
     board-stage (at-R t) at here asked e = board-counts (relays-refused s n p t at here e)
@@ -95,19 +95,20 @@ module _ (s : List ℕ) where
         (name-refused c w s (z .part-at) k (y .a-at) (z .kind-read) a (x .b-at) (y .a-read) b at (x .b-read) (x .apart)
         n p (sym (name-carried c k s at asked) ∙ e))
 
-  board-form : (n p : ℕ) (f : Stage) (at : ℕ) → Reached s f at → NumberWanted f → numberAt s at ≡ refused n p
+  board-form : (n p : ℕ) (f : FileStage) (at : ℕ) → Reached s f at → NumberWanted f → numberAt s at ≡ refused n p
       → boardAt s ≡ refused n p
   board-form n p f at here asked e =
       board-stage n p f at (reached-read s f at here) asked (wanted-refused (testOf f) (lineOf f) s at n p e)
 
-  board-test : (f : Stage) (at v : ℕ) → Comes s f at v → testOf f v ≡ false → boardAt s ≡ refused (lineOf f) at
+  board-test : (f : FileStage) (at v : ℕ) → NumberStands s f at v → testOf f v ≡ false
+      → boardAt s ≡ refused (lineOf f) at
   board-test f at v (here, asked, next, stands) off =
       board-stage (lineOf f) at f at (reached-read s f at here) asked
       (wanted-fails (testOf f) (lineOf f) s at v next stands off)
 
   -- ---- 6, 8 and 9, which are no test of one number alone
 
-  board-ends : (c : Counts) (ps : List Part) (k a at : ℕ) → Comes s (at-second c ps k a) at a
+  board-ends : (c : Counts) (ps : List Part) (k a at : ℕ) → NumberStands s (at-second c ps k a) at a
       → boardAt s ≡ refused endsEqual at
   board-ends c ps k a at (here, asked, next, stands) =
       let read = reached-read s (at-second c ps k a) at here in
@@ -119,8 +120,8 @@ module _ (s : List ℕ) where
       (ends-equal c w s (y .part-at) k (x .a-at) (y .kind-read) a at (x .a-read) a next
       (wanted-passes (terminalFine c) noSuchTerminal s at a next stands fine) refl)
 
-  board-winding : (c : Counts) (ps : List Part) (k a b v at : ℕ) → Comes s (at-name c ps k a b) at v → v < c .relays
-      → Taken v ps k → boardAt s ≡ refused windingTaken at
+  board-winding : (c : Counts) (ps : List Part) (k a b v at : ℕ) → NumberStands s (at-name c ps k a b) at v
+      → v < c .relays → Taken v ps k → boardAt s ≡ refused windingTaken at
   board-winding c ps k a b v at (here, asked, next, stands) below taken =
       let read = reached-read s (at-name c ps k a b) at here in
       let w = read .0 in

@@ -26,11 +26,11 @@ use Rattle.board.proofs.TallyLaws.{Tallied, tallied-none, tallied-gained}
 use Rattle.board_reader.specs.Reading.{wanted, countsAt, nameAt, partAt, partsAt, boardFrom, boardAt}
 use Rattle.board_reader.proofs.FieldLaws.{wanted-passes, wanted-found, wanted-below, range-within, range-bounds}
 use Rattle.board_reader.proofs.FieldLaws.{name-wire, name-carried}
-use Rattle.board_reader.proofs.CountsLaws.{countAt, counts-read}
+use Rattle.board_reader.proofs.CountsLaws.{countAt, count-most, counts-read}
 use Rattle.board_reader.proofs.PartLaws.{part-found}
-use Rattle.file_means.specs.FileRefusals.{StandsAt, Stage, at-T, at-R, at-B, at-C, at-part, at-first, at-second}
-use Rattle.file_means.specs.FileRefusals.{at-name, Reached, start, T-fine, R-fine, B-fine, C-fine, kind-fine}
-use Rattle.file_means.specs.FileRefusals.{first-fine, second-fine, wire-fine, button-fine, relay-fine}
+use Rattle.file_means.specs.FileRefusals.{StandsAt, FileStage, at-T, at-R, at-B, at-C, at-part, at-first}
+use Rattle.file_means.specs.FileRefusals.{at-second, at-name, Reached, start, T-fine, R-fine, B-fine, C-fine}
+use Rattle.file_means.specs.FileRefusals.{kind-fine, first-fine, second-fine, wire-fine, button-fine, relay-fine}
 use Rattle.file_means.proofs.GivesLaws.{Gives}
 use Rattle.file_means.proofs.PartTrip.{PartIsFine, part-read}
 use Rattle.file_means.proofs.TakenLaws.{untaken-free}
@@ -38,42 +38,42 @@ use Rattle.file_means.proofs.TakenLaws.{untaken-free}
 pub relay-limit : (c : Counts) (k : ℕ) → ¬ (k ≡ buttonKind) → limitOf c k ≡ c .relays
 relay-limit c k relay = rw (ne-eqb k buttonKind relay)
 
+pub record PartsSoFar (s : List ℕ) (c : Counts) (ps : List Part) (w : WoundSoFar) (at : ℕ) : Type 0 where
+  pub few : c .relays ≤ mostRelays
+  pub so-far : (r : ℕ) → Tallied w ps r
+  pub onward : (m n p : ℕ) → c .parts ≡ length ps + m → partsAt c m w s at ≡ refused n p → boardAt s ≡ refused n p
+
+pub record KindRead (s : List ℕ) (c : Counts) (ps : List Part) (w : WoundSoFar) (k at : ℕ) : Type 0 where
+  pub part-at : ℕ
+  pub before : PartsSoFar s c ps w part-at
+  pub one-more : length ps < c .parts
+  pub kind-read : wanted (inRange 0 lastKind) noSuchKind s part-at ≡ found k at
+
+pub record FirstRead (s : List ℕ) (c : Counts) (ps : List Part) (w : WoundSoFar) (k a at : ℕ) : Type 0 where
+  pub a-at : ℕ
+  pub before : KindRead s c ps w k a-at
+  pub a-read : wanted (terminalFine c) noSuchTerminal s a-at ≡ found a at
+
+pub record EndsRead (s : List ℕ) (c : Counts) (ps : List Part) (w : WoundSoFar) (k a b at : ℕ) : Type 0 where
+  pub b-at : ℕ
+  pub before : FirstRead s c ps w k a b-at
+  pub b-read : wanted (terminalFine c) noSuchTerminal s b-at ≡ found b at
+  pub apart : ¬ (a ≡ b)
+
+abbrev pub StageRead : List ℕ → FileStage → ℕ → Type 0
+StageRead s at-T at = at ≡ 0
+StageRead s (at-R t) at = countAt leastTerminals mostTerminals s 0 ≡ found t at
+StageRead s (at-B t r) at =
+    (p : ℕ) × (countAt leastTerminals mostTerminals s 0 ≡ found t p) × (countAt 0 mostRelays s p ≡ found r at)
+StageRead s (at-C t r b) at =
+    (p : ℕ) × (q : ℕ) × (countAt leastTerminals mostTerminals s 0 ≡ found t p) × (countAt 0 mostRelays s p ≡ found r q)
+    × (countAt 0 mostButtons s q ≡ found b at)
+StageRead s (at-part c ps) at = (w : WoundSoFar) × PartsSoFar s c ps w at
+StageRead s (at-first c ps k) at = (w : WoundSoFar) × KindRead s c ps w k at
+StageRead s (at-second c ps k a) at = (w : WoundSoFar) × FirstRead s c ps w k a at
+StageRead s (at-name c ps k a b) at = (w : WoundSoFar) × EndsRead s c ps w k a b at
+
 module _ (s : List ℕ) where
-  pub record PartsSoFar (c : Counts) (ps : List Part) (w : WoundSoFar) (at : ℕ) : Type 0 where
-    pub few : c .relays ≤ mostRelays
-    pub so-far : (r : ℕ) → Tallied w ps r
-    pub onward : (m n p : ℕ) → c .parts ≡ length ps + m → partsAt c m w s at ≡ refused n p → boardAt s ≡ refused n p
-
-  pub record KindRead (c : Counts) (ps : List Part) (w : WoundSoFar) (k at : ℕ) : Type 0 where
-    pub part-at : ℕ
-    pub before : PartsSoFar c ps w part-at
-    pub one-more : length ps < c .parts
-    pub kind-read : wanted (inRange 0 lastKind) noSuchKind s part-at ≡ found k at
-
-  pub record FirstRead (c : Counts) (ps : List Part) (w : WoundSoFar) (k a at : ℕ) : Type 0 where
-    pub a-at : ℕ
-    pub before : KindRead c ps w k a-at
-    pub a-read : wanted (terminalFine c) noSuchTerminal s a-at ≡ found a at
-
-  pub record EndsRead (c : Counts) (ps : List Part) (w : WoundSoFar) (k a b at : ℕ) : Type 0 where
-    pub b-at : ℕ
-    pub before : FirstRead c ps w k a b-at
-    pub b-read : wanted (terminalFine c) noSuchTerminal s b-at ≡ found b at
-    pub apart : ¬ (a ≡ b)
-
-  abbrev pub StageRead : Stage → ℕ → Type 0
-  StageRead at-T at = at ≡ 0
-  StageRead (at-R t) at = countAt leastTerminals mostTerminals s 0 ≡ found t at
-  StageRead (at-B t r) at =
-      (p : ℕ) × (countAt leastTerminals mostTerminals s 0 ≡ found t p) × (countAt 0 mostRelays s p ≡ found r at)
-  StageRead (at-C t r b) at =
-      (p : ℕ) × (q : ℕ) × (countAt leastTerminals mostTerminals s 0 ≡ found t p) × (countAt 0 mostRelays s p ≡ found r q)
-      × (countAt 0 mostButtons s q ≡ found b at)
-  StageRead (at-part c ps) at = (w : WoundSoFar) × PartsSoFar c ps w at
-  StageRead (at-first c ps k) at = (w : WoundSoFar) × KindRead c ps w k at
-  StageRead (at-second c ps k a) at = (w : WoundSoFar) × FirstRead c ps w k a at
-  StageRead (at-name c ps k a b) at = (w : WoundSoFar) × EndsRead c ps w k a b at
-
   -- ---- the counts
 
   count-found : (low high at v next : ℕ) → StandsAt s at v next → low ≤ v → v ≤ high
@@ -82,7 +82,7 @@ module _ (s : List ℕ) where
       wanted-passes (inRange low high) outOfRange s at v next stands (range-within low high v least most)
 
   counts-onward : (c : Counts) (at : ℕ) → c .relays ≤ mostRelays → found c at ≡ countsAt s
-      → PartsSoFar c [] noneWound at
+      → PartsSoFar s c [] noneWound at
   unfolding boardAt boardFrom
   counts-onward c at few read =
       record {
@@ -96,8 +96,8 @@ module _ (s : List ℕ) where
 
   -- ---- one more part
 
-  part-onward : (c : Counts) (ps : List Part) (w : WoundSoFar) (at : ℕ) (q : Part) (next : ℕ) → PartsSoFar c ps w at
-      → found q next ≡ partAt c w s at → PartsSoFar c (ps ++ (q ∷ [])) (gained w (q .kind)) next
+  part-onward : (c : Counts) (ps : List Part) (w : WoundSoFar) (at : ℕ) (q : Part) (next : ℕ) → PartsSoFar s c ps w at
+      → found q next ≡ partAt c w s at → PartsSoFar s c (ps ++ (q ∷ [])) (gained w (q .kind)) next
   unfolding partsAt
   part-onward c ps w at q next x read =
       let fine : PartIsFine c w s at (record { value = q; next = next }) =
@@ -109,9 +109,9 @@ module _ (s : List ℕ) where
             (rw (← read, e));
       }
 
-  module _ (c : Counts) (ps : List Part) (w : WoundSoFar) (k a b at : ℕ) (x : EndsRead c ps w k a b at) where
+  module _ (c : Counts) (ps : List Part) (w : WoundSoFar) (k a b at : ℕ) (x : EndsRead s c ps w k a b at) where
     named-onward : (v next : ℕ) → nameAt c k s at ≡ found v next → windingFree w (kindOf k v) ≡ true
-        → PartsSoFar c (ps ++ (record { a = a; b = b; kind = kindOf k v } ∷ [])) (gained w (kindOf k v)) next
+        → PartsSoFar s c (ps ++ (record { a = a; b = b; kind = kindOf k v } ∷ [])) (gained w (kindOf k v)) next
     named-onward v next named free =
         let y = x .before in
         let z = y .before in
@@ -133,7 +133,7 @@ module _ (s : List ℕ) where
 
   -- ---- every stage
 
-  pub reached-read : (f : Stage) (at : ℕ) → Reached s f at → StageRead f at
+  pub reached-read : (f : FileStage) (at : ℕ) → Reached s f at → StageRead s f at
   unfolding kindOf
   reached-read f at start = refl
   reached-read f at (T-fine {t} {p} x stands least most) =
@@ -147,9 +147,7 @@ module _ (s : List ℕ) where
   reached-read f at (C-fine {t} {r} {b} {c} {p} x stands most) =
       let before = reached-read (at-C t r b) p x in
       let counts : Counts = record { terminals = t; relays = r; buttons = b; parts = c } in
-      let few : r ≤ mostRelays =
-      range-bounds 0 mostRelays r (wanted-found (inRange 0 mostRelays) outOfRange s (before .0) r (before .1) (before .3)
-      .0) .1 in (
+      let few = count-most 0 mostRelays s (before .0) r (before .1) (before .3) in (
         noneWound,
         counts-onward counts at few
             (counts-read s t (before .0) r (before .1) b p c at (before .2) (before .3) (before .4)

@@ -2,14 +2,14 @@
 -- it; and what it gives is reached by the numbers that stand in the file.
 use Prim.Native.Nat.{ℕ, zero, suc, _+_, _<_, _≤_}
 use native.Mathlib.Omega.{arith}
-use mathlib.Core.Path.{_≡_, refl, sym, ap, subst, _∙_}
+use mathlib.Core.Path.{_≡_, sym, subst, _∙_}
 use mathlib.Core.Logic.{_⊎_, inl, inr}
 use mathlib.Core.Bool.{Bool, true, false, false≢true}
 use mathlib.Core.List.{List, [], _∷_, _++_, append-nil, append-assoc}
-use lib.Dec.{ltb, eqb}
+use lib.Dec.{ltb}
 use lib.ListN.{length, length-append}
 use borrow.Author.Tests.{ltb-true, ltb-false, le-leb, leb-false, eqb-true, eqb-false, ne-eqb, not-false, not-true}
-use Rattle.bits.proofs.BoolLaws.{by-test, by-less}
+use Rattle.bits.proofs.BoolLaws.{by-less}
 use Rattle.number.specs.Outcomes.{Outcome, given, refused, Found, found, _>>=_, _>>_, unless}
 use Rattle.number.specs.Refusals.{inputEnds, badForm, outOfRange, noSuchKind, noSuchTerminal, endsEqual, noSuchName}
 use Rattle.number.specs.Refusals.{windingTaken, windingLacking}
@@ -23,19 +23,18 @@ use Rattle.board.specs.declared.Counts.{Counts}
 use Rattle.board.specs.declared.Part.{Part}
 use Rattle.board.specs.Parts.{mostParts, partsOf}
 use Rattle.board.specs.Rules.{leastTerminals, mostTerminals, mostRelays, mostButtons, inRange, terminalFine, endsFine}
-use Rattle.board.specs.Rules.{limitOf}
 use Rattle.board.specs.Sorts.{isRegular, isSteel, Wound}
 use Rattle.board.proofs.PaddedLaws.{padded-parts}
 use Rattle.board.proofs.TallyLaws.{Tallied, tallied-none, tallied-gained, tallied-wound, wound-tallied}
 use Rattle.board_reader.specs.Reading.{wanted, countsAt, nameAt, partAt, partsAt, boardFrom, boardAt}
 use Rattle.board_reader.proofs.FieldLaws.{range-bounds}
 use Rattle.board_reader.proofs.CountsLaws.{count-most, counts-found}
-use Rattle.file_means.specs.FileRefusals.{StandsAt, Stage, at-T, at-R, at-B, at-C, at-part, at-first, at-second}
-use Rattle.file_means.specs.FileRefusals.{at-name, NumberWanted, Reached, start, T-fine, R-fine, B-fine, C-fine}
-use Rattle.file_means.specs.FileRefusals.{kind-fine, first-fine, second-fine, wire-fine, button-fine, relay-fine}
-use Rattle.file_means.specs.FileRefusals.{Comes, LineHolds, line1, line2, line3-T, line3-R, line3-B, line3-C}
-use Rattle.file_means.specs.FileRefusals.{line4, line5-first, line5-second, line6, line7-button, line7-relay}
-use Rattle.file_means.specs.FileRefusals.{line8, line9}
+use Rattle.file_means.specs.FileRefusals.{StandsAt, FileStage, at-T, at-R, at-B, at-C, at-part, at-first}
+use Rattle.file_means.specs.FileRefusals.{at-second, at-name, NumberWanted, Reached, start, T-fine, R-fine}
+use Rattle.file_means.specs.FileRefusals.{B-fine, C-fine, kind-fine, first-fine, second-fine, wire-fine}
+use Rattle.file_means.specs.FileRefusals.{button-fine, relay-fine, NumberStands, LineHolds, line1, line2, line3-T}
+use Rattle.file_means.specs.FileRefusals.{line3-R, line3-B, line3-C, line4, line5-first, line5-second, line6}
+use Rattle.file_means.specs.FileRefusals.{line7-button, line7-relay, line8, line9}
 use Rattle.file_means.proofs.GivesLaws.{Gives}
 use Rattle.file_means.proofs.PartTrip.{PartIsFine, part-read}
 use Rattle.file_means.proofs.TakenLaws.{taken-barred, barred-taken}
@@ -59,13 +58,13 @@ range-outside low high v off =
 module _ (s : List ℕ) where
   -- ---- 1 and 2, the form of a wanted number, and then the line of its test
 
-  module _ (f : Stage) (at : ℕ) (here : Reached s f at) (asked : NumberWanted f) where
+  module _ (f : FileStage) (at : ℕ) (here : Reached s f at) (asked : NumberWanted f) where
     form-holds : (n p : ℕ) → numberAt s at ≡ refused n p
         → ((n ≡ inputEnds) × (p ≡ length s)) ⊎ ((n ≡ badForm) × (p ≡ at)) → LineHolds s n p
     form-holds n p e (inl (one, end)) = rw (one, end) (line1 here asked (rw (one, end) at e))
     form-holds n p e (inr (two, place)) = rw (two, place) (line2 here asked (rw (two, place) at e))
 
-    wanted-leads : (ok : ℕ → Bool) (n : ℕ) → ((v : ℕ) → Comes s f at v → ok v ≡ false → LineHolds s n at)
+    wanted-leads : (ok : ℕ → Bool) (n : ℕ) → ((v : ℕ) → NumberStands s f at v → ok v ≡ false → LineHolds s n at)
         → Leads (LineHolds s) (λ v. StandsAt s at (v .value) (v .next) × (ok (v .value) ≡ true)) (wanted ok n s at)
     unfolding wanted
     wanted-leads ok n fails =
@@ -75,7 +74,7 @@ module _ (s : List ℕ) where
         (fails (v .value) (here, asked, v .next, read)) (λ fine. (read, fine)))
 
     field-leads : {B : Type 0} (Q : B → Type 0) (ok : ℕ → Bool) (n : ℕ) (g : Found ℕ → Outcome B)
-        → ((v : ℕ) → Comes s f at v → ok v ≡ false → LineHolds s n at)
+        → ((v : ℕ) → NumberStands s f at v → ok v ≡ false → LineHolds s n at)
         → ((v : Found ℕ) → StandsAt s at (v .value) (v .next) → ok (v .value) ≡ true → Leads (LineHolds s) Q (g v))
         → Leads (LineHolds s) Q (wanted ok n s at >>= g)
     field-leads Q ok n g fails later =
@@ -109,8 +108,8 @@ module _ (s : List ℕ) where
 
     -- a relay or button is wanted, and then 8 is tested
     module _ (k a b at : ℕ) (here : Reached s (at-name c ps k a b) at) (carries : ¬ (k ≡ 0)) (limit : ℕ) where
-      carried-leads : ((v : ℕ) → Comes s (at-name c ps k a b) at v → limit ≤ v → LineHolds s noSuchName at)
-          → ((v : ℕ) → Comes s (at-name c ps k a b) at v → v < limit → windingFree w (kindOf k v) ≡ false
+      carried-leads : ((v : ℕ) → NumberStands s (at-name c ps k a b) at v → limit ≤ v → LineHolds s noSuchName at)
+          → ((v : ℕ) → NumberStands s (at-name c ps k a b) at v → v < limit → windingFree w (kindOf k v) ≡ false
           → LineHolds s windingTaken at)
           → ((v next : ℕ) → StandsAt s at v next → v < limit → windingFree w (kindOf k v) ≡ true
           → Reached s (at-part c (ps ++ (record { a = a; b = b; kind = kindOf k v } ∷ []))) next)
@@ -206,7 +205,8 @@ module _ (s : List ℕ) where
     unfolding partsAt
     parts-lead zero ps w at so-far here all = end-leads ps w at so-far here (omega arith)
     parts-lead (suc n) ps w at so-far here all =
-        leads-then (LineHolds s) _ _ (partAt c w s at) _ (part-leads c ps w so-far at here (omega arith)) (λ p read there.
+        leads-then (LineHolds s) _ _ (partAt c w s at) _ (part-leads c ps w so-far at here (omega arith))
+        (λ p read there.
         let w′ = gained w (p .value .kind) in
         let more = ps ++ (p .value ∷ []) in
         let fine : PartIsFine c w s at p =
@@ -225,7 +225,8 @@ module _ (s : List ℕ) where
   board-leads =
       leads-then (LineHolds s) _ _ (countsAt s) _ counts-lead (λ c read start.
       let counts = counts-found s (c .value) (c .next) read in
-      let few = count-most 0 mostRelays s (counts .relays-at) (c .value .relays) (counts .buttons-at) (counts .relays) in
+      let few =
+      count-most 0 mostRelays s (counts .relays-at) (c .value .relays) (counts .buttons-at) (counts .relays) in
       leads-then (LineHolds s) _ _ (partsAt (c .value) (c .value .parts) noneWound s (c .next)) _
       (parts-lead (c .value) few (c .value .parts) [] noneWound (c .next) tallied-none start (omega arith))
       (λ ps _ so. rw (padded-parts (c .value) (ps .value) (sym (so .counted))) so))

@@ -1,5 +1,5 @@
--- The bytes after a board, stated over two calls of `board_reader::read`. Rule book: "Reading also returns the place just
--- after the board; bytes there aren't judged."
+-- The bytes after a board, stated over two calls of `board_reader::read`. Rule book: "Reading also returns the place
+-- just after the board; bytes there aren't judged."
 --     BytesAfter    a board that is accepted up to place n ends within the input. Every input that is short enough and
 --                   begins with the same n bytes gives the same board, and the same place
 use Prim.Native.Nat.{ℕ, _≤_}

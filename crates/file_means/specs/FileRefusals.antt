@@ -1,28 +1,31 @@
 -- The numbers for no of a board file, line by line. Rule book: the table "Numbers for no", lines 1 to 10, and "A number
--- is given exactly when its line holds and none before it in the order does." The order is left to right, a part's
--- fields as they come: that a stage of the file is reached says that no line holds of the numbers before it.
--- Nothing here goes by the reader: a stage is reached by the numbers that stand one after the other (`numberAt`) and by
--- how they compare, and windings are counted over the parts so far (`crates/board/specs/Sorts.antt`).
+-- is given exactly when its line holds and none before it in the order does. [..] Order: 10 first; then left to right,
+-- each number's form (1, 2) before its meaning, and for a part 4, 5, 5, 6, 7, 8 as its fields come; then 9."
+-- Nothing here goes by the reader. A stage of the file is reached by the numbers that stand there one after the other
+-- and by how they compare, so that no line holds of those before it; and windings are counted over the parts so far, by
+-- `crates/board/specs/Sorts.antt`.
 --     StandsAt s p v next     the number v stands at place p, and `next` is the place just after it. What the form of a
 --                             number is, and when it ends or is bad, `numberAt` says
---     Taken r ps k            8: by the parts ps, relay r already has the winding of kind number k, or is of the other
+--     Taken r ps k            by the parts ps relay r already has the winding of kind number k, or is of the other
 --                             sort
---     Stage                   what comes next in the file, and what was read before it:
+--     FileStage               what comes next in the file, after what was read:
 --       at-T                  T
---       at-R t, at-B t r, at-C t r b
---                             R, B and C, after the counts t, r, b
---       at-part c ps          one more part, or the board's end, after the counts c and the parts ps
+--       at-R t                R, after T is t
+--       at-B t r              B, after R is r
+--       at-C t r b            C, after B is b
+--       at-part c ps          one more part or the board's end, after the counts c and the parts ps
 --       at-first c ps k       the first end of a part of kind number k
 --       at-second c ps k a    its second end, after the first end a
---       at-name c ps k a b    its relay or button, after the ends a and b; a wire has none
---     NumberWanted f          at stage f a number is wanted: C counts the parts, and a wire has no relay or button
---     Reached s f p           stage f is reached at place p: the numbers before it are fine
---     Comes s f p v           a number is wanted at stage f, which is reached at place p, and v stands there
+--       at-name c ps k a b    its relay or button, after the second end b; a wire has none
+--     NumberWanted f          a number is wanted at stage f: for a part while the parts are fewer than C, for a name
+--                             unless the part is a wire
+--     Reached s f p           stage f is reached at place p: every number before it is fine
+--     NumberStands s f p v    stage f is reached at place p, a number is wanted, and v stands there
 --     LineHolds s n p         line n of the table holds at place p, and none before it
 --     FileRefused             over the call `board_reader::read`: it is refused by n at p exactly if line n holds
 --                             there, and none before it
 --     FileAccepted            over the same call: where it is accepted up to place n, the counts and parts of the board
---                             are the numbers of the file up to there, the parts are C, and every relay is regular or
+--                             are the numbers that stand before n, the parts are C, and every relay is regular or
 --                             steel-core
 use Prim.Native.Nat.{ℕ, _+_, _<_, _≤_}
 use mathlib.Core.Path.{_≡_}
@@ -52,17 +55,17 @@ pub data Taken (r : ℕ) (ps : List Part) : ℕ → Type 0 where
   is-steel : 0 < windingsOf drawingKind r ps + windingsOf droppingKind r ps → Taken r ps regularKind
   is-regular : {k : ℕ} → regularKind < k → 0 < windingsOf regularKind r ps → Taken r ps k
 
-pub data Stage : Type 0 where
-  at-T : Stage
-  at-R : ℕ → Stage
-  at-B : ℕ → ℕ → Stage
-  at-C : ℕ → ℕ → ℕ → Stage
-  at-part : Counts → List Part → Stage
-  at-first : Counts → List Part → ℕ → Stage
-  at-second : Counts → List Part → ℕ → ℕ → Stage
-  at-name : Counts → List Part → ℕ → ℕ → ℕ → Stage
+pub data FileStage : Type 0 where
+  at-T : FileStage
+  at-R : ℕ → FileStage
+  at-B : ℕ → ℕ → FileStage
+  at-C : ℕ → ℕ → ℕ → FileStage
+  at-part : Counts → List Part → FileStage
+  at-first : Counts → List Part → ℕ → FileStage
+  at-second : Counts → List Part → ℕ → ℕ → FileStage
+  at-name : Counts → List Part → ℕ → ℕ → ℕ → FileStage
 
-abbrev pub NumberWanted : Stage → Type 0
+abbrev pub NumberWanted : FileStage → Type 0
 NumberWanted at-T = Unit {0}
 NumberWanted (at-R t) = Unit {0}
 NumberWanted (at-B t r) = Unit {0}
@@ -72,7 +75,7 @@ NumberWanted (at-first c ps k) = Unit {0}
 NumberWanted (at-second c ps k a) = Unit {0}
 NumberWanted (at-name c ps k a b) = ¬ (k ≡ 0)
 
-pub data Reached (s : List ℕ) : Stage → ℕ → Type 0 where
+pub data Reached (s : List ℕ) : FileStage → ℕ → Type 0 where
   start : Reached s at-T 0
   T-fine : {t p next : ℕ} → Reached s at-T p → StandsAt s p t next → leastTerminals ≤ t → t ≤ mostTerminals
       → Reached s (at-R t) next
@@ -96,29 +99,30 @@ pub data Reached (s : List ℕ) : Stage → ℕ → Type 0 where
       → ¬ (k ≡ buttonKind) → StandsAt s p v next → v < c .relays → ¬ Taken v ps k
       → Reached s (at-part c (ps ++ (record { a = a; b = b; kind = kindOf k v } ∷ []))) next
 
-abbrev pub Comes : List ℕ → Stage → ℕ → ℕ → Type 0
-Comes s f p v = Reached s f p × NumberWanted f × (next : ℕ) × StandsAt s p v next
+abbrev pub NumberStands : List ℕ → FileStage → ℕ → ℕ → Type 0
+NumberStands s f p v = Reached s f p × NumberWanted f × (next : ℕ) × StandsAt s p v next
 
 pub data LineHolds (s : List ℕ) : ℕ → ℕ → Type 0 where
-  line1 : {f : Stage} {at : ℕ} → Reached s f at → NumberWanted f → numberAt s at ≡ refused inputEnds (length s)
+  line1 : {f : FileStage} {at : ℕ} → Reached s f at → NumberWanted f → numberAt s at ≡ refused inputEnds (length s)
       → LineHolds s inputEnds (length s)
-  line2 : {f : Stage} {p : ℕ} → Reached s f p → NumberWanted f → numberAt s p ≡ refused badForm p
+  line2 : {f : FileStage} {p : ℕ} → Reached s f p → NumberWanted f → numberAt s p ≡ refused badForm p
       → LineHolds s badForm p
-  line3-T : {v p : ℕ} → Comes s at-T p v → (v < leastTerminals) ⊎ (mostTerminals < v) → LineHolds s outOfRange p
-  line3-R : {t v p : ℕ} → Comes s (at-R t) p v → mostRelays < v → LineHolds s outOfRange p
-  line3-B : {t r v p : ℕ} → Comes s (at-B t r) p v → mostButtons < v → LineHolds s outOfRange p
-  line3-C : {t r b v p : ℕ} → Comes s (at-C t r b) p v → mostParts < v → LineHolds s outOfRange p
-  line4 : {c : Counts} {ps : List Part} {v p : ℕ} → Comes s (at-part c ps) p v → lastKind < v → LineHolds s noSuchKind p
-  line5-first : {c : Counts} {ps : List Part} {k v p : ℕ} → Comes s (at-first c ps k) p v → c .terminals ≤ v
+  line3-T : {v p : ℕ} → NumberStands s at-T p v → (v < leastTerminals) ⊎ (mostTerminals < v) → LineHolds s outOfRange p
+  line3-R : {t v p : ℕ} → NumberStands s (at-R t) p v → mostRelays < v → LineHolds s outOfRange p
+  line3-B : {t r v p : ℕ} → NumberStands s (at-B t r) p v → mostButtons < v → LineHolds s outOfRange p
+  line3-C : {t r b v p : ℕ} → NumberStands s (at-C t r b) p v → mostParts < v → LineHolds s outOfRange p
+  line4 : {c : Counts} {ps : List Part} {v p : ℕ} → NumberStands s (at-part c ps) p v → lastKind < v
+      → LineHolds s noSuchKind p
+  line5-first : {c : Counts} {ps : List Part} {k v p : ℕ} → NumberStands s (at-first c ps k) p v → c .terminals ≤ v
       → LineHolds s noSuchTerminal p
-  line5-second : {c : Counts} {ps : List Part} {k a v p : ℕ} → Comes s (at-second c ps k a) p v → c .terminals ≤ v
-      → LineHolds s noSuchTerminal p
-  line6 : {c : Counts} {ps : List Part} {k a p : ℕ} → Comes s (at-second c ps k a) p a → LineHolds s endsEqual p
-  line7-button : {c : Counts} {ps : List Part} {a b v p : ℕ} → Comes s (at-name c ps buttonKind a b) p v
+  line5-second : {c : Counts} {ps : List Part} {k a v p : ℕ} → NumberStands s (at-second c ps k a) p v
+      → c .terminals ≤ v → LineHolds s noSuchTerminal p
+  line6 : {c : Counts} {ps : List Part} {k a p : ℕ} → NumberStands s (at-second c ps k a) p a → LineHolds s endsEqual p
+  line7-button : {c : Counts} {ps : List Part} {a b v p : ℕ} → NumberStands s (at-name c ps buttonKind a b) p v
       → c .buttons ≤ v → LineHolds s noSuchName p
-  line7-relay : {c : Counts} {ps : List Part} {k a b v p : ℕ} → Comes s (at-name c ps k a b) p v → ¬ (k ≡ buttonKind)
-      → c .relays ≤ v → LineHolds s noSuchName p
-  line8 : {c : Counts} {ps : List Part} {k a b v p : ℕ} → Comes s (at-name c ps k a b) p v → v < c .relays
+  line7-relay : {c : Counts} {ps : List Part} {k a b v p : ℕ} → NumberStands s (at-name c ps k a b) p v
+      → ¬ (k ≡ buttonKind) → c .relays ≤ v → LineHolds s noSuchName p
+  line8 : {c : Counts} {ps : List Part} {k a b v p : ℕ} → NumberStands s (at-name c ps k a b) p v → v < c .relays
       → Taken v ps k → LineHolds s windingTaken p
   line9 : {c : Counts} {ps : List Part} {r p : ℕ} → Reached s (at-part c ps) p → length ps ≡ c .parts → r < c .relays
       → ¬ isRegular r ps → ¬ isSteel r ps → LineHolds s windingLacking p

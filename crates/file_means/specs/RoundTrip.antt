@@ -2,8 +2,8 @@
 -- their promises. Demand 2: "write then read gives the board, read then write gives the bytes read."
 --     Wrote b out w out′    `write` was called on board b and the buffer `out`, answered w and left the buffer out′
 --     WasRead s r           `read` was called on the bytes s and answered r
---     WriteThenRead         a file that was written is within the longest input. A board that was written and read again,
---                           with any bytes behind it, is the same board, and reading stops where writing stopped
+--     WriteThenRead         a file that was written is within the longest input. A board that was written and read
+--                           again, with any bytes behind it, is the same board, and reading stops where writing stopped
 --     ReadThenWrite         a board that was read and written again is never refused by 15, and its bytes are those
 --                           that were read
 -- A slice's bytes are below 256 (`Bytes`) and an array of parts has 256 places; lists do not say so by themselves.
