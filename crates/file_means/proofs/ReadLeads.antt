@@ -191,7 +191,7 @@ module _ (s : List ℕ) where
         let r = some .0 in
         let never : ¬ (isRegular r ps ⊎ isSteel r ps) =
         λ sort. false≢true (sym (some .2) ∙ wound-tallied w ps r (so-far r) sort) in
-        line9 here all (some .1) (λ regular. never (inl regular)) (λ steel. never (inr steel)))
+        line9 here (omega (arith, all)) (some .1) (λ regular. never (inl regular)) (λ steel. never (inr steel)))
         (λ full.
         rw (append-nil ps) (record {
           reached = here;
