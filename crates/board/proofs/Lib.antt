@@ -5,3 +5,4 @@ pub mod PaddedLaws
 pub mod FineLaws
 pub mod WindingLaws
 pub mod BreaksNoRule
+pub mod TallyLaws
