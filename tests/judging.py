@@ -152,13 +152,11 @@ def batches(found):
 
 
 def compared(found, stack=None):
-    """A check for each judgement: that the program prints its line."""
+    """A check for each judgement, that the program prints its line, and that it prints no others."""
     checks = []
     for own in batches(found):
-        told = program.answers("current_cases", "".join(text for text, _ in own), stack)
-        checks.append((f"a text of {len(own)} cases has {len(told)} answers", len(told) == len(own)))
-        told += [None] * (len(own) - len(told))
-        checks += [(f"{text.strip()}: wanted {want}, got {got}", want == got) for (text, want), got in zip(own, told)]
+        cases, wanted = zip(*own)
+        checks += program.compared(cases, wanted, program.answers(program.command("current_cases", stack), "".join(cases)))
     return checks
 
 

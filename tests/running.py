@@ -169,13 +169,16 @@ def long_runs(dice):
     return [run_case(model.Board(*own, MOST_CHAINS), set(), pushed, LARGEST, model.LONGEST_LOG) for own, pushed in boards]
 
 
-def answers(found):
-    """What the program prints for each case; None for those of a text that it answers with more lines or fewer."""
-    told = []
+def compared(found):
+    """A check for each case, that the program prints its line, and that it prints no others; and what it prints for each case,
+    None where a line is missing."""
+    checks, told = [], []
     for own in judging.batches(found):
-        lines = program.answers("run_cases", "".join(text for text, _ in own))
-        told += lines if len(lines) == len(own) else [None] * len(own)
-    return told
+        cases, wanted = zip(*own)
+        lines = program.answers(program.command("run_cases"), "".join(cases))
+        checks += program.compared(cases, wanted, lines)
+        told += (lines + [None] * len(own))[: len(own)]
+    return checks, told
 
 
 def goes_on(less, more):
@@ -218,8 +221,7 @@ def compare(seed, boards):
             groups.append((len(found) + len(of_moves), [asked for _, asked in of_runs]))
             found += of_moves + [each for each, _ in of_runs]
     found += long_runs(dice)
-    told = answers(found)
-    checks = [(f"{text.strip()}: wanted {want}, got {got}", want == got) for (text, want), got in zip(found, told)]
+    checks, told = compared(found)
     for start, asked in groups:
         wrong = disagreeing(list(zip(asked, told[start:])))
         checks.append((f"{found[start][0].strip()}: of two runs from this state the one goes on as the other did: {wrong}", not wrong))

@@ -1,12 +1,15 @@
-"""Starting a proved program by its name, as `rt` starts it: `rt check NAME` builds it as target/bin/NAME. Used by the comparisons and
-the measurements."""
+"""Starting a proved program by its name, as `rt` starts it: `rt check NAME` builds it as target/bin/NAME; and what a run of
+it comes to. A test holds all of that to what is wanted: the whole output, standard error and the exit status. Used by the
+comparisons and the measurements."""
 import os
 import platform
 import shutil
 import subprocess
+import typing
 
 import repository
 
+PATIENCE = 120  # seconds that a run may take
 TEXT_ROOM = 65_400  # a program of typed cases takes texts of fewer than 65,536 bytes
 SESSION_END = b".\n"  # of many sessions, the line after those of each
 
@@ -44,17 +47,49 @@ def numbers(values):
     return "".join(f"{value:06x}" for value in values)
 
 
-def answers(name, text, stack=None):
-    """The lines that a program of typed cases prints for a text."""
-    told = subprocess.run(command(name, stack), input=text.encode(), capture_output=True).stdout.decode()
-    return told.split("\n")[:-1]
+class Told(typing.NamedTuple):
+    """What a run comes to: standard output, standard error, and the exit status (below 0 a signal ended it, None: no end)."""
+
+    out: bytes
+    errors: bytes
+    status: typing.Optional[int]
+
+
+def well(out):
+    """A run that prints this, says nothing on standard error, and ends with status 0."""
+    return Told(out, b"", 0)
+
+
+def run(start, data=b"", **more):
+    """A program, started so, run to its end with this on its standard input, or with other streams."""
+    streams = {"stdout": subprocess.PIPE, "stderr": subprocess.PIPE, "timeout": PATIENCE} | ({} if "stdin" in more else {"input": data}) | more
+    try:
+        told = subprocess.run(start, **streams)
+    except subprocess.TimeoutExpired as late:
+        return Told(late.stdout or b"", late.stderr or b"", None)
+    return Told(told.stdout or b"", told.stderr or b"", told.returncode)
+
+
+def answers(start, text):
+    """The lines that a program of typed cases, started so, prints for a text. Where it does not end well, or inside a line, a
+    last line says so, which is no case's answer."""
+    told = run(start, text.encode())
+    *lines, rest = told.out.decode(errors="replace").split("\n")
+    return lines if told == well(told.out) and not rest else lines + [f"({rest!r}, then {told.errors!r}, status {told.status})"]
+
+
+def compared(cases, wanted, told):
+    """A check for each case, that its line is the one that is wanted; and one that there are no more lines than cases, and no
+    fewer."""
+    checks = [(f"{len(wanted)} cases have as many answers, not {len(told)}; after them {told[len(wanted):][:3]}", len(told) == len(wanted))]
+    told = told + [None] * (len(wanted) - len(told))
+    return checks + [(f"{case.strip()}: wanted {want}, got {got}", want == got) for case, want, got in zip(cases, wanted, told)]
 
 
 def many(start, sessions):
     """What a program, started so, prints for each of many sessions, given to it one after the other, each after its length in
-    four bytes. None for all of them where that is not one answer for each, or it complains."""
-    stream = b"".join(len(session).to_bytes(4, "little") + session for session in sessions)
-    told = subprocess.run(start, input=stream, capture_output=True)
-    found = told.stdout.split(SESSION_END)
-    fine = told.returncode == 0 and not told.stderr and len(found) == len(sessions) + 1 and not found[-1]
+    four bytes. None for all of them where that is not one answer for each, or it does not end well."""
+    told = run(start, b"".join(len(session).to_bytes(4, "little") + session for session in sessions), timeout=10 * PATIENCE)
+    found = told.out.split(SESSION_END)
+    fine = told == well(told.out) and len(found) == len(sessions) + 1 and not found[-1]
     return found[:-1] if fine else [None] * len(sessions)
