@@ -1,7 +1,8 @@
 """Compares the proved program `file_cases` with the model of the rule book in tests/lib/board_model.py on thousands of
 generated cases: good files, damaged files, cut files, random bytes, boards handed in with and without a fault. Those are
-moved and run as well, by `run_cases`. Seeded, so each run tries the same cases; `python3 tests/board_files.py SEED BATCHES`
-tries others. Needs target/bin/file_cases and target/bin/run_cases, which `rt check file_cases run_cases` builds."""
+moved and run as well, by `run_cases`. Seeded, so each run tries the same cases; `python3 tests/board_files.py SEED CASES`
+tries others, or more (it is 1 and 10,500 else). Needs target/bin/file_cases and target/bin/run_cases, which
+`rt check file_cases run_cases` builds."""
 import os
 import random
 import sys
@@ -105,47 +106,40 @@ def file_answer(ending, data):
     return f"read {next_place} wrote {next_place} same" if ending == ">" else "short refused 16 kept"
 
 
-def batch(dice):
-    """The cases of one text, each with its ending, its bytes and the lines that it should print: one, or for a board handed in
-    three."""
-    size, found = 0, []
-    while True:
-        ending = dice.choice(">>>!!?")
-        data = handed_case(dice) if ending == "!" else file_case(dice)
-        size += len(data.hex()) + 2
-        if size > program.TEXT_ROOM:
-            return found
-        found.append((ending, data, handed_answers(data) if ending == "!" else (file_answer(ending, data),)))
+def some_case(dice):
+    """A case: its ending, its bytes and the lines that it should print: one, or for a board handed in three."""
+    ending = dice.choice(">>>!!?")
+    data = handed_case(dice) if ending == "!" else file_case(dice)
+    return ending, data, handed_answers(data) if ending == "!" else (file_answer(ending, data),)
 
 
 def compared(name, cases, wanted):
     """The checks that a program prints these lines for these cases, and no others."""
-    return program.compared(cases, wanted, program.answers(program.command(name), "".join(cases)))
+    return program.compared(cases, wanted, program.answers(program.command(name), cases))
 
 
-def batch_checks(found):
-    """The checks on a batch: all of it by `file_cases`, the boards handed in also by `run_cases`, moved and then run."""
+def case_checks(found):
+    """The checks on some cases: all of them by `file_cases`, the boards handed in also by `run_cases`, moved and then run."""
     checks = compared("file_cases", [data.hex() + ending + "\n" for ending, data, _ in found], [lines[0] for _, _, lines in found])
     handed = [(data, lines) for ending, data, lines in found if ending == "!"]
     for place, ending in enumerate(ASKED, 1):
-        cases = [program.numbers(ASKED[ending]) + data.hex() + ending + "\n" for data, _ in handed]
+        cases = [program.handed_case(ASKED[ending], data, ending) for data, _ in handed]
         checks += compared("run_cases", cases, [lines[place] for _, lines in handed])
     return checks
 
 
-def compare(seed, batches):
-    dice, checks, words = random.Random(seed), [], set()
-    for _ in range(batches):
-        found = batch(dice)
-        checks += batch_checks(found)
-        for want in (line for _, _, lines in found for line in lines):
-            words.update(f"refused {number.split()[0]}" for number in want.split("refused ")[1:])
-            words.add(want.split()[0])
+def compare(seed, count):
+    dice, words = random.Random(seed), set()
+    found = [some_case(dice) for _ in range(count)]
+    checks = case_checks(found)
+    for want in (line for _, _, lines in found for line in lines):
+        words.update(f"refused {number.split()[0]}" for number in want.split("refused ")[1:])
+        words.add(want.split()[0])
     for word in ["read", "write", "short"] + [f"refused {number}" for number in (1, 2, 3, 4, 5, 6, 7, 8, 9, 11, 12, 14, 15, 16)]:
         checks.append((f"some case answers {word}", word in words))
     return checks
 
 
 if __name__ == "__main__":
-    seed, batches = (int(word) for word in sys.argv[1:3]) if len(sys.argv) > 2 else (1, 30)
-    sys.exit(repository.report(compare(seed, batches)))
+    seed, count = (int(word) for word in sys.argv[1:3]) if len(sys.argv) > 2 else (1, 10_500)
+    sys.exit(repository.report(compare(seed, count)))

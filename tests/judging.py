@@ -139,25 +139,10 @@ def deep_judgements():
     return found
 
 
-def batches(found):
-    """The judgements in lists whose texts the program takes."""
-    size, own = 0, []
-    for text, line in found:
-        if size + len(text) > program.TEXT_ROOM:
-            yield own
-            size, own = 0, []
-        size += len(text)
-        own.append((text, line))
-    yield own
-
-
 def compared(found, stack=None):
     """A check for each judgement, that the program prints its line, and that it prints no others."""
-    checks = []
-    for own in batches(found):
-        cases, wanted = zip(*own)
-        checks += program.compared(cases, wanted, program.answers(program.command("current_cases", stack), "".join(cases)))
-    return checks
+    cases, wanted = zip(*found)
+    return program.compared(cases, wanted, program.answers(program.command("current_cases", stack), cases))
 
 
 def compare(seed, boards):

@@ -1,6 +1,7 @@
 """Starting a proved program by its name, as `rt` starts it: `rt check NAME` builds it as target/bin/NAME; and what a run of
 it comes to. A test holds all of that to what is wanted: the whole output, standard error and the exit status. Used by the
 comparisons and the measurements."""
+import itertools
 import os
 import platform
 import shutil
@@ -42,9 +43,9 @@ def command(name, stack=None):
     return ["sh", "-c", 'ulimit -s "$0" && exec "$@"', str(stack // 1024)] + start if stack else start
 
 
-def numbers(values):
-    """The text of the numbers before a board that is handed to `run_cases`."""
-    return "".join(f"{value:06x}" for value in values)
+def handed_case(numbers, board, ending):
+    """The text of a case for `run_cases`: some numbers, then the bytes of a board handed in."""
+    return "".join(f"{number:06x}" for number in numbers) + board.hex() + ending + "\n"
 
 
 class Told(typing.NamedTuple):
@@ -70,20 +71,34 @@ def run(start, data=b"", **more):
     return Told(told.stdout or b"", told.stderr or b"", told.returncode)
 
 
-def answers(start, text):
-    """The lines that a program of typed cases, started so, prints for a text. Where it does not end well, or inside a line, a
-    last line says so, which is no case's answer."""
-    told = run(start, text.encode())
-    *lines, rest = told.out.decode(errors="replace").split("\n")
-    return lines if told == well(told.out) and not rest else lines + [f"({rest!r}, then {told.errors!r}, status {told.status})"]
+def texts(cases):
+    """Texts of these cases, one after the other, that a program of typed cases takes."""
+    text = ""
+    for case in cases:
+        if len(text) + len(case) > TEXT_ROOM:
+            yield text
+            text = ""
+        text += case
+    yield text
+
+
+def lines(told):
+    """The lines of a run. Where it does not end well, or inside a line, a last one says so, which is no answer."""
+    *found, rest = told.out.decode(errors="replace").split("\n")
+    return found if told == well(told.out) and not rest else found + [f"({rest!r}, then {told.errors!r}, status {told.status})"]
+
+
+def answers(start, cases):
+    """The lines that a program of typed cases, started so, prints for these cases."""
+    return [line for text in texts(cases) for line in lines(run(start, text.encode()))]
 
 
 def compared(cases, wanted, told):
     """A check for each case, that its line is the one that is wanted; and one that there are no more lines than cases, and no
     fewer."""
-    checks = [(f"{len(wanted)} cases have as many answers, not {len(told)}; after them {told[len(wanted):][:3]}", len(told) == len(wanted))]
-    told = told + [None] * (len(wanted) - len(told))
-    return checks + [(f"{case.strip()}: wanted {want}, got {got}", want == got) for case, want, got in zip(cases, wanted, told)]
+    many = f"{len(cases)} cases have as many answers, not {len(told)}, where {len(wanted)} are wanted; after them {told[len(cases):][:3]}"
+    lines = itertools.islice(itertools.zip_longest(cases, wanted, told), len(cases))
+    return [(many, len(cases) == len(wanted) == len(told))] + [(f"{case.strip()}: wanted {want}, got {got}", want == got is not None) for case, want, got in lines]
 
 
 def many(start, sessions):
