@@ -1,9 +1,11 @@
 """Runs the script `herdspiral` on each session of samples/ and compares what it prints with the lines beside it, byte by
 byte; on long sessions; and, over a repository and a kit that stand in for the real ones (tests/lib/stand_in.py), tries its
-typed text, its errors, and when it asks `rt` to build. Nothing in the repository is changed but target/, where the script
-leaves its stamp. Needs the Rattle kit; the script builds target/bin/herdspiral if it is missing."""
+typed text, its errors, and when it asks `rt` to build. What a start comes to is compared whole: its output, its exact words on
+standard error, its status. Holds README.md to the samples that it shows. Nothing in the repository is changed but target/,
+where the script leaves its stamp. Needs the Rattle kit; the script builds target/bin/herdspiral if it is missing."""
 import os
 import platform
+import re
 import shutil
 import sys
 import tempfile
@@ -103,6 +105,20 @@ def samples():
             for way, told in ways.items():
                 checks.append(same(f"samples/{name}.hex{way}", told, want))
     return checks
+
+
+def readme():
+    """README.md shows commands that run a sample, each with the lines that it prints, and the typed bytes of one of them."""
+    blocks = re.findall(r"(?:^    .*\n)+", repository.text("README.md"), re.M)
+    blocks = [[line[4:] for line in block.split("\n")[:-1]] for block in blocks]
+    printed = iter([block for block in blocks if block[0].startswith("0 ")])
+    shown = [re.fullmatch(r"\./herdspiral samples/(.+)\.hex", line) for block in blocks for line in block]
+    names = [command[1] for command in shown if command]
+    checks = [same("README.md runs these samples", names, ["h2", "h1"])]
+    for name in names:
+        checks.append(same(f"README.md on samples/{name}.hex", "\n".join(next(printed, [])) + "\n", repository.text("samples", name + ".lines")))
+    typed = [bytes_of("\n".join(block)) for block in blocks if re.match(r"[0-9a-f]{2} [0-9a-f]{2} ", block[0])]
+    return checks + [same("the typed session of README.md", typed, [bytes_of(repository.text("samples", "h1.hex"))])]
 
 
 def long_sessions():
@@ -282,7 +298,7 @@ def over_the_program():
     told = run(repository.path("samples", "h0.hex"), timeout=None)
     if told.status:
         return [(f"the program starts; status {told.status}: {told.errors.decode()[-600:]}", False)]
-    return samples() + long_sessions() + settled()
+    return samples() + readme() + long_sessions() + settled()
 
 
 if __name__ == "__main__":
