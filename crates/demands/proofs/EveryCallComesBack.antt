@@ -34,6 +34,7 @@ use Rattle.demands.proofs.RefusedLaws.{left-outcome, left-refused, agai
 use Rattle.demands.proofs.RefusedLaws.{verdict-against, verdict-refused, ran-against, ran-refused}
 use Rattle.demands.proofs.RefusedLaws.{next-line-stands}
 use Rattle.demands.proofs.EventLineLaws.{ran-line-stands, event-line-stands, shown-untouched}
+use Rattle.demands.proofs.OneAnswer.{one-answer}
 
 pub in-order : InOrder
 unfolding pushing releasing judging moving running
@@ -126,4 +127,4 @@ as-lent = record {
 }
 
 pub every-call-comes-back : EveryCallComesBack
-every-call-comes-back = record { in-order = in-order; as-lent = as-lent }
+every-call-comes-back = record { comes-back = one-answer; in-order = in-order; as-lent = as-lent }

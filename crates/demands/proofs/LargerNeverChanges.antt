@@ -17,8 +17,8 @@ use Rattle.search.specs.declared.Verdict.{Verdict}
 use Rattle.search.specs.Verdicts.{firstShown, effort, places, weighed, verdictBy, inSets}
 use Rattle.judge.specs.declared.Which.the-variants.{First}
 use Rattle.judge.specs.RelayWindings.{windingOf}
-use Rattle.judge.specs.Judging.{windingFor, judging}
-use Rattle.judge_means.specs.Exactness.{Judges, Judge, Keeps, AcceptedWinding, IsLive, effortOf}
+use Rattle.judge.specs.Judging.{windingFor, judging, Judges}
+use Rattle.judge_means.specs.Exactness.{Judge, Keeps, AcceptedWinding, IsLive, effortOf}
 use Rattle.judge_means.proofs.Exactness.{liveVerdict, deadVerdict, the-chains, effort-numbers, judges-keep}
 use Rattle.judge_means.proofs.Exactness.{live-exactly, dead-exactly, undecided-exactly, live-shows, dead-counts}
 use Rattle.judge_means.proofs.Exactness.{undecided-reports}

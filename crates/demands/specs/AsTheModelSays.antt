@@ -1,13 +1,24 @@
--- Demand 2: "Relays move as the published model says. A relay draws when a chain of conducting parts that meets no
--- terminal twice runs from plus to minus through its winding, and drops when there is none. Board files keep their
--- meaning: write then read gives the board, read then write gives the bytes read. A run moves the lowest relay that can
--- move until it is idle or must stop."
---     AsTheModelSays    the demand: each field is a statement over the calls, put into words in the file that
---                       defines it
+-- Demand 2, in the user's own words, and what states each sentence:
+--     "Relays move as the relay circuit model published by the Technical University of Denmark says."
+--         `paths`, `carrying`: the model's paths and its current are ours; `current`: what is called live or dead goes
+--         exactly by it, within the allowance; `moves`: a relay is moved exactly by the model's guards
+--     "A relay draws when a chain of conducting parts that meets no terminal twice runs from plus to minus through its
+--     winding, and drops when there is none."
+--         `regular`, of the relay's `winding`; `sorts`: each relay is regular or steel-core; `changes`: a move changes
+--         that relay and nothing else
+--     "A steel-core relay moves only on its drawing or dropping winding."
+--         `steel`
+--     "Board files keep their meaning both ways: write then read gives the board, read then write gives the bytes
+--     read."
+--         `written-read`, `read-written`; `bytes-after`: what stands behind a board does not bear on it
+--     "A run moves the lowest relay that can move until it is idle or must stop."
+--         `runs`; and what a session prints of its runs: `lines`, `all-lines`, `events`, `drawn`
+-- Each field is a statement over the calls, put into words in the file that defines it.
+--     AsTheModelSays    the demand
 use Rattle.file_means.specs.RoundTrip.{WriteThenRead, ReadThenWrite}
 use Rattle.board.specs.BreaksNoRule.{EveryRelaySort}
 use Rattle.judge_means.specs.Circuits.{PathsAreChains, LiveIsCarrying}
-use Rattle.judge_means.specs.Exactness.{Judges, AsPublished}
+use Rattle.judge_means.specs.Exactness.{AsPublished}
 use Rattle.judge_means.specs.Eleven.{TheWinding}
 use Rattle.moves_means.specs.SingleMoves.{MoveExactly}
 use Rattle.moves_means.specs.ByChains.{RegularByChains, SteelByChains}
@@ -15,6 +26,7 @@ use Rattle.moves_means.specs.OneRelay.{ChangesOneRelay}
 use Rattle.runs_means.specs.Courses.{RunExactly}
 use Rattle.session_means.specs.HandedLines.{LinesHandedOut, AllHandedOut}
 use Rattle.session_means.specs.EventRefusals.{EventsRefused}
+use Rattle.judge.specs.Judging.{Judges}
 use Rattle.session_means.specs.LinesDrawn.{LinesDrawn}
 
 pub record AsTheModelSays : Type 0 where

@@ -1,8 +1,14 @@
--- Demand 1: "Every call comes back. Whatever it is given, it answers; what it cannot use it refuses by number, in a
--- stated order, with the state as given and no byte of a lent log or output buffer written."
--- That a call ends, whatever it is given, the prover shows of every function. What it answers is the definition in its
--- promise, for every input. Here is what the calls that refuse have in common; that a number is refused by its form (1,
--- 2) is all that `read_number` refuses, and its definition says when.
+-- Demand 1, in the user's own words, and what states each sentence:
+--     "Give the simulator anything: a cut board file, a wrong state, a relay that isn't there. Every call comes back."
+--         `comes-back`: whatever a call is given, its promise allows exactly one answer; that the call ends, the prover
+--         shows of every function before it builds it. A cut board file is line 1 of `reads`, a wrong state 14 of each
+--         call on a state, a relay that isn't there `eleven` and `eleven-moved`
+--     "What it can't use it refuses by number, in a stated order,"
+--         `in-order`: the first line that holds, of each call's lines in the stated order. What stands behind two of
+--         these lines: `fifteen`, a board that breaks a rule; `eleven`, a winding that isn't there
+--     "with the state as given and no byte of a lent log or output buffer written."
+--         `as-lent`
+-- The words:
 --     against o                   what stands against a call that came to o: its refusal, or nothing
 --     firstNo ls                  the first of these lines whose test fails, by its number at place 0, or nothing
 --     isThere o                   whether o is something, and not none
@@ -12,10 +18,9 @@
 --     pressLines b s v            those of the event v, which pushes or releases its button
 --     wordOf l                    the word of the run that a line tells of, or what refused it
 --     InOrder                     what stands against each call is the first of its lines whose test fails; a file is
---                                 refused exactly by the first line of the table that holds, from left to right; and 11
---                                 is its line
---                                 and 15 is its line: `boardFine`, the first test of every call on a board, says that
---                                 the board breaks no rule
+--                                 refused exactly by the first line of the table that holds, from left to right; 11
+--                                 and 15 are given exactly if their lines hold. That a number is refused by its form
+--                                 (1, 2) is all that `read_number` refuses, and its definition says when
 --     AsLent                      "A refused read returns number, place and the empty board. A refused call returns the
 --                                 number, place 0 and the state it was given, if it takes one; a refused run also 0
 --                                 moves and relay 255, a refused judgement no verdict, effort 0 and length 0, a refused
@@ -32,7 +37,7 @@ use Rattle.number.specs.Outcomes.{Outcome, given, refused}
 use Rattle.number.specs.Refusals.{badForm, noSuchName, noSuchWinding, alreadySo, logTooLong, stateBeyondBoard}
 use Rattle.number.specs.Refusals.{brokenBoard, bufferTooShort}
 use Rattle.number.specs.declared.NumberWritten.{NumberWritten}
-use Rattle.number.specs.Numbers.{largest, numberBytes, numberWriting, toldNumberWritten}
+use Rattle.number.specs.Numbers.{largest, numberBytes, toldNumberWritten, WritesNumber}
 use Rattle.board.specs.declared.Board.{Board}
 use Rattle.board.specs.Parts.{partsOf, emptyBoard}
 use Rattle.board.specs.Rules.{boardFine}
@@ -40,39 +45,37 @@ use Rattle.board.specs.BreaksNoRule.{FifteenExactly}
 use Rattle.state.specs.declared.State.{State}
 use Rattle.state.specs.States.{isPushed, stateFine}
 use Rattle.presses.specs.declared.Pressed.{Pressed}
-use Rattle.presses.specs.Presses.{pushing, releasing, toldPress, toldPressed}
+use Rattle.presses.specs.Presses.{toldPress, Pushes, Releases}
 use Rattle.board_reader.specs.declared.BoardRead.{BoardRead}
-use Rattle.board_reader.specs.Reading.{toldReadAnswer}
+use Rattle.board_reader.specs.Reading.{toldReadAnswer, Reads}
 use Rattle.board_writer.specs.declared.Written.{Written}
 use Rattle.board_writer.specs.File.{boardBytes}
-use Rattle.board_writer.specs.Writing.{toldWritten, bytesWritten}
-use Rattle.file_means.specs.RoundTrip.{Wrote, WasRead}
+use Rattle.board_writer.specs.Writing.{toldWritten, bytesWritten, Writes}
 use Rattle.file_means.specs.FileRefusals.{FileRefused}
 use Rattle.search.specs.declared.Verdict.{Verdict}
 use Rattle.search.specs.Verdicts.{places, toldFinding}
 use Rattle.judge.specs.declared.Which.{Which}
 use Rattle.judge.specs.RelayWindings.{windingOf}
-use Rattle.judge_means.specs.Exactness.{Judges}
+use Rattle.judge.specs.Judging.{Judges}
 use Rattle.judge_means.specs.Eleven.{ElevenExactly}
 use Rattle.moves.specs.declared.Moved.{Moved}
-use Rattle.moves.specs.Moving.{toldMoveAnswer}
-use Rattle.moves_means.specs.SingleMoves.{Moves, MoveElevenExactly}
+use Rattle.moves.specs.Moving.{toldMoveAnswer, Moves}
+use Rattle.moves_means.specs.SingleMoves.{MoveElevenExactly}
 use Rattle.runs.specs.declared.Ran.{Ran}
 use Rattle.runs.specs.Runs.{noRelay}
-use Rattle.runs.specs.Running.{longestLog, toldEnding}
-use Rattle.runs_means.specs.LongerRuns.{Runs}
+use Rattle.runs.specs.Running.{longestLog, toldEnding, Runs}
 use Rattle.runs.specs.Looks.{Ending}
 use Rattle.lines.specs.declared.Line.{Line}
 use Rattle.lines.specs.declared.LineWritten.{LineWritten}
 use Rattle.lines.specs.Lines as told
-use Rattle.lines.specs.Lines.{event, closing}
-use Rattle.lines.specs.Lines.{longestLine, lineWriting, toldLine, toldLineWritten}
+use Rattle.lines.specs.Lines.{event, closing, longestLine, toldLine, toldLineWritten, WritesLine}
 use Rattle.events.specs.declared.Shown.{Shown}
-use Rattle.events.specs.Events.{buttonOf, pushes, ranLine, eventLine, toldShown}
+use Rattle.events.specs.Events.{buttonOf, pushes, RunsLine, EventLine}
 use Rattle.session.specs.declared.Session.{Session}
 use Rattle.session.specs.declared.Handed.{Handed}
 use Rattle.session.specs.HandingOut.{toldHandOut}
 use Rattle.session_means.specs.HandedLines.{Called}
+use Rattle.demands.specs.OneAnswer.{OneAnswer}
 
 abbrev pub against : {A : Type 0} → Outcome A → Outcome (Unit {0})
 against (given a) = given tt
@@ -127,19 +130,19 @@ pub record InOrder : Type 0 where
   pub eleven-moved : MoveElevenExactly
   pub fifteen : FifteenExactly
   pub writes-number : (v : ℕ) (out out′ : List ℕ) (at : ℕ) (x : NumberWritten)
-      → _≡_ {A = Outcome ℕ × List ℕ} (toldNumberWritten x, out′) (numberWriting v out at)
+      → WritesNumber v out at x out′
       → against (toldNumberWritten x) ≡ firstNo (numberLines v out at)
   pub writes-line : (l : Line) (out out′ : List ℕ) (x : LineWritten)
-      → _≡_ {A = Outcome ℕ × List ℕ} (toldLineWritten x, out′) (lineWriting (toldLine l) out)
+      → WritesLine l out x out′
       → against (toldLineWritten x) ≡ firstNo (lineLines out)
   pub writes : (b : Board) (out out′ : List ℕ) (w : Written)
-      → Wrote b out w out′
+      → Writes b out w out′
       → against (toldWritten w) ≡ firstNo (writeLines b out)
   pub pushes : (b : Board) (s : State) (n : ℕ) (x : Pressed)
-      → toldPressed x ≡ pushing b s n
+      → Pushes b s n x
       → toldPress (x .answer) ≡ firstNo (pushLines b s n)
   pub releases : (b : Board) (s : State) (n : ℕ) (x : Pressed)
-      → toldPressed x ≡ releasing b s n
+      → Releases b s n x
       → toldPress (x .answer) ≡ firstNo (releaseLines b s n)
   pub judges : (b : Board) (s : State) (r : ℕ) (k : Which) (w : ℕ) (v : Verdict)
       → Judges b s r k w v
@@ -152,10 +155,10 @@ pub record InOrder : Type 0 where
       → against (toldEnding (a .word)) ≡ firstNo (runLines b s log)
   -- a session's log of 4,096 is never too long (13), and the run after a push or release is never refused
   pub tells-run : (b : Board) (e : ℕ) (s : State) (w : ℕ) (x : Shown)
-      → toldShown x ≡ ranLine b e s w
+      → RunsLine b e s w x
       → against (wordOf (toldLine (x .line))) ≡ firstNo (usableLines b s [])
   pub tells-event : (b : Board) (e : ℕ) (s : State) (v w : ℕ) (x : Shown)
-      → toldShown x ≡ eventLine b e s v w
+      → EventLine b e s v w x
       → against (wordOf (toldLine (x .line))) ≡ firstNo (pressLines b s v)
   pub hands : (z : Session) (s out out′ : List ℕ) (r : Handed)
       → Called z s out r out′
@@ -163,27 +166,27 @@ pub record InOrder : Type 0 where
 
 pub record AsLent : Type 0 where
   pub reads : (s : List ℕ) (r : BoardRead) (n p : ℕ)
-      → WasRead s r
+      → Reads s r
       → toldReadAnswer (r .answer) ≡ refused n p
       → r .board ≡ emptyBoard
   pub writes-number : (v : ℕ) (out out′ : List ℕ) (at : ℕ) (x : NumberWritten) (n p : ℕ)
-      → _≡_ {A = Outcome ℕ × List ℕ} (toldNumberWritten x, out′) (numberWriting v out at)
+      → WritesNumber v out at x out′
       → toldNumberWritten x ≡ refused n p
       → out′ ≡ out
   pub writes-line : (l : Line) (out out′ : List ℕ) (x : LineWritten) (n p : ℕ)
-      → _≡_ {A = Outcome ℕ × List ℕ} (toldLineWritten x, out′) (lineWriting (toldLine l) out)
+      → WritesLine l out x out′
       → toldLineWritten x ≡ refused n p
       → out′ ≡ out
   pub writes : (b : Board) (out out′ : List ℕ) (w : Written) (n p : ℕ)
-      → Wrote b out w out′
+      → Writes b out w out′
       → toldWritten w ≡ refused n p
       → (out′ ≡ out) × (bytesWritten w ≡ 0)
   pub pushes : (b : Board) (s : State) (k : ℕ) (x : Pressed) (n p : ℕ)
-      → toldPressed x ≡ pushing b s k
+      → Pushes b s k x
       → toldPress (x .answer) ≡ refused n p
       → x .state ≡ s
   pub releases : (b : Board) (s : State) (k : ℕ) (x : Pressed) (n p : ℕ)
-      → toldPressed x ≡ releasing b s k
+      → Releases b s k x
       → toldPress (x .answer) ≡ refused n p
       → x .state ≡ s
   pub judges : (b : Board) (s : State) (r : ℕ) (k : Which) (w : ℕ) (v : Verdict) (n p : ℕ)
@@ -199,11 +202,11 @@ pub record AsLent : Type 0 where
       → toldEnding (a .word) ≡ refused n p
       → (a .state ≡ s) × ((a .moves ≡ 0) × ((a .relay ≡ noRelay) × (log′ ≡ log)))
   pub tells-run : (b : Board) (e : ℕ) (s : State) (w : ℕ) (x : Shown) (n p : ℕ)
-      → toldShown x ≡ ranLine b e s w
+      → RunsLine b e s w x
       → wordOf (toldLine (x .line)) ≡ refused n p
       → (toldLine (x .line) ≡ event e (refused n p) 0 (s .drawn)) × (x .state ≡ s)
   pub tells-event : (b : Board) (e : ℕ) (s : State) (v w : ℕ) (x : Shown) (n p : ℕ)
-      → toldShown x ≡ eventLine b e s v w
+      → EventLine b e s v w x
       → wordOf (toldLine (x .line)) ≡ refused n p
       → (toldLine (x .line) ≡ event e (refused n p) 0 (s .drawn)) × (x .state ≡ s)
   pub hands : (z : Session) (s out out′ : List ℕ) (r : Handed) (n p : ℕ)
@@ -212,5 +215,6 @@ pub record AsLent : Type 0 where
       → (r .session ≡ z) × (out′ ≡ out)
 
 pub record EveryCallComesBack : Type 0 where
+  pub comes-back : OneAnswer
   pub in-order : InOrder
   pub as-lent : AsLent

@@ -8,9 +8,10 @@
 --     LargerNeverChanges    the demand
 use mathlib.Core.Path.{_≡_}
 use Rattle.search.specs.declared.Finding.{Finding}
-use Rattle.judge_means.specs.Exactness.{Judges, Judge, TheChains, EffortNumbers, LiveExactly, DeadExactly}
+use Rattle.judge_means.specs.Exactness.{Judge, TheChains, EffortNumbers, LiveExactly, DeadExactly}
 use Rattle.judge_means.specs.Exactness.{UndecidedExactly, LiveShows, DeadCounts, UndecidedReports}
 use Rattle.judge_means.specs.Allowances.{LargerAllowance, TurnsAtEffort, EffortSome}
+use Rattle.judge.specs.Judging.{Judges}
 use Rattle.runs_means.specs.LongerRuns.{LongerRun}
 
 pub record JudgedExactly (J : Judge) : Type 0 where

@@ -16,13 +16,13 @@ use Rattle.bits.proofs.BoolLaws.{both-true}
 use Rattle.board.proofs.PaddedLaws.{padded-parts}
 use Rattle.board.proofs.RuleLaws.{counts-in-range}
 use Rattle.board.proofs.SameLaws.{equal-same-board}
-use Rattle.board_reader.specs.Reading.{boardOf, longestInput, answered, reading, toldReadAnswer}
+use Rattle.board_reader.specs.Reading.{boardOf, longestInput, answered, reading, toldReadAnswer, Reads}
 use Rattle.board_reader.specs.declared.BoardRead.{BoardRead}
 use Rattle.board_writer.specs.File.{boardBytes}
 use Rattle.board_writer.specs.Writing.{writing}
 use Rattle.board_writer.proofs.WriteLaws.{writing-with-room}
 use Rattle.board_writer.proofs.FileLaws.{board-file-bound, WasWritten, writing-given}
-use Rattle.file_means.specs.RoundTrip.{WasRead, WriteThenRead, ReadThenWrite}
+use Rattle.file_means.specs.RoundTrip.{WriteThenRead, ReadThenWrite}
 use Rattle.file_means.proofs.StandLaws.{StandsTo}
 use Rattle.file_means.proofs.GivesLaws.{Gives}
 use Rattle.file_means.proofs.BoardTrip.{board-reads, BoardIsFine}
@@ -79,7 +79,7 @@ writes b out n fine long room =
     writing-with-room b out fine (omega arith) ∙ ap (λ (m : ℕ). (given m, boardBytes b ++ drop m out)) (sym long)
 
 -- a board that was read is fine and stands at the start of the input
-pub was-read-fine : (s : List ℕ) (r : BoardRead) (n : ℕ) → WasRead s r → toldReadAnswer (r .answer) ≡ given n
+pub was-read-fine : (s : List ℕ) (r : BoardRead) (n : ℕ) → Reads s r → toldReadAnswer (r .answer) ≡ given n
     → BoardIsFine s (r .board) n
 was-read-fine s r n read told =
     subst (λ (a : Board × Outcome ℕ). Gives (BoardIsFine s (a .0)) (a .1))

@@ -9,17 +9,16 @@ use lib.ListN.{length, take}
 use Rattle.number.specs.Outcomes.{given}
 use Rattle.number.specs.Numbers.{Bytes}
 use Rattle.board_reader.specs.declared.BoardRead.{BoardRead}
-use Rattle.board_reader.specs.Reading.{longestInput, toldReadAnswer}
-use Rattle.file_means.specs.RoundTrip.{WasRead}
+use Rattle.board_reader.specs.Reading.{longestInput, toldReadAnswer, Reads}
 
 abbrev pub BytesAfter : Type 0
 BytesAfter =
     (s s′ : List ℕ) (r r′ : BoardRead) (n : ℕ)
     → Bytes s
-    → WasRead s r
+    → Reads s r
     → toldReadAnswer (r .answer) ≡ given n
     → (n ≤ length s)
     × (length s′ ≤ longestInput
     → take n s′ ≡ take n s
-    → WasRead s′ r′
+    → Reads s′ r′
     → (r′ .board ≡ r .board) × (toldReadAnswer (r′ .answer) ≡ given n))

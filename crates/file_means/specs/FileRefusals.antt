@@ -44,8 +44,7 @@ use Rattle.board.specs.Parts.{partsOf, mostParts}
 use Rattle.board.specs.Rules.{leastTerminals, mostTerminals, mostRelays, mostButtons}
 use Rattle.board.specs.Sorts.{windingsOf, isRegular, isSteel, Wound}
 use Rattle.board_reader.specs.declared.BoardRead.{BoardRead}
-use Rattle.board_reader.specs.Reading.{longestInput, toldReadAnswer}
-use Rattle.file_means.specs.RoundTrip.{WasRead}
+use Rattle.board_reader.specs.Reading.{longestInput, toldReadAnswer, Reads}
 
 abbrev pub StandsAt : List ℕ → ℕ → ℕ → ℕ → Type 0
 StandsAt s p v next = numberAt s p ≡ found v next
@@ -130,14 +129,14 @@ pub data LineHolds (s : List ℕ) : ℕ → ℕ → Type 0 where
 abbrev pub FileRefused : Type 0
 FileRefused =
     (s : List ℕ) (r : BoardRead) (n p : ℕ)
-    → WasRead s r
+    → Reads s r
     → toldReadAnswer (r .answer) ≡ refused n p
     ↔ ((longestInput < length s) × (n ≡ inputTooLong) × (p ≡ 0)) ⊎ ((length s ≤ longestInput) × LineHolds s n p)
 
 abbrev pub FileAccepted : Type 0
 FileAccepted =
     (s : List ℕ) (r : BoardRead) (n : ℕ)
-    → WasRead s r
+    → Reads s r
     → toldReadAnswer (r .answer) ≡ given n
     → Reached s (at-part (r .board .counts) (partsOf (r .board))) n
     × (length (partsOf (r .board)) ≡ r .board .counts .parts)

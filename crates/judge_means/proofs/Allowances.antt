@@ -20,9 +20,9 @@ use Rattle.search.specs.Verdicts as verdict
 use Rattle.search.specs.Verdicts.{firstShown, effort}
 use Rattle.search.proofs.VerdictLaws.{effort-some}
 use Rattle.judge.specs.declared.Which.{Which}
-use Rattle.judge.specs.Judging.{windingFor}
+use Rattle.judge.specs.Judging.{windingFor, Judges}
 use Rattle.judge.proofs.JudgeLaws.{judging-by}
-use Rattle.judge_means.specs.Exactness.{Judges, Judge, Keeps, effortOf}
+use Rattle.judge_means.specs.Exactness.{Judge, Keeps, effortOf}
 use Rattle.judge_means.specs.Allowances.{Settled, LargerAllowance, TurnsAtEffort, EffortSome}
 use Rattle.judge_means.proofs.Exactness.{liveVerdict, deadVerdict, FindingBy, live-by, dead-by, undecided-by}
 use Rattle.judge_means.proofs.Exactness.{verdict-finding}

@@ -33,10 +33,9 @@ use Rattle.search.specs.Verdicts as verdict
 use Rattle.judge.specs.declared.Which.{Which}
 use Rattle.judge.specs.declared.Which.the-variants.{First, Second}
 use Rattle.judge.specs.RelayWindings.{isFirst, isWinding, windingOf}
-use Rattle.judge.specs.Judging.{windingFor}
+use Rattle.judge.specs.Judging.{windingFor, Judges}
 use Rattle.judge.proofs.SoughtLaws.{endsOf, winding-here, winding-past, winding-none}
 use Rattle.judge.proofs.JudgeLaws.{winding-for-sought, winding-for-given, winding-for-eleven, judging-by}
-use Rattle.judge_means.specs.Exactness.{Judges}
 use Rattle.judge_means.specs.Eleven.{LineEleven, ElevenExactly, TheWinding}
 use Rattle.judge_means.proofs.Exactness.{FindingBy, live-by, dead-by, undecided-by, verdict-finding}
 use Rattle.lists.proofs.CountedLaws.{worth, counted, member-counted, counted-only}

@@ -36,9 +36,10 @@ use Rattle.search.specs.Verdicts.{firstShown, effort, places, settled, weighed,
 use Rattle.search.proofs.VerdictLaws.{weighed-within, weighed-short, FirstAt, first-shown-at, first-shown-some}
 use Rattle.search.proofs.VerdictLaws.{first-shown-none, effort-none, told-verdict-injective}
 use Rattle.judge.specs.declared.Which.{Which}
+use Rattle.judge.specs.Judging.{Judges}
 use Rattle.judge.proofs.JudgeLaws.{winding-for-given, judging-by}
 use Rattle.judge_means.specs.Circuits.{WindingCarries}
-use Rattle.judge_means.specs.Exactness.{Judges, Judge, Keeps, AcceptedWinding, chainsOf, ChainOf, IsLive}
+use Rattle.judge_means.specs.Exactness.{Judge, Keeps, AcceptedWinding, chainsOf, ChainOf, IsLive}
 use Rattle.judge_means.specs.Exactness.{effortOf, TheChains, FirstShowing, EffortNumbers, OfEveryVerdict}
 use Rattle.judge_means.specs.Exactness.{LiveExactly, DeadExactly, UndecidedExactly, FirstChain, LiveShows}
 use Rattle.judge_means.specs.Exactness.{ShowsNone, DeadCounts, UndecidedReports, AsPublished}

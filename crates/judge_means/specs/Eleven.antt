@@ -25,7 +25,8 @@ use Rattle.search.specs.Verdicts.{toldFinding}
 use Rattle.judge.specs.declared.Which.{Which}
 use Rattle.judge.specs.declared.Which.the-variants.{Second}
 use Rattle.judge.specs.RelayWindings.{isWinding}
-use Rattle.judge_means.specs.Exactness.{Judges, AcceptedWinding}
+use Rattle.judge.specs.Judging.{Judges}
+use Rattle.judge_means.specs.Exactness.{AcceptedWinding}
 
 abbrev pub LineEleven : Board → ℕ → Which → Type 0
 LineEleven b r n = (b .counts .relays ≤ r) ⊎ ((n ≡ Second) × isRegular r (partsOf b))

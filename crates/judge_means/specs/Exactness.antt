@@ -3,8 +3,6 @@
 -- exactly when the first chain that shows it lies within the allowance, dead exactly when there is none and all chains
 -- lie within it, otherwise undecided." Rule book: "Live, with the first such chain shown, exactly if the winding is
 -- live and its effort is at most W. Dead exactly if it is dead and its effort is at most W. Undecided otherwise."
---     Judges b s r n w v           `judge` was called on board b, state s, winding n of relay r and allowance w,
---                                  and answered v
 --     Judge                        which verdicts a judge can answer on a board, a state, a winding of a relay and an
 --                                  allowance
 --     Keeps J                      the judge J answers nothing that the promise of `judge` does not allow
@@ -24,8 +22,8 @@
 --     LiveExactly J                "Live .. exactly if"
 --     DeadExactly J                "Dead exactly if"
 --     UndecidedExactly J           "Undecided otherwise"
---     FirstChain b s e v           v shows the first chain that shows winding e, before every other one in the
---                                  rule book's order, and its effort is that chain's number
+--     FirstChain b s e v           v shows the first chain that shows winding e, before every other one in the rule
+--                                  book's order, and its effort is that chain's number
 --     LiveShows J                  so it is of a live verdict
 --     ShowsNone v                  v shows no chain
 --     DeadCounts J                 dead reports the number of all chains, and no chain
@@ -50,12 +48,9 @@ use Rattle.judge_means.specs.Circuits.{WindingCarries}
 use Rattle.search.specs.declared.Winding.{Winding}
 use Rattle.search.specs.declared.Verdict.{Verdict}
 use Rattle.search.specs.declared.Finding.the-variants as said
-use Rattle.search.specs.Verdicts.{effort, places, toldVerdict}
+use Rattle.search.specs.Verdicts.{effort, places}
 use Rattle.judge.specs.declared.Which.{Which}
-use Rattle.judge.specs.Judging.{windingFor, judging}
-
-abbrev pub Judges : Board → State → ℕ → Which → ℕ → Verdict → Type 0
-Judges b s r n w v = toldVerdict v ≡ judging b s r n w
+use Rattle.judge.specs.Judging.{windingFor, Judges}
 
 abbrev pub Judge : Type 1
 Judge = Board → State → ℕ → Which → ℕ → Verdict → Type 0

@@ -28,9 +28,9 @@ use Rattle.search.proofs.VerdictLaws.{weighed-within, weighed-short}
 use Rattle.judge.specs.declared.Which.{Which}
 use Rattle.judge.specs.declared.Which.the-variants.{First, Second}
 use Rattle.judge.specs.RelayWindings.{windingOf}
-use Rattle.judge.specs.Judging.{judging}
+use Rattle.judge.specs.Judging.{judging, Judges}
 use Rattle.judge.proofs.JudgeLaws.{winding-for-sought, judging-by}
-use Rattle.judge_means.specs.Exactness.{Judges, AcceptedWinding, chainsOf, effortOf}
+use Rattle.judge_means.specs.Exactness.{AcceptedWinding, chainsOf, effortOf}
 use Rattle.judge_means.specs.Eleven.{LineEleven}
 use Rattle.judge_means.proofs.Exactness.{liveVerdict, deadVerdict, judges-keep, as-published}
 use Rattle.judge_means.proofs.Eleven.{missing-exactly, the-winding}

@@ -24,10 +24,10 @@ use Rattle.judge.specs.declared.Which.the-variants.{First, Second}
 use Rattle.judge.specs.Judging.{judging}
 use Rattle.moves.specs.Steps.{Move, moveBy, stepOf, made}
 use Rattle.moves.specs.declared.Moved.{Moved}
-use Rattle.moves.specs.Moving.{movable, toldMoveAnswer, toldMoved}
+use Rattle.moves.specs.Moving.{movable, toldMoveAnswer, toldMoved, Moves}
 use Rattle.moves.proofs.StepLaws.{step-judging}
 use Rattle.moves.proofs.MovingLaws.{movable-given, movable-lacking, moving-refused, moving-moved}
-use Rattle.moves_means.specs.SingleMoves.{Moves, Comes, StepExactly, MoveExactly, MoveElevenExactly}
+use Rattle.moves_means.specs.SingleMoves.{Comes, StepExactly, MoveExactly, MoveElevenExactly}
 use Rattle.moves_means.proofs.FindingLaws.{first-finding, second-finding, second-missing}
 use Rattle.moves_means.proofs.ComesLaws.{regular-comes, steel-comes, comes-exclusive}
 

@@ -27,8 +27,7 @@ use Rattle.judge.specs.RelayWindings.{windingOf}
 use Rattle.judge_means.specs.Exactness.{IsLive, effortOf}
 use Rattle.moves.specs.declared.Moved.{Moved}
 use Rattle.moves.specs.Steps.{Move, drew, dropped, rests, undecided, conflict}
-use Rattle.moves.specs.Moving.{movable, toldMoveAnswer}
-use Rattle.moves_means.specs.SingleMoves.{Moves}
+use Rattle.moves.specs.Moving.{movable, toldMoveAnswer, Moves}
 
 abbrev pub Undecided : Board → State → Winding → ℕ → Type 0
 Undecided b s e w = w < effortOf b s e

@@ -15,8 +15,7 @@ use Rattle.state.specs.declared.State.{State}
 use Rattle.state.specs.States.{isDrawn, isPushed}
 use Rattle.moves.specs.declared.Moved.{Moved}
 use Rattle.moves.specs.Steps.{Move, drew, dropped, rests, undecided, conflict}
-use Rattle.moves.specs.Moving.{toldMoveAnswer}
-use Rattle.moves_means.specs.SingleMoves.{Moves}
+use Rattle.moves.specs.Moving.{toldMoveAnswer, Moves}
 
 pub record ElseAsBefore (s : State) (r : ℕ) (t : State) : Type 0 where
   pub relays : (q : ℕ) → ¬ (q ≡ r) → isDrawn t q ≡ isDrawn s q

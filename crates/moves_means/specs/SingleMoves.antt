@@ -4,7 +4,6 @@
 --     Comes b s r m w      what the word m says of relay r in state s within the allowance w
 --     StepExactly          of a relay of a board and a state that are not refused: it comes to m exactly if `Comes`
 --                          holds of m
---     Moves b s r w a      `move_relay` was called on board b, state s, relay r and allowance w, and answered a
 --     MoveExactly          the call's word is m exactly if `Comes` holds of m, and the state is changed by drew and
 --                          dropped alone, and only in that relay
 --     MoveElevenExactly    the call refuses by 11, "no such relay", exactly if neither 15 nor 14 holds and the board
@@ -27,7 +26,7 @@ use Rattle.judge.specs.RelayWindings.{windingOf}
 use Rattle.judge_means.specs.Exactness.{effortOf}
 use Rattle.moves.specs.declared.Moved.{Moved}
 use Rattle.moves.specs.Steps.{Move, drew, dropped, rests, undecided, conflict, stepOf, made}
-use Rattle.moves.specs.Moving.{movable, moving, toldMoveAnswer, toldMoved}
+use Rattle.moves.specs.Moving.{movable, toldMoveAnswer, Moves}
 use Rattle.moves_means.specs.Guards.{CanDraw, CanDrop, BothCurrents}
 
 pub record NeedsMore (b : Board) (s : State) (r w : ℕ) : Type 0 where
@@ -50,9 +49,6 @@ StepExactly =
     → stateFine (b .counts) s ≡ true
     → r < b .counts .relays
     → stepOf b s r w ≡ m ↔ Comes b s r m w
-
-abbrev pub Moves : Board → State → ℕ → ℕ → Moved → Type 0
-Moves b s r w a = toldMoved a ≡ moving b s r w
 
 abbrev pub MoveExactly : Type 0
 MoveExactly =

@@ -9,10 +9,10 @@ use Rattle.board.specs.declared.Board.{Board}
 use Rattle.state.specs.declared.State.{State}
 use Rattle.runs.specs.declared.Ran.{Ran}
 use Rattle.runs.specs.Runs.{Run}
-use Rattle.runs.specs.Running.{ran, runOn, toldEnding, toldRan}
+use Rattle.runs.specs.Running.{ran, runOn, toldEnding, toldRan, Runs}
 use Rattle.number.proofs.Told.{told-lent-injective}
 use Rattle.runs.proofs.RunningLaws.{running-by, ran-told}
-use Rattle.runs_means.specs.LongerRuns.{Runs, AcceptedRun, movesOf}
+use Rattle.runs_means.specs.LongerRuns.{AcceptedRun, movesOf}
 
 -- a call that is not refused tells of the run
 pub accepted-ran : (b : Board) (s : State) (w : ℕ) (log : List ℕ) (a : Ran) (l : List ℕ) → Runs b s log w a l
