@@ -168,7 +168,7 @@ module _ (b : Board) (out : List ℕ) {A : Type 0} where
       (omega (arith, board-bytes-sum b, leb-false (length (boardBytes b)) (length out) off)) refl)))
       (λ off. broken (writing-broken b out off refl))
 
--- so `write` never refuses such a buffer by 16
+-- `write` never refuses a buffer of LONGEST_FILE bytes by 16
 pub write-never-short : (b : Board) (out out′ : List ℕ) (w : Written) → longestFile ≤ length out
     → _≡_ {A = Answered} (toldWritten w, out′) (writing b out) → ¬ (toldWritten w ≡ refused bufferTooShort 0)
 write-never-short b out out′ w room wrote short =

@@ -88,7 +88,7 @@ fn press_buttons(board: Board) {
     print_pressed(b" beyond ", presses::push(board, beyond, 0));
 }
 
-// Writes a board into a buffer as long as the longest file, which is too short for none (16).
+// Writes a board into a buffer as long as the longest file: none is refused by 16.
 fn write_any(board: Board, out: &mut [u8]) -> Written
     requires { ⌜ length (now out) ≡ longestFile ⌝ }
     ensures { λ r. ⌜ ¬ (toldWritten r ≡ refused bufferTooShort 0) ⌝ }
