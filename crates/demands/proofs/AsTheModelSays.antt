@@ -1,6 +1,8 @@
 -- Demand 2: each field is a theorem of a wing.
-use Rattle.file_means.proofs.RoundTrip.{write-then-read, read-then-write}
 use Rattle.board.proofs.BreaksNoRule.{every-relay-sort}
+use Rattle.file_means.proofs.RoundTrip.{write-then-read, read-then-write}
+use Rattle.file_means.proofs.BytesAfter.{bytes-after}
+use Rattle.file_means.proofs.FileRefusals.{file-accepted}
 use Rattle.judge_means.proofs.Circuits.{paths-are-chains, live-is-carrying}
 use Rattle.judge_means.proofs.Exactness.{judges-keep, as-published}
 use Rattle.judge_means.proofs.Eleven.{the-winding}
@@ -27,6 +29,8 @@ as-the-model-says = record {
   runs = run-exactly;
   written-read = write-then-read;
   read-written = read-then-write;
+  file-read = file-accepted;
+  bytes-after = bytes-after;
   lines = lines-handed-out;
   all-lines = all-handed-out;
   events = events-refused;

@@ -10,13 +10,17 @@
 --         `steel`
 --     "Board files keep their meaning both ways: write then read gives the board, read then write gives the bytes
 --     read."
---         `written-read`, `read-written`; `bytes-after`: what stands behind a board does not bear on it
+--         `written-read`, `read-written`; `file-read`: a board that was read is what stands in the file; `bytes-after`:
+--         what stands behind a board does not bear on it
 --     "A run moves the lowest relay that can move until it is idle or must stop."
 --         `runs`; and what a session prints of its runs: `lines`, `all-lines`, `events`, `drawn`
 -- Each field is a statement over the calls, put into words in the file that defines it.
 --     AsTheModelSays    the demand
-use Rattle.file_means.specs.RoundTrip.{WriteThenRead, ReadThenWrite}
 use Rattle.board.specs.BreaksNoRule.{EveryRelaySort}
+use Rattle.file_means.specs.RoundTrip.{WriteThenRead, ReadThenWrite}
+use Rattle.file_means.specs.BytesAfter.{BytesAfter}
+use Rattle.file_means.specs.FileRefusals.{FileAccepted}
+use Rattle.judge.specs.Judging.{Judges}
 use Rattle.judge_means.specs.Circuits.{PathsAreChains, LiveIsCarrying}
 use Rattle.judge_means.specs.Exactness.{AsPublished}
 use Rattle.judge_means.specs.Eleven.{TheWinding}
@@ -26,7 +30,6 @@ use Rattle.moves_means.specs.OneRelay.{ChangesOneRelay}
 use Rattle.runs_means.specs.Courses.{RunExactly}
 use Rattle.session_means.specs.HandedLines.{LinesHandedOut, AllHandedOut}
 use Rattle.session_means.specs.EventRefusals.{EventsRefused}
-use Rattle.judge.specs.Judging.{Judges}
 use Rattle.session_means.specs.LinesDrawn.{LinesDrawn}
 
 pub record AsTheModelSays : Type 0 where
@@ -50,6 +53,8 @@ pub record AsTheModelSays : Type 0 where
   -- board files keep their meaning
   pub written-read : WriteThenRead
   pub read-written : ReadThenWrite
+  pub file-read : FileAccepted
+  pub bytes-after : BytesAfter
   -- the lines handed out are the session's lines; its events are refused by 12 alone, and each prints the sum over
   -- its drawn relays
   pub lines : LinesHandedOut

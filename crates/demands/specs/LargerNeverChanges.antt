@@ -1,17 +1,29 @@
--- Demand 3: "A larger allowance never changes live or dead, and of two runs from one board and state the more generous
--- one starts with every move of the other."
---     JudgedExactly J       what the demand asks of a judge J; and "an invented effort" is shut out, "as the verdict
---                           turns at that number"
+-- Demand 3, in the user's own words, and what states each sentence:
+--     "A larger allowance never changes live or dead."
+--         `larger`, of `judge`; and "an invented effort" is shut out, "as the verdict turns at that number": `turns`,
+--         `effort`
+--     "Number the chains from plus in the order of our rule book."
+--         `chains`; `numbers`: the effort of a winding is such a number
+--     "A winding is called live exactly when the first chain that shows it lies within the allowance, dead exactly when
+--     there is none and all chains lie within it, otherwise undecided."
+--         `live`, `dead`, `undecided`, and what is shown and reported with each: `shown`, `counted`, `reported`. Rule
+--         book: "a judge that says undecided always, or dead always", is shut out "by the "exactly" in demand 3":
+--         `always`
+--     "So of two accepted runs from one board and state, the one with no shorter log and no less allowance per winding
+--     starts with every move of the other, and where the other ended idle or in conflict it ends with that word in that
+--     same state."
+--         `runs`
+-- The words:
+--     JudgedExactly J       what the demand asks of a judge J
 --     AlwaysSays f          the judge that answers f, whatever it is asked
---     NoWordAlways          rule book: "a judge that says undecided always, or dead always", is shut out "by the
---                           'exactly' in demand 3"
---     LargerNeverChanges    the demand
+--     NoWordAlways          no judge that answers always the same is live exactly, or dead exactly, if the winding is
+--     LargerNeverChanges    the demand, of the promise of `judge::judge` and of that of `runs::run`
 use mathlib.Core.Path.{_≡_}
 use Rattle.search.specs.declared.Finding.{Finding}
+use Rattle.judge.specs.Judging.{Judges}
 use Rattle.judge_means.specs.Exactness.{Judge, TheChains, EffortNumbers, LiveExactly, DeadExactly}
 use Rattle.judge_means.specs.Exactness.{UndecidedExactly, LiveShows, DeadCounts, UndecidedReports}
 use Rattle.judge_means.specs.Allowances.{LargerAllowance, TurnsAtEffort, EffortSome}
-use Rattle.judge.specs.Judging.{Judges}
 use Rattle.runs_means.specs.LongerRuns.{LongerRun}
 
 pub record JudgedExactly (J : Judge) : Type 0 where
