@@ -19,7 +19,7 @@ use Rattle.board.specs.declared.Part.{Part}
 use Rattle.board.specs.declared.Counts.{Counts}
 use Rattle.board.specs.declared.Board.{Board}
 use Rattle.board.specs.Parts.{partsOf, mostParts}
-use Rattle.board.specs.Rules.{leastTerminals, mostTerminals, mostRelays, mostButtons, boardFine}
+use Rattle.board.specs.Rules.{leastTerminals, mostTerminals, mostRelays, mostButtons, boardFine, Checks}
 use Rattle.board.specs.Sorts.{isRegular, isSteel, Wound}
 
 pub record InRange (c : Counts) : Type 0 where
@@ -50,7 +50,7 @@ pub record BreaksNoRule (b : Board) : Type 0 where
   pub relays : Wound (b .counts .relays) (partsOf b)
 
 abbrev pub FifteenExactly : Type 0
-FifteenExactly = (b : Board) (fine : Bool) → fine ≡ boardFine b → fine ≡ true ↔ BreaksNoRule b
+FifteenExactly = (b : Board) (fine : Bool) → Checks b fine → fine ≡ true ↔ BreaksNoRule b
 
 abbrev pub EveryRelaySort : Type 0
 EveryRelaySort =
