@@ -16,7 +16,7 @@ use Rattle.board_reader.specs.Reading.{boardAt, answered, reading, longestInput
 use Rattle.board_reader.proofs.ReadLaws.{answered-refused}
 use Rattle.file_means.specs.FileRefusals.{LineHolds, FileRefused, FileAccepted}
 use Rattle.file_means.proofs.LeadsLaws.{Leads, leads-refused, leads-given, leads-each, leads-unless}
-use Rattle.file_means.proofs.ReadLeads.{Given, board-leads}
+use Rattle.file_means.proofs.ReadLeads.{BoardReached, board-leads}
 use Rattle.file_means.proofs.HoldsRefused.{holds-board}
 
 module _ (s : List ℕ) where
@@ -24,7 +24,7 @@ module _ (s : List ℕ) where
   Line n p = ((longestInput < length s) × (n ≡ inputTooLong) × (p ≡ 0)) ⊎ ((length s ≤ longestInput) × LineHolds s n p)
 
   abbrev BoardGiven : Found Board → Type 0
-  BoardGiven b = Given s (b .value .counts) (partsOf (b .value)) (b .next)
+  BoardGiven b = BoardReached s (b .value .counts) (partsOf (b .value)) (b .next)
 
   abbrev read : Outcome (Found Board)
   read = unless (leb (length s) longestInput) inputTooLong 0 >> boardAt s
