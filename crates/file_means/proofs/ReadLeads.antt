@@ -220,7 +220,8 @@ module _ (s : List ℕ) where
 
   -- ---- a board
 
-  pub board-leads : Leads (LineHolds s) (λ b. BoardReached s (b .value .counts) (partsOf (b .value)) (b .next)) (boardAt s)
+  pub board-leads : Leads (LineHolds s) (λ b. BoardReached s (b .value .counts) (partsOf (b .value)) (b .next))
+      (boardAt s)
   unfolding boardAt boardFrom
   board-leads =
       leads-then (LineHolds s) _ _ (countsAt s) _ counts-lead (λ c read start.
