@@ -1,5 +1,5 @@
 -- The theorems over the call: a board file is refused by n at p exactly if line n of the table holds there and none
--- before it; and where it is accepted, the numbers of the board stand in the file.
+-- before it, and accepted exactly if the numbers of the board stand in the file.
 use Prim.Native.Nat.{ℕ, _<_, _≤_}
 use mathlib.Core.Path.{_≡_, refl, sym, ap, _∙_}
 use mathlib.Core.Logic.{_⊎_, inl, inr}

@@ -145,7 +145,8 @@ module _ (s : List ℕ) where
       let unwound : wound w r ≡ false =
       by-test (wound w r)
       (λ on. absurd (⊎-elim irregular no-steel (tallied-wound w ps r (x .so-far r) on))) (λ off. off) in
-      rest-refused s c ps w at 0 windingLacking at x (omega (arith, all)) (rw (every-fails (wound w) (c .relays) r below unwound))
+      rest-refused s c ps w at 0 windingLacking at x (omega (arith, all))
+      (rw (every-fails (wound w) (c .relays) r below unwound))
 
 -- ---- every line
 

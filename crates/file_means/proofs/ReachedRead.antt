@@ -2,8 +2,8 @@
 -- it. So what it comes to from there on is what it comes to at all: a refusal there is the refusal of the board, and
 -- where no relay lacks a winding after the last part, the board is read.
 --     behind ps o                what o gives, behind the parts ps
---     PartsSoFar s c ps w at     the counts c and the parts ps were read, the parts give the windings w, and the rest is
---                                what is read from here on
+--     PartsSoFar s c ps w at     the counts c and the parts ps were read, the parts give the windings w, and the rest
+--                                of the board is what is read from here on
 --     KindRead, FirstRead, EndsRead
 --                                the kind of one more part, its first end, and its second that differs from it
 --     StageRead s f at           what was read where stage f is reached
