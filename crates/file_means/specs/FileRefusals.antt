@@ -138,5 +138,5 @@ abbrev pub FileAccepted : Type 0
 FileAccepted =
     (s : List ℕ) (r : BoardRead) (c : Counts) (ps : List Part) (n : ℕ)
     → WasRead s r
-    → (toldReadAnswer (r .answer) ≡ given n) × (r .board .counts ≡ c) × (partsOf (r .board) ≡ ps)
-    ↔ (length s ≤ longestInput) × Reached s (at-part c ps) n × (length ps ≡ c .parts) × Wound (c .relays) ps
+    → ((toldReadAnswer (r .answer) ≡ given n) × (r .board .counts ≡ c) × (partsOf (r .board) ≡ ps))
+    ↔ ((length s ≤ longestInput) × Reached s (at-part c ps) n × (length ps ≡ c .parts) × Wound (c .relays) ps)
