@@ -69,6 +69,22 @@ event-next b s at v e =
 line-never : (l : Line) → no-line ≡ line l → ⊥
 line-never l e = let z : _≡_ {A = ℕ} 0 1 = cc in omega arith
 
+-- where nothing comes the session stays as it is
+module _ (z y : Session) (s : List ℕ) (is : nextOf z s ≡ (y, no-line)) where
+  never-line : (x : Session) (l : Line) → nextOf z s ≡ (x, line l) → ⊥
+  never-line x l e = line-never l (ap (λ (p : Session × Coming). p .1) (sym is ∙ e))
+
+  same-by : Ahead z s → y ≡ z
+  same-by (runs-first at e) = absurd (never-line _ _ e)
+  same-by (makes-event v at there found e) = absurd (never-line _ _ e)
+  same-by (bad-event n p at there bad e) = absurd (never-line _ _ e)
+  same-by (tells-refusal n p at e) = absurd (never-line _ _ e)
+  same-by (at-end at past e) = ap (λ (p : Session × Coming). p .0) (sym is ∙ e)
+  same-by (is-over at e) = ap (λ (p : Session × Coming). p .0) (sym is ∙ e)
+
+  pub none-same : y ≡ z
+  none-same = same-by (ahead z s)
+
 -- after a line there is less to come
 module _ (z y : Session) (s : List ℕ) (l : Line) (is : nextOf z s ≡ (y, line l)) where
   left-by : (x : Session) (c : Coming) → nextOf z s ≡ (x, c) → toCome y s ≡ toCome x s

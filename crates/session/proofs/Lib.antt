@@ -4,4 +4,6 @@ pub mod AdvanceLaws
 pub mod AheadLaws
 pub mod NextLineLaws
 pub mod CallLaws
+pub mod FitLaws
+pub mod FillLaws
 pub mod ToldLaws

@@ -2,4 +2,5 @@
 pub mod Sessions
 pub mod Carried
 pub mod HandingOut
+pub mod Filling
 pub mod ToCome

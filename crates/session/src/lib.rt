@@ -4,6 +4,7 @@ ghost use mathlib.Core.Path.{_≡_};
 ghost use Rattle.session.specs.Carried.{beginning, toldSession};
 ghost use Rattle.lines.specs.Lines.{toldLineWritten};
 ghost use Rattle.session.specs.HandingOut.{nextLine, writtenAnswer, toldHandOut, toldHanded};
+ghost use Rattle.session.specs.Filling.{Filled};
 use board::Board;
 use board_reader::ReadAnswer;
 use lines::LONGEST_LINE;
@@ -13,6 +14,7 @@ use number::BUFFER_TOO_SHORT;
 use number::Refusal;
 use state::State;
 
+mod fill;
 mod next;
 mod start;
 
@@ -100,5 +102,27 @@ pub fn next_line(session: Session, s: &[u8], out: &mut [u8]) -> Handed
             session,
             answer: HandOut::Over,
         },
+    }
+}
+
+// Hands out the session's next lines into a buffer, one after the other, as many as fit: a line comes as long as the
+// longest line has room in what is left. 16 if it has no room in the whole buffer.
+pub fn next_lines(session: Session, s: &[u8], out: &mut [u8]) -> Handed
+    ensures { λ r. ⌜ Filled session (now (s .entry)) (now (out .entry)) r (now (out .exit)) ⌝ }
+{
+    let mut session = session;
+    let mut used = 0;
+    loop {
+        let handed = fill::line_at(session, s, out, used);
+        let next = handed.session;
+        session = next;
+        let answer = handed.answer;
+        let HandOut::Line(length) = answer else {
+            return Handed {
+                session,
+                answer: fill::sum_up(used, answer),
+            };
+        };
+        used += length;
     }
 }
