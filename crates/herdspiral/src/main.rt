@@ -109,7 +109,7 @@ fn print_lines(input: &[u8]) -> bool {
         let at = kept.used;
         let handed = hand_out(session, input, &mut lines, at);
         let answer = handed.answer;
-        let HandOut::Line(length) = answer else {
+        let HandOut::Written(length) = answer else {
             return write_out(&lines, at);
         };
         let next = handed.session;

@@ -15,7 +15,7 @@ use Rattle.board_reader.proofs.FieldLaws.{wanted-found}
 use Rattle.board.specs.declared.Board.{Board}
 use Rattle.lines.specs.Lines.{Line}
 use Rattle.events.specs.Events.{eventAt, ranLine, eventLine}
-use Rattle.session.specs.ToCome.{toComeAt, toCome}
+use Rattle.session.proofs.ToCome.{toComeAt, toCome}
 use Rattle.session.specs.Carried.{Stage, first, events, over, refusing, Session, Coming, line, no-line, goesOn}
 use Rattle.session.specs.Carried.{closes, eventOf, nextEvent, nextAt, nextOf}
 

@@ -115,13 +115,13 @@ module _ (z : Session) (s p : List ℕ) where
       let less = leb-false longestLine (length p) short in
       no-room less (sym (next-line-short z s p less)))
 
-line-is : {m n : ℕ} → _≡_ {A = Outcome HandOut} (given (written m)) (given (written n)) → m ≡ n
+pub line-is : {m n : ℕ} → _≡_ {A = Outcome HandOut} (given (written m)) (given (written n)) → m ≡ n
 line-is e = cc
 
-line-not-refused : {m n p : ℕ} → _≡_ {A = Outcome HandOut} (given (written m)) (refused n p) → ⊥
+pub line-not-refused : {m n p : ℕ} → _≡_ {A = Outcome HandOut} (given (written m)) (refused n p) → ⊥
 line-not-refused e = let z : _≡_ {A = ℕ} 0 1 = cc in omega arith
 
-line-not-nothing : {m : ℕ} → _≡_ {A = Outcome HandOut} (given (written m)) (given nothing) → ⊥
+pub line-not-nothing : {m : ℕ} → _≡_ {A = Outcome HandOut} (given (written m)) (given nothing) → ⊥
 line-not-nothing e = let z : _≡_ {A = ℕ} 0 1 = cc in omega arith
 
 -- ---- the whole call
@@ -131,12 +131,12 @@ abbrev Why : ℕ → Outcome HandOut → Type 0
 Why n o = ((longestLine ≤ n) × (o ≡ given nothing)) ⊎ ((n < longestLine) × (o ≡ refused bufferTooShort 0))
 
 module _ (z₀ : Session) (s out₀ : List ℕ) where
-  lines-room : longestLine ≤ length out₀
+  pub lines-room : longestLine ≤ length out₀
       → filledBy (fitting (length out₀) z₀ s (length out₀)) out₀ ≡ nextLines z₀ s out₀
   unfolding nextLines
   lines-room room = rw (le-leb longestLine (length out₀) room)
 
-  lines-short : length out₀ < longestLine
+  pub lines-short : length out₀ < longestLine
       → record { session = z₀; answer = refused bufferTooShort 0; out = out₀ } ≡ nextLines z₀ s out₀
   unfolding nextLines
   lines-short short = rw (lt-leb longestLine (length out₀) short)
@@ -250,7 +250,7 @@ module _ (z₀ : Session) (s out₀ : List ℕ) (z : Session) (out : List ℕ) (
       pub some : 0 < n
       pub next : FilledTo z₀ s out₀ (toldSession (r .session)) out′ (used + n)
 
-    goes-by : (n : ℕ) → r .answer ≡ said.Line n → Ways z s (drop used out) → Goes n
+    goes-by : (n : ℕ) → r .answer ≡ said.Written n → Ways z s (drop used out) → Goes n
     goes-by n is (no-room short e) =
         absurd (line-not-refused (ap toldHandOut (sym is) ∙ ap (λ (h : Handed). h .answer) (came-to _ e)))
     goes-by n is (no-more y room none e) =
@@ -265,7 +265,7 @@ module _ (z₀ : Session) (s out₀ : List ℕ) (z : Session) (out : List ℕ) (
               (filled-line y l room next);
         }
 
-    pub line-goes : (n : ℕ) → r .answer ≡ said.Line n → Goes n
+    pub line-goes : (n : ℕ) → r .answer ≡ said.Written n → Goes n
     line-goes n is = goes-by n is (ways z s (drop used out))
 
     -- ---- the end: no line, or no room for one
@@ -285,7 +285,7 @@ module _ (z₀ : Session) (s out₀ : List ℕ) (z : Session) (out : List ℕ) (
           why = subst (Why (length out₀ - used)) (ap (λ (h : Handed). h .answer) (sym told)) why;
         }
 
-    ends-by : ((n : ℕ) → r .answer ≡ said.Line n → ⊥) → Ways z s (drop used out) → Ends
+    ends-by : ((n : ℕ) → r .answer ≡ said.Written n → ⊥) → Ways z s (drop used out) → Ends
     ends-by never (no-room short e) =
         let less : length out₀ - used < longestLine = omega (arith, short, room-left) in
         ends-with z (refused bufferTooShort 0)
@@ -295,10 +295,10 @@ module _ (z₀ : Session) (s out₀ : List ℕ) (z : Session) (out : List ℕ) (
         (came-to _ e)
     ends-by never (one-line y l room next e) =
         absurd (never (length (lineText l))
-        (told-hand-out-injective (r .answer) (said.Line (length (lineText l)))
+        (told-hand-out-injective (r .answer) (said.Written (length (lineText l)))
         (ap (λ (h : Handed). h .answer) (came-to _ e))))
 
-    pub line-ends : ((n : ℕ) → r .answer ≡ said.Line n → ⊥) → (a : code-handout.HandOut)
+    pub line-ends : ((n : ℕ) → r .answer ≡ said.Written n → ⊥) → (a : code-handout.HandOut)
         → toldHandOut a ≡ summed used (toldHandOut (r .answer))
         → toldHanded (record { session = r .session; answer = a }) out′ ≡ nextLines z₀ s out₀
     line-ends never a told =
@@ -313,8 +313,8 @@ module _ (z₀ : Session) (s out₀ : List ℕ) (z : Session) (out : List ℕ) (
 
 -- the answer to `let .. else` is no line
 pub tag-never-line : (a : code-handout.HandOut) → OneOf (1 ∷ 2 ∷ []) (tagOf the-type a) → (n : ℕ)
-    → a ≡ said.Line n → ⊥
-tag-never-line (said.Line m) (inl e) n is = absurd (omega (arith, e))
-tag-never-line (said.Line m) (inr e) n is = absurd (omega (arith, e))
+    → a ≡ said.Written n → ⊥
+tag-never-line (said.Written m) (inl e) n is = absurd (omega (arith, e))
+tag-never-line (said.Written m) (inr e) n is = absurd (omega (arith, e))
 tag-never-line said.Over other n is = over-never n is
 tag-never-line (said.Refused q) other n is = let z : _≡_ {A = ℕ} 0 1 = cc in omega arith

@@ -13,7 +13,7 @@ use Rattle.lines.proofs.LineLaws.{line-length-most}
 use Rattle.session.specs.Sessions.{lineTexts, printed}
 use Rattle.session.specs.Carried.{Session, Coming, line, no-line, nextOf}
 use Rattle.session.specs.Filling.{fitsOn, fitting}
-use Rattle.session.specs.ToCome.{toCome}
+use Rattle.session.proofs.ToCome.{toCome}
 use Rattle.session.proofs.AheadLaws.{none-same, next-less}
 
 -- the bytes of lines, one after the other

@@ -42,7 +42,7 @@ told-session-injective x y e =
     }
 
 abbrev untoldHandOut : Outcome handing-out.HandOut → HandOut
-untoldHandOut (given (written n)) = said.Line n
+untoldHandOut (given (written n)) = said.Written n
 untoldHandOut (given nothing) = said.Over
 untoldHandOut (refused n p) = said.Refused (record { number = n; place = p })
 
@@ -50,7 +50,7 @@ pub told-hand-out-injective : (x y : HandOut) → toldHandOut x ≡ toldHandOut 
 told-hand-out-injective = inverse-injective toldHandOut untoldHandOut back
   where
     back : (x : HandOut) → untoldHandOut (toldHandOut x) ≡ x
-    back (said.Line n) = refl
+    back (said.Written n) = refl
     back said.Over = refl
     back (said.Refused r) = refl
 

@@ -3,4 +3,3 @@ pub mod Sessions
 pub mod Carried
 pub mod HandingOut
 pub mod Filling
-pub mod ToCome

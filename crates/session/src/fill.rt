@@ -26,6 +26,6 @@ pub fn sum_up(used: usize, last: HandOut) -> HandOut
     if used == 0 {
         last
     } else {
-        HandOut::Line(used)
+        HandOut::Written(used)
     }
 }

@@ -37,14 +37,14 @@ pub struct Session {
     pub stage: Stage,
 }
 
-// What a call for the next line came to: the line's length in the buffer, that there is none, or the refusal.
+// What a call for the next line or lines came to: so many bytes written, that no line comes any more, or the refusal.
 pub enum HandOut {
-    Line(usize),
+    Written(usize),
     Over,
     Refused(Refusal),
 }
 
-// The answer to a call for the next line, with the session to carry on.
+// The answer to a call for the next line or lines, with the session to carry on.
 pub struct Handed {
     pub session: Session,
     pub answer: HandOut,
@@ -70,7 +70,7 @@ fn answer_of(written: LineWritten) -> HandOut
     ensures { λ r. ⌜ toldHandOut r ≡ writtenAnswer (toldLineWritten written) ⌝ }
 {
     match written {
-        LineWritten::Length(length) => HandOut::Line(length),
+        LineWritten::Length(length) => HandOut::Written(length),
         LineWritten::Refused(refusal) => HandOut::Refused(refusal),
     }
 }
@@ -117,7 +117,7 @@ pub fn next_lines(session: Session, s: &[u8], out: &mut [u8]) -> Handed
         let next = handed.session;
         session = next;
         let answer = handed.answer;
-        let HandOut::Line(length) = answer else {
+        let HandOut::Written(length) = answer else {
             return Handed {
                 session,
                 answer: fill::sum_up(used, answer),

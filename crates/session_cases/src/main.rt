@@ -67,7 +67,7 @@ fn print_lines(input: &[u8]) {
     loop {
         let handed = hand_out(session, input, &mut line);
         let answer = handed.answer;
-        let HandOut::Line(length) = answer else {
+        let HandOut::Written(length) = answer else {
             return;
         };
         io::write_all(STDOUT_FILENO, &line[..length]);

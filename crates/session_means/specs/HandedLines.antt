@@ -16,7 +16,7 @@ use lib.ListN.{length, take}
 use Rattle.lines.specs.Lines.{longestLine}
 use Rattle.session.specs.declared.Session.{Session}
 use Rattle.session.specs.declared.Handed.{Handed}
-use Rattle.session.specs.declared.HandOut.the-variants.{Line, Over}
+use Rattle.session.specs.declared.HandOut.the-variants.{Written, Over}
 use Rattle.session.specs.Sessions.{sessionLines, lineTexts}
 use Rattle.session.specs.Carried.{beginning, toldSession}
 use Rattle.session.specs.HandingOut.{nextLine, toldHanded}
@@ -33,7 +33,7 @@ pub record Hands (s : List ℕ) (z : Session) (t : List ℕ) (y : Session) : Typ
   pub answer : Handed
   pub bytes : ℕ
   pub called : Called z s out answer out′
-  pub line : answer .answer ≡ Line bytes
+  pub line : answer .answer ≡ Written bytes
   pub text : take bytes out′ ≡ t
   pub after : answer .session ≡ y
 
@@ -43,7 +43,7 @@ HandsOut s z (t ∷ ts) z′ = (y : Session) × (Hands s z t y × HandsOut s y t
 
 abbrev pub Tells : List (List ℕ) → Handed → List ℕ → Type 0
 Tells [] r out′ = r .answer ≡ Over
-Tells (t ∷ ts) r out′ = (r .answer ≡ Line (length t)) × (take (length t) out′ ≡ t)
+Tells (t ∷ ts) r out′ = (r .answer ≡ Written (length t)) × (take (length t) out′ ≡ t)
 
 pub record SoFar (s : List ℕ) (z : Session) (ts : List (List ℕ)) : Type 0 where
   pub rest : List (List ℕ)

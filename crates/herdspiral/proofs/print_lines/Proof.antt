@@ -5,7 +5,7 @@ use native.Mathlib.Omega.{arith}
 use lib.ListN.{length}
 use borrow.Author.Needs.{needs}
 use Rattle.session.specs.Carried.{toldSession}
-use Rattle.session.specs.ToCome.{toCome}
+use Rattle.session.proofs.ToCome.{toCome}
 use Rattle.herdspiral.proofs.print_lines.Statement.{statement}
 use Rattle.herdspiral.proofs.print_lines.Tie as tie
 

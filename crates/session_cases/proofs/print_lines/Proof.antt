@@ -4,7 +4,7 @@ use lib.ListN.{length}
 use borrow.Author.Needs.{needs}
 use Rattle.lines.specs.Lines.{longestLine}
 use Rattle.session.specs.Carried.{toldSession}
-use Rattle.session.specs.ToCome.{toCome}
+use Rattle.session.proofs.ToCome.{toCome}
 use Rattle.session_cases.proofs.print_lines.Statement.{statement}
 use Rattle.session_cases.proofs.print_lines.Tie as tie
 use mathlib.Core.Path.{_≡_, sym}
