@@ -66,7 +66,7 @@ unfolding eventAt
 event-next b s at v e =
     number-next-within s at (v .value) (v .next) (wanted-found _ noSuchName s at (v .value) (v .next) e .1) .1
 
-line-never : (l : Line) → no-line ≡ line l → ⊥
+pub line-never : (l : Line) → no-line ≡ line l → ⊥
 line-never l e = let z : _≡_ {A = ℕ} 0 1 = cc in omega arith
 
 -- where nothing comes the session stays as it is

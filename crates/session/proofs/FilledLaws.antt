@@ -4,12 +4,14 @@ use Prim.Native.Nat.{ℕ, _<_, _≤_}
 use native.Mathlib.Omega.{arith}
 use mathlib.Core.Path.{_≡_, refl, sym, ap, _∙_}
 use mathlib.Core.List.{List, [], _∷_, _++_}
+use mathlib.Core.Logic.{inl, inr, _⊎_}
 use lib.Dec.{leb}
 use lib.ListN.{length, take, drop}
 use lib.Seq.{take-at}
 use borrow.Author.Tests.{leb-true, leb-false}
 use Rattle.bits.proofs.BoolLaws.{by-test}
 use Rattle.number.specs.Outcomes.{Outcome, given}
+use Rattle.number.proofs.OutcomeLaws.{refused-never}
 use Rattle.lines.specs.Lines.{Line, longestLine}
 use Rattle.session.specs.declared.Session as code-session
 use Rattle.session.specs.declared.Handed as code-handed
@@ -19,9 +21,9 @@ use Rattle.session.specs.Carried.{Session, Coming, line, no-line, nextOf
 use Rattle.session.specs.HandingOut.{HandOut, written, nothing, Handed, toldHandOut, toldHanded}
 use Rattle.session.specs.Filling.{fitting, filledBy, Filled}
 use Rattle.session.proofs.ToCome.{Advances}
+use Rattle.session.proofs.ToldLaws.{told-hand-out-injective}
 use Rattle.session.proofs.FitLaws.{bytesOf, fitting-next, fitting-within}
 use Rattle.session.proofs.FillLaws.{line-is, line-not-refused, line-not-nothing, lines-short, lines-room}
-use Rattle.number.proofs.OutcomeLaws.{refused-never}
 
 module _ (z : code-session.Session) (s out out′ : List ℕ) (r : code-handed.Handed) (called : Filled z s out r out′) where
   told-answer : (h : Handed) → toldHanded r out′ ≡ h → toldHandOut (r .answer) ≡ h .answer
@@ -36,12 +38,29 @@ module _ (z : code-session.Session) (s out out′ : List ℕ) (r : code-handed.H
       absurd (refused-never _ _ a (sym (told-answer _ refusing) ∙ is)))
 
   -- the answer is that of the lines x that fit
+  room-by : longestLine ≤ length out → (x : Session × List Line)
+      → fitting (length out) (toldSession z) s (length out) ≡ x → toldHanded r out′ ≡ filledBy x out
+  room-by room x fits =
+      called
+      ∙ sym (lines-room (toldSession z) s out room)
+      ∙ ap (λ (y : Session × List Line). filledBy y out) fits
+
   filled-by : (a : HandOut) → toldHandOut (r .answer) ≡ given a → (x : Session × List Line)
       → fitting (length out) (toldSession z) s (length out) ≡ x → toldHanded r out′ ≡ filledBy x out
-  filled-by a is x fits =
-      called
-      ∙ sym (lines-room (toldSession z) s out (filled-room a is))
-      ∙ ap (λ (y : Session × List Line). filledBy y out) fits
+  filled-by a is = room-by (filled-room a is)
+
+  -- where there is room, lines come or nothing does
+  answers-by : longestLine ≤ length out → (x : Session × List Line)
+      → fitting (length out) (toldSession z) s (length out) ≡ x
+      → (r .answer ≡ said.Over) ⊎ ((n : ℕ) × (r .answer ≡ said.Written n))
+  unfolding filledBy
+  answers-by room (y, []) fits =
+      inl (told-hand-out-injective (r .answer) said.Over (told-answer _ (room-by room _ fits)))
+  answers-by room (y, l ∷ ls) fits =
+      inr (_, told-hand-out-injective (r .answer) (said.Written _) (told-answer _ (room-by room _ fits)))
+
+  pub filled-answers : longestLine ≤ length out → (r .answer ≡ said.Over) ⊎ ((n : ℕ) × (r .answer ≡ said.Written n))
+  filled-answers room = answers-by room (fitting (length out) (toldSession z) s (length out)) refl
 
   -- ---- lines are handed out
 

@@ -50,7 +50,7 @@ module _ (z : Session) (s : List ℕ) (n : ℕ) where
 module _ (s : List ℕ) (P : Session → ℕ → Session × List Line → Type 0)
     (stops : (z : Session) (n : ℕ) → P z n (z, []))
     (goes : (z y : Session) (l : Line) (n : ℕ) (x : Session × List Line) → nextOf z s ≡ (y, line l)
-        → longestLine ≤ n → P y (n - length (lineText l)) x → P z n (x .0, l ∷ x .1)) where
+    → longestLine ≤ n → P y (n - length (lineText l)) x → P z n (x .0, l ∷ x .1)) where
   next-holds : (k : ℕ) (z : Session) (n : ℕ) → ((y : Session) (m : ℕ) → P y m (fitting k y s m)) → longestLine ≤ n
       → (x : Session × Coming) → nextOf z s ≡ x
       → P z n (fitsOn x (λ y l. fitting k y s (n - length (lineText l))))

@@ -25,7 +25,7 @@ record From (s : List ℕ) (z : code-session.Session) (ts : List (List ℕ)) (z�
   pub numbered : Numbered (toldSession z′) s
 
 module _ (s : List ℕ) where
-  hands-first : (z y : code-session.Session) (t : List ℕ) → Numbered (toldSession z) s → Hands s z t y
+  hands-first : (z y : code-session.Session) (t : List ℕ) → Numbered (toldSession z) s → Hands Called s z t y
       → From s z (t ∷ []) y
   unfolding lineTexts
   hands-first z y t numbered h =
@@ -40,7 +40,7 @@ module _ (s : List ℕ) where
         numbered = numbered-next (toldSession z) s numbered _ _ next;
       }
 
-  from-start : (ts : List (List ℕ)) (z z′ : code-session.Session) → Numbered (toldSession z) s → HandsOut s z ts z′
+  from-start : (ts : List (List ℕ)) (z z′ : code-session.Session) → Numbered (toldSession z) s → HandsOut Called s z ts z′
       → From s z ts z′
   from-start [] z z′ numbered same =
       record {

@@ -2,8 +2,10 @@
 --     Begun s z                z is what `begin` answers on the input s
 --     Called z s out r out′    `next_line` was called on session z, input s and the lent buffer `out`, answered r and
 --                              left the buffer out′
---     Hands s z t y            a call on z hands out the text t, and leaves the session y to carry on
---     HandsOut s z ts z′       calls from z on hand out the texts ts, one after the other, and leave the session z′
+--     Call                     what a call on a session, an input and a lent buffer promises of its answer and of the
+--                              buffer afterwards
+--     Hands C s z t y          a call that promises C hands out the text t on z, and leaves the session y to carry on
+--     HandsOut C s z ts z′     such calls from z on hand out the texts ts, one after the other, and leave the session z′
 --     Tells ts r out′          r hands out the first of the texts ts; where there is none, it says so
 --     SoFar s z ts             the texts ts are the first of the session's lines, and whatever buffer with room is lent
 --                              next, what comes is the next of them
@@ -27,19 +29,22 @@ Begun s z = toldSession z ≡ beginning s
 abbrev pub Called : Session → List ℕ → List ℕ → Handed → List ℕ → Type 0
 Called z s out r out′ = toldHanded r out′ ≡ nextLine (toldSession z) s out
 
-pub record Hands (s : List ℕ) (z : Session) (t : List ℕ) (y : Session) : Type 0 where
+abbrev pub Call : Type 1
+Call = Session → List ℕ → List ℕ → Handed → List ℕ → Type 0
+
+pub record Hands (C : Call) (s : List ℕ) (z : Session) (t : List ℕ) (y : Session) : Type 0 where
   pub out : List ℕ
   pub out′ : List ℕ
   pub answer : Handed
   pub bytes : ℕ
-  pub called : Called z s out answer out′
+  pub called : C z s out answer out′
   pub line : answer .answer ≡ Written bytes
   pub text : take bytes out′ ≡ t
   pub after : answer .session ≡ y
 
-abbrev pub HandsOut : List ℕ → Session → List (List ℕ) → Session → Type 0
-HandsOut s z [] z′ = z ≡ z′
-HandsOut s z (t ∷ ts) z′ = (y : Session) × (Hands s z t y × HandsOut s y ts z′)
+abbrev pub HandsOut : Call → List ℕ → Session → List (List ℕ) → Session → Type 0
+HandsOut C s z [] z′ = z ≡ z′
+HandsOut C s z (t ∷ ts) z′ = (y : Session) × (Hands C s z t y × HandsOut C s y ts z′)
 
 abbrev pub Tells : List (List ℕ) → Handed → List ℕ → Type 0
 Tells [] r out′ = r .answer ≡ Over
@@ -51,13 +56,14 @@ pub record SoFar (s : List ℕ) (z : Session) (ts : List (List ℕ)) : Type 0 wh
   pub next : (out out′ : List ℕ) (r : Handed) → longestLine ≤ length out → Called z s out r out′ → Tells rest r out′
 
 abbrev pub LinesHandedOut : Type 0
-LinesHandedOut = (s : List ℕ) (z z′ : Session) (ts : List (List ℕ)) → Begun s z → HandsOut s z ts z′ → SoFar s z′ ts
+LinesHandedOut =
+    (s : List ℕ) (z z′ : Session) (ts : List (List ℕ)) → Begun s z → HandsOut Called s z ts z′ → SoFar s z′ ts
 
 abbrev pub AllHandedOut : Type 0
 AllHandedOut =
     (s : List ℕ) (z z′ : Session) (ts : List (List ℕ)) (out out′ : List ℕ) (r : Handed)
     → Begun s z
-    → HandsOut s z ts z′
+    → HandsOut Called s z ts z′
     → Called z′ s out r out′
     → r .answer ≡ Over
     → ts ≡ lineTexts (sessionLines s)
