@@ -56,7 +56,8 @@ module _ (z : code-session.Session) (s out out′ : List ℕ) (r : code-handed.H
     unfolding handedBy
     call-line l is =
         let told = next-by (line l) is in (
-          told-hand-out-injective (r .answer) (said.Written (length (lineText l))) (ap (λ (h : Handed). h .answer) told),
+          told-hand-out-injective (r .answer) (said.Written (length (lineText l)))
+              (ap (λ (h : Handed). h .answer) told),
           ap (λ (h : Handed). take (length (lineText l)) (h .out)) told ∙ take-append-seam (lineText l)
               (drop (length (lineText l)) out),
         )

@@ -22,7 +22,8 @@ use Rattle.session.specs.declared.HandOut as code-handout
 use Rattle.session.specs.declared.HandOut.the-variants as said
 use Rattle.session.specs.Sessions.{lineTexts, printed}
 use Rattle.session.specs.Carried.{Session, Coming, line, no-line, nextOf, toldSession}
-use Rattle.session.specs.HandingOut.{HandOut, written, nothing, Handed, handedBy, nextLine, toldHandOut, toldHanded}
+use Rattle.session.specs.HandingOut.{HandOut, written, nothing, Handed, handedBy, nextLine, toldHandOut}
+use Rattle.session.specs.HandingOut.{toldHanded}
 use Rattle.session.specs.Filling.{fitsOn, fitting, filledBy, nextLines, behind, summed}
 use Rattle.session.proofs.NextLineLaws.{next-line-short, next-line-room}
 use Rattle.session.proofs.HandOut.{the-type}
@@ -103,10 +104,13 @@ data Ways (z : Session) (s p : List ℕ) : Type 0 where
       → Ways z s p
 
 module _ (z : Session) (s p : List ℕ) where
+  handed-by : longestLine ≤ length p → (x : Session × Coming) → nextOf z s ≡ x → nextLine z s p ≡ handedBy x p
+  handed-by room x is = sym (next-line-room z s p room) ∙ ap (λ (y : Session × Coming). handedBy y p) is
+
   room-ways : longestLine ≤ length p → (x : Session × Coming) → nextOf z s ≡ x → Ways z s p
   unfolding handedBy
-  room-ways room (y, no-line) is = no-more y room is (sym (next-line-room z s p room) ∙ ap (λ (x : Session × Coming). handedBy x p) is)
-  room-ways room (y, line l) is = one-line y l room is (sym (next-line-room z s p room) ∙ ap (λ (x : Session × Coming). handedBy x p) is)
+  room-ways room (y, no-line) is = no-more y room is (handed-by room _ is)
+  room-ways room (y, line l) is = one-line y l room is (handed-by room _ is)
 
   ways : Ways z s p
   ways =
@@ -173,143 +177,146 @@ module _ (z₀ : Session) (s out₀ : List ℕ) where
         rw (← summed-some (length (lineText l ++ bytesOf ls)) o some)
         (ap (λ (x : Session × List Line). filledBy x out₀) (sym fits) ∙ lines-room (some-room l ls fits))
 
-module _ (z₀ : Session) (s out₀ : List ℕ) (z : Session) (out : List ℕ) (used : ℕ) (f : FilledTo z₀ s out₀ z out used)
-  where
-    -- the first bytes are the lines, and those behind them as lent
-    lines-first : take used out ≡ bytesOf (f .lines)
-    lines-first =
-        ap (take used) (f .text) ∙ take-at (bytesOf (f .lines)) (drop used out₀) used (sym (f .bytes))
+module _ (z₀ : Session) (s out₀ : List ℕ) (z : Session) (out : List ℕ) (used : ℕ)
+    (f : FilledTo z₀ s out₀ z out used) where
+  -- the first bytes are the lines, and those behind them as lent
+  lines-first : take used out ≡ bytesOf (f .lines)
+  lines-first =
+      ap (take used) (f .text) ∙ take-at (bytesOf (f .lines)) (drop used out₀) used (sym (f .bytes))
 
-    rest-lent : drop used out ≡ drop used out₀
-    rest-lent = ap (drop used) (f .text) ∙ drop-at (bytesOf (f .lines)) (drop used out₀) used (sym (f .bytes))
+  rest-lent : drop used out ≡ drop used out₀
+  rest-lent = ap (drop used) (f .text) ∙ drop-at (bytesOf (f .lines)) (drop used out₀) used (sym (f .bytes))
 
-    pub filled-length : length out ≡ length out₀
-    filled-length =
-        omega (
-          arith,
-          ap length (f .text),
-          length-append (bytesOf (f .lines)) (drop used out₀),
-          length-drop used out₀,
-          f .bytes,
-          f .within,
-        )
+  pub filled-to-length : length out ≡ length out₀
+  filled-to-length =
+      omega (
+        arith,
+        ap length (f .text),
+        length-append (bytesOf (f .lines)) (drop used out₀),
+        length-drop used out₀,
+        f .bytes,
+        f .within,
+      )
 
-    room-left : length (drop used out) ≡ length out₀ - used
-    room-left = ap length rest-lent ∙ length-drop used out₀
+  room-left : length (drop used out) ≡ length out₀ - used
+  room-left = ap length rest-lent ∙ length-drop used out₀
 
-    -- the lines that fit in what is left, where x comes next
-    left-next : longestLine ≤ length (drop used out) → (x : Session × Coming) → nextOf z s ≡ x
-        → f .rest ≡ fitsOn x (λ y l. fitting (f .most - 1) y s (length out₀ - used - length (lineText l)))
-    left-next room x is =
-        sym (f .left)
-        ∙ fitting-next z s (length out₀ - used) (f .most) (omega (arith, room, room-left)) (f .enough) x is
+  -- the lines that fit in what is left, where x comes next
+  left-next : longestLine ≤ length (drop used out) → (x : Session × Coming) → nextOf z s ≡ x
+      → f .rest ≡ fitsOn x (λ y l. fitting (f .most - 1) y s (length out₀ - used - length (lineText l)))
+  left-next room x is =
+      sym (f .left)
+      ∙ fitting-next z s (length out₀ - used) (f .most) (omega (arith, room, room-left)) (f .enough) x is
 
-    -- ---- a line is added
+  -- ---- a line is added
 
-    module _ (y : Session) (l : Line) (room : longestLine ≤ length (drop used out)) (is : nextOf z s ≡ (y, line l)) where
-      bytes-on : bytesOf (f .lines ++ (l ∷ [])) ≡ bytesOf (f .lines) ++ lineText l
-      bytes-on = bytes-append (f .lines) (l ∷ []) ∙ ap (λ (x : List ℕ). bytesOf (f .lines) ++ x) (bytes-one l)
+  module _ (y : Session) (l : Line) (room : longestLine ≤ length (drop used out)) (is : nextOf z s ≡ (y, line l)) where
+    bytes-on : bytesOf (f .lines ++ (l ∷ [])) ≡ bytesOf (f .lines) ++ lineText l
+    bytes-on = bytes-append (f .lines) (l ∷ []) ∙ ap (λ (x : List ℕ). bytesOf (f .lines) ++ x) (bytes-one l)
 
-      text-on : take used out ++ (lineText l ++ drop (length (lineText l)) (drop used out))
-          ≡ bytesOf (f .lines ++ (l ∷ [])) ++ drop (used + length (lineText l)) out₀
-      text-on =
-          rw (lines-first, rest-lent, drop-drop (length (lineText l)) used out₀, bytes-on)
-          (sym (append-assoc (bytesOf (f .lines)) (lineText l) (drop (used + length (lineText l)) out₀)))
+    text-on : take used out ++ (lineText l ++ drop (length (lineText l)) (drop used out))
+        ≡ bytesOf (f .lines ++ (l ∷ [])) ++ drop (used + length (lineText l)) out₀
+    text-on =
+        rw (lines-first, rest-lent, drop-drop (length (lineText l)) used out₀, bytes-on)
+        (sym (append-assoc (bytesOf (f .lines)) (lineText l) (drop (used + length (lineText l)) out₀)))
 
-      filled-line : FilledTo z₀ s out₀ y (take used out ++ (lineText l ++ drop (length (lineText l)) (drop used out)))
-          (used + length (lineText l))
-      filled-line =
-          let less : length out₀ - used - length (lineText l) ≡ length out₀ - (used + length (lineText l)) = omega arith in
-          let x = fitting (f .most - 1) y s (length out₀ - used - length (lineText l)) in
-          record {
-            lines = f .lines ++ (l ∷ []);
-            rest = x;
-            most = f .most - 1;
-            enough = omega (arith, f .enough, line-length-some l);
-            left = ap (fitting (f .most - 1) y s) (sym less);
-            all =
-                f .all
-                ∙ ap {B = Session × List Line} (λ (w : Session × List Line). (w .0, f .lines ++ w .1))
-                (left-next room (y, line l) is)
-                ∙ ap {B = Session × List Line} (λ (ls : List Line). (x .0, ls))
-                (sym (append-assoc (f .lines) (l ∷ []) (x .1)));
-            bytes =
-                omega (arith, f .bytes, ap length bytes-on, length-append (bytesOf (f .lines)) (lineText l));
-            text = text-on;
-            within = omega (arith, room, room-left, line-length-most l);
-          }
+    filled-line : FilledTo z₀ s out₀ y (take used out ++ (lineText l ++ drop (length (lineText l)) (drop used out)))
+        (used + length (lineText l))
+    filled-line =
+        let less : length out₀ - used - length (lineText l) ≡ length out₀ - (used + length (lineText l)) =
+        omega arith in
+        let x = fitting (f .most - 1) y s (length out₀ - used - length (lineText l)) in
+        record {
+          lines = f .lines ++ (l ∷ []);
+          rest = x;
+          most = f .most - 1;
+          enough = omega (arith, f .enough, line-length-some l);
+          left = ap (fitting (f .most - 1) y s) (sym less);
+          all =
+              f .all
+              ∙ ap {B = Session × List Line} (λ (w : Session × List Line). (w .0, f .lines ++ w .1))
+              (left-next room (y, line l) is)
+              ∙ ap {B = Session × List Line} (λ (ls : List Line). (x .0, ls))
+              (sym (append-assoc (f .lines) (l ∷ []) (x .1)));
+          bytes =
+              omega (arith, f .bytes, ap length bytes-on, length-append (bytesOf (f .lines)) (lineText l));
+          text = text-on;
+          within = omega (arith, room, room-left, line-length-most l);
+        }
 
-    -- ---- what a call of `line_at` comes to
+  -- ---- what a call of `line_at` comes to
 
-    module _ (r : code-handed.Handed) (out′ : List ℕ)
-        (called : toldHanded r out′ ≡ behind (take used out) (nextLine z s (drop used out))) where
-      came-to : (h : Handed) → nextLine z s (drop used out) ≡ h → toldHanded r out′ ≡ behind (take used out) h
-      came-to h is = called ∙ ap (behind (take used out)) is
+  module _ (r : code-handed.Handed) (out′ : List ℕ)
+      (called : toldHanded r out′ ≡ behind (take used out) (nextLine z s (drop used out))) where
+    came-to : (h : Handed) → nextLine z s (drop used out) ≡ h → toldHanded r out′ ≡ behind (take used out) h
+    came-to h is = called ∙ ap (behind (take used out)) is
 
-      pub record Goes (n : ℕ) : Type 0 where
-        pub some : 0 < n
-        pub next : FilledTo z₀ s out₀ (toldSession (r .session)) out′ (used + n)
+    pub record Goes (n : ℕ) : Type 0 where
+      pub grows : 0 < n
+      pub filled-on : FilledTo z₀ s out₀ (toldSession (r .session)) out′ (used + n)
 
-      goes-by : (n : ℕ) → r .answer ≡ said.Written n → Ways z s (drop used out) → Goes n
-      goes-by n is (no-room short e) =
-          absurd (line-not-refused (ap toldHandOut (sym is) ∙ ap (λ (h : Handed). h .answer) (came-to _ e)))
-      goes-by n is (no-more y room none e) =
-          absurd (line-not-nothing (ap toldHandOut (sym is) ∙ ap (λ (h : Handed). h .answer) (came-to _ e)))
-      goes-by n is (one-line y l room next e) =
-          let told = came-to _ e in
-          let long : n ≡ length (lineText l) = line-is (ap toldHandOut (sym is) ∙ ap (λ (h : Handed). h .answer) told) in
-          record {
-            some = omega (arith, long, line-length-some l);
-            next =
-                rw (ap (λ (h : Handed). h .session) told, ap (λ (h : Handed). h .out) told, long)
-                (filled-line y l room next);
-          }
+    goes-by : (n : ℕ) → r .answer ≡ said.Written n → Ways z s (drop used out) → Goes n
+    goes-by n is (no-room short e) =
+        absurd (line-not-refused (ap toldHandOut (sym is) ∙ ap (λ (h : Handed). h .answer) (came-to _ e)))
+    goes-by n is (no-more y room none e) =
+        absurd (line-not-nothing (ap toldHandOut (sym is) ∙ ap (λ (h : Handed). h .answer) (came-to _ e)))
+    goes-by n is (one-line y l room next e) =
+        let told = came-to _ e in
+        let long : n ≡ length (lineText l) = line-is (ap toldHandOut (sym is) ∙ ap (λ (h : Handed). h .answer) told) in
+        record {
+          grows = omega (arith, long, line-length-some l);
+          filled-on =
+              rw (ap (λ (h : Handed). h .session) told, ap (λ (h : Handed). h .out) told, long)
+              (filled-line y l room next);
+        }
 
-      pub line-goes : (n : ℕ) → r .answer ≡ said.Written n → Goes n
-      line-goes n is = goes-by n is (ways z s (drop used out))
+    pub line-goes : (n : ℕ) → r .answer ≡ said.Written n → Goes n
+    line-goes n is = goes-by n is (ways z s (drop used out))
 
-      -- ---- the end: no line, or no room for one
+    -- ---- the end: no line, or no room for one
 
-      -- no further line fits, and the buffer is as it was before the call
-      record Ends : Type 0 where
-        none : f .rest ≡ (toldSession (r .session), [])
-        buffer : out′ ≡ out
-        why : Why (length out₀ - used) (toldHandOut (r .answer))
+    -- no further line fits, and the buffer is as it was before the call
+    record Ends : Type 0 where
+      none : f .rest ≡ (toldSession (r .session), [])
+      buffer : out′ ≡ out
+      why : Why (length out₀ - used) (toldHandOut (r .answer))
 
-      ends-with : (y : Session) (o : Outcome HandOut) → f .rest ≡ (y, []) → Why (length out₀ - used) o
-          → toldHanded r out′ ≡ behind (take used out) (record { session = y; answer = o; out = drop used out }) → Ends
-      ends-with y o none why told =
-          record {
-            none = none ∙ ap {B = Session × List Line} (λ (x : Session). (x, [])) (ap (λ (h : Handed). h .session) (sym told));
-            buffer = ap (λ (h : Handed). h .out) told ∙ take-append-drop used out;
-            why = subst (Why (length out₀ - used)) (ap (λ (h : Handed). h .answer) (sym told)) why;
-          }
+    ends-with : (y : Session) (o : Outcome HandOut) → f .rest ≡ (y, []) → Why (length out₀ - used) o
+        → toldHanded r out′ ≡ behind (take used out) (record { session = y; answer = o; out = drop used out }) → Ends
+    ends-with y o none why told =
+        record {
+          none =
+              none
+              ∙ ap {B = Session × List Line} (λ (x : Session). (x, [])) (ap (λ (h : Handed). h .session) (sym told));
+          buffer = ap (λ (h : Handed). h .out) told ∙ take-append-drop used out;
+          why = subst (Why (length out₀ - used)) (ap (λ (h : Handed). h .answer) (sym told)) why;
+        }
 
-      ends-by : ((n : ℕ) → r .answer ≡ said.Written n → ⊥) → Ways z s (drop used out) → Ends
-      ends-by never (no-room short e) =
-          let less : length out₀ - used < longestLine = omega (arith, short, room-left) in
-          ends-with z (refused bufferTooShort 0)
-          (sym (f .left) ∙ fitting-short z s (length out₀ - used) (f .most) less) (inr (less, refl)) (came-to _ e)
-      ends-by never (no-more y room none e) =
-          ends-with y (given nothing) (left-next room (y, no-line) none) (inl (omega (arith, room, room-left), refl))
-          (came-to _ e)
-      ends-by never (one-line y l room next e) =
-          absurd (never (length (lineText l))
-          (told-hand-out-injective (r .answer) (said.Written (length (lineText l)))
-          (ap (λ (h : Handed). h .answer) (came-to _ e))))
+    ends-by : ((n : ℕ) → r .answer ≡ said.Written n → ⊥) → Ways z s (drop used out) → Ends
+    ends-by never (no-room short e) =
+        let less : length out₀ - used < longestLine = omega (arith, short, room-left) in
+        ends-with z (refused bufferTooShort 0)
+        (sym (f .left) ∙ fitting-short z s (length out₀ - used) (f .most) less) (inr (less, refl)) (came-to _ e)
+    ends-by never (no-more y room none e) =
+        ends-with y (given nothing) (left-next room (y, no-line) none) (inl (omega (arith, room, room-left), refl))
+        (came-to _ e)
+    ends-by never (one-line y l room next e) =
+        absurd (never (length (lineText l))
+        (told-hand-out-injective (r .answer) (said.Written (length (lineText l)))
+        (ap (λ (h : Handed). h .answer) (came-to _ e))))
 
-      pub line-ends : ((n : ℕ) → r .answer ≡ said.Written n → ⊥) → (a : code-handout.HandOut)
-          → toldHandOut a ≡ summed used (toldHandOut (r .answer))
-          → toldHanded (record { session = r .session; answer = a }) out′ ≡ nextLines z₀ s out₀
-      line-ends never a told =
-          let end = ends-by never (ways z s (drop used out)) in
-          let fits =
-          f .all
-          ∙ ap {B = Session × List Line} (λ (w : Session × List Line). (w .0, f .lines ++ w .1)) (end .none)
-          ∙ ap {B = Session × List Line} (λ (ls : List Line). (toldSession (r .session), ls)) (append-nil (f .lines)) in
-          rw (told, end .buffer, f .text, f .bytes)
-          (lines-end z₀ s out₀ (toldSession (r .session)) (toldHandOut (r .answer)) (f .lines) fits
-          (subst (λ (n : ℕ). Why (length out₀ - n) (toldHandOut (r .answer))) (f .bytes) (end .why)))
+    pub line-ends : ((n : ℕ) → r .answer ≡ said.Written n → ⊥) → (a : code-handout.HandOut)
+        → toldHandOut a ≡ summed used (toldHandOut (r .answer))
+        → toldHanded (record { session = r .session; answer = a }) out′ ≡ nextLines z₀ s out₀
+    line-ends never a told =
+        let end = ends-by never (ways z s (drop used out)) in
+        let fits =
+        f .all
+        ∙ ap {B = Session × List Line} (λ (w : Session × List Line). (w .0, f .lines ++ w .1)) (end .none)
+        ∙ ap {B = Session × List Line} (λ (ls : List Line). (toldSession (r .session), ls)) (append-nil (f .lines)) in
+        rw (told, end .buffer, f .text, f .bytes)
+        (lines-end z₀ s out₀ (toldSession (r .session)) (toldHandOut (r .answer)) (f .lines) fits
+        (subst (λ (n : ℕ). Why (length out₀ - n) (toldHandOut (r .answer))) (f .bytes) (end .why)))
 
 -- the answer to `let .. else` is no line
 pub tag-never-line : (a : code-handout.HandOut) → OneOf (1 ∷ 2 ∷ []) (tagOf the-type a) → (n : ℕ)

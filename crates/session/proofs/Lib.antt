@@ -7,5 +7,5 @@ pub mod NextLineLaws
 pub mod CallLaws
 pub mod FitLaws
 pub mod FillLaws
-pub mod FilledLaws
+pub mod FilledCalls
 pub mod ToldLaws

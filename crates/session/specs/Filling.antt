@@ -1,8 +1,8 @@
 -- Filling a lent buffer with the next lines of a session, as many as fit: a line is handed out as long as the longest
 -- line has room in what is left of the buffer. "Log and output buffer stay as lent"; "Written bytes begin the buffer;
 -- the rest stays."
---     fitsOn x go               the lines from x on, where x comes next: `go` has the lines after a line, and the session
---                               after them
+--     fitsOn x go               the lines from x on, where x comes next: `go` has the lines after a line, and the
+--                               session after them
 --     fitting k z s n           the next lines of z on the input s that n bytes have room for, and the session after
 --                               them; of at most k lines
 --     filledBy x out            what is handed out where x are the lines that fit: their texts one after the other

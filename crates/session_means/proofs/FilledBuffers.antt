@@ -1,5 +1,5 @@
--- The theorems: what has filled the buffers so far are the first of the session's lines, the next buffer takes the next,
--- and once nothing comes they are all.
+-- The theorems: what has filled the buffers so far are the first of the session's lines, the next buffer takes the
+-- next, and once nothing comes they are all.
 use Prim.Native.Nat.{ℕ, _<_}
 use native.Mathlib.Omega.{arith}
 use mathlib.Core.Path.{_≡_, refl, sym, ap, ap₂, subst, _∙_}
@@ -15,7 +15,7 @@ use Rattle.session.specs.Carried.{Session, Coming, line, no-line, nextOf, toldS
 use Rattle.session.specs.Filling.{fitting, Filled}
 use Rattle.session.proofs.AheadLaws.{line-never}
 use Rattle.session.proofs.FitLaws.{bytesOf, bytes-append, fitting-holds}
-use Rattle.session.proofs.FilledLaws.{came-lines, filled-answers, filled-over}
+use Rattle.session.proofs.FilledCalls.{came-lines, filled-answers, filled-over}
 use Rattle.session_means.specs.HandedLines.{Begun, Hands, HandsOut}
 use Rattle.session_means.specs.FilledBuffers.{HandsSome, FilledSoFar, BuffersFilled, AllFilled}
 use Rattle.session_means.proofs.StillLaws.{still, Numbered, still-next, numbered-next}
@@ -40,9 +40,9 @@ module _ (s : List ℕ) where
 
   came-first : (z : code-session.Session) (out out′ : List ℕ) (r : code-handed.Handed) (called : Filled z s out r out′)
       (n : ℕ) (is : r .answer ≡ Written n) → Numbered (toldSession z) s
-      → First s (toldSession z) (came-lines z s out out′ r called n is .lines) (toldSession (r .session))
+      → First s (toldSession z) (came-lines z s out out′ r called n is .lines-told) (toldSession (r .session))
   came-first z out out′ r called n is numbered =
-      rw (came-lines z s out out′ r called n is .fits) at
+      rw (came-lines z s out out′ r called n is .lines-fit) at
       (fitting-first (length out) (toldSession z) (length out) numbered)
 
   -- from z to y these lines are told, and t are their bytes
@@ -56,11 +56,11 @@ module _ (s : List ℕ) where
   hands-told z y t numbered h =
       let c = came-lines z s (h .out) (h .out′) (h .answer) (h .called) (h .bytes) (h .line) in
       record {
-        lines = c .lines;
+        lines = c .lines-told;
         first =
-            subst (λ (x : code-session.Session). First s (toldSession z) (c .lines) (toldSession x)) (h .after)
+            subst (λ (x : code-session.Session). First s (toldSession z) (c .lines-told) (toldSession x)) (h .after)
             (came-first z (h .out) (h .out′) (h .answer) (h .called) (h .bytes) (h .line) numbered);
-        text = sym (h .text) ∙ c .text;
+        text = sym (h .text) ∙ c .lines-text;
       }
 
   told-on : (ts : List (List ℕ)) (z z′ : code-session.Session) → Numbered (toldSession z) s → HandsOut Filled s z ts z′
@@ -110,8 +110,8 @@ module _ (s : List ℕ) where
     next-by (inl over) = rw (over-none over) over
     next-by (inr (n, is)) =
         let c = came-lines z s out out′ r called n is in
-        some-by n is (c .lines) (still (toldSession (r .session)) s) (still (toldSession z) s) (c .some)
-        (came-first z out out′ r called n is numbered .0) (c .text)
+        some-by n is (c .lines-told) (still (toldSession (r .session)) s) (still (toldSession z) s) (c .lines-some)
+        (came-first z out out′ r called n is numbered .0) (c .lines-text)
 
 -- ---- from the beginning on
 
@@ -134,7 +134,8 @@ buffers-filled s z z′ ts begun handed =
       all = all-told s z z′ ts begun handed;
       text = so .text;
       next =
-          λ out out′ r room called. next-by s z′ out out′ r called (so .first .1) (filled-answers z′ s out out′ r called room);
+          λ out out′ r room called. next-by s z′ out out′ r called (so .first .1)
+          (filled-answers z′ s out out′ r called room);
     }
 
 pub all-filled : AllFilled

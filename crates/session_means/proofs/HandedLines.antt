@@ -40,8 +40,8 @@ module _ (s : List ℕ) where
         numbered = numbered-next (toldSession z) s numbered _ _ next;
       }
 
-  from-start : (ts : List (List ℕ)) (z z′ : code-session.Session) → Numbered (toldSession z) s → HandsOut Called s z ts z′
-      → From s z ts z′
+  from-start : (ts : List (List ℕ)) (z z′ : code-session.Session) → Numbered (toldSession z) s
+      → HandsOut Called s z ts z′ → From s z ts z′
   from-start [] z z′ numbered same =
       record {
         told = ap (λ (x : code-session.Session). ahead x s) same;

@@ -5,7 +5,8 @@
 --     Call                     what a call on a session, an input and a lent buffer promises of its answer and of the
 --                              buffer afterwards
 --     Hands C s z t y          a call that promises C hands out the text t on z, and leaves the session y to carry on
---     HandsOut C s z ts z′     such calls from z on hand out the texts ts, one after the other, and leave the session z′
+--     HandsOut C s z ts z′     such calls from z on hand out the texts ts, one after the other, and leave the session
+--                              z′
 --     Tells ts r out′          r hands out the first of the texts ts; where there is none, it says so
 --     SoFar s z ts             the texts ts are the first of the session's lines, and whatever buffer with room is lent
 --                              next, what comes is the next of them

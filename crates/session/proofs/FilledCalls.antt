@@ -21,11 +21,13 @@ use Rattle.session.specs.Carried.{Session, Coming, line, no-line, nextOf
 use Rattle.session.specs.HandingOut.{HandOut, written, nothing, Handed, toldHandOut, toldHanded}
 use Rattle.session.specs.Filling.{fitting, filledBy, Filled}
 use Rattle.session.proofs.ToCome.{Advances}
+use Rattle.session.proofs.AheadLaws.{line-never, none-same}
 use Rattle.session.proofs.ToldLaws.{told-hand-out-injective}
 use Rattle.session.proofs.FitLaws.{bytesOf, fitting-next, fitting-within}
 use Rattle.session.proofs.FillLaws.{line-is, line-not-refused, line-not-nothing, lines-short, lines-room}
 
-module _ (z : code-session.Session) (s out out′ : List ℕ) (r : code-handed.Handed) (called : Filled z s out r out′) where
+module _ (z : code-session.Session) (s out out′ : List ℕ) (r : code-handed.Handed)
+    (called : Filled z s out r out′) where
   told-answer : (h : Handed) → toldHanded r out′ ≡ h → toldHandOut (r .answer) ≡ h .answer
   told-answer h is = ap (λ (x : Handed). x .answer) is
 
@@ -65,28 +67,29 @@ module _ (z : code-session.Session) (s out out′ : List ℕ) (r : code-handed.H
   -- ---- lines are handed out
 
   pub record CameLines (n : ℕ) : Type 0 where
-    pub lines : List Line
-    pub some : 0 < length lines
-    pub fits : fitting (length out) (toldSession z) s (length out) ≡ (toldSession (r .session), lines)
-    pub bytes : n ≡ length (bytesOf lines)
-    pub text : take n out′ ≡ bytesOf lines
+    pub lines-told : List Line
+    pub lines-some : 0 < length lines-told
+    pub lines-fit : fitting (length out) (toldSession z) s (length out) ≡ (toldSession (r .session), lines-told)
+    pub lines-bytes : n ≡ length (bytesOf lines-told)
+    pub lines-text : take n out′ ≡ bytesOf lines-told
 
   came-lines-by : (n : ℕ) → r .answer ≡ said.Written n → (x : Session × List Line)
       → fitting (length out) (toldSession z) s (length out) ≡ x → CameLines n
   unfolding filledBy
   came-lines-by n is (y, []) fits =
-      absurd (line-not-nothing (ap toldHandOut (sym is) ∙ told-answer _ (filled-by (written n) (ap toldHandOut is) _ fits)))
+      let told = filled-by (written n) (ap toldHandOut is) _ fits in
+      absurd (line-not-nothing (ap toldHandOut (sym is) ∙ told-answer _ told))
   came-lines-by n is (y, l ∷ ls) fits =
       let told = filled-by (written n) (ap toldHandOut is) _ fits in
       let long = line-is (ap toldHandOut (sym is) ∙ told-answer _ told) in
       record {
-        lines = l ∷ ls;
-        some = omega arith;
-        fits =
+        lines-told = l ∷ ls;
+        lines-some = omega arith;
+        lines-fit =
             fits
             ∙ ap {B = Session × List Line} (λ (x : Session). (x, l ∷ ls)) (ap (λ (h : Handed). h .session) (sym told));
-        bytes = long;
-        text =
+        lines-bytes = long;
+        lines-text =
             ap (λ (h : Handed). take n (h .out)) told
             ∙ take-at (bytesOf (l ∷ ls)) (drop (length (bytesOf (l ∷ ls))) out) n (sym long);
       }
@@ -98,8 +101,8 @@ module _ (z : code-session.Session) (s out out′ : List ℕ) (r : code-handed.H
   pub filled-advances : Advances z s (length out) r
   filled-advances n is =
       let c = came-lines n is in
-      let within = rw (c .fits) at (fitting-within s (length out) (toldSession z) (length out)) in
-      (omega (arith, within .0, c .bytes), omega (arith, within .1, c .some))
+      let within = rw (c .lines-fit) at (fitting-within s (length out) (toldSession z) (length out)) in
+      (omega (arith, within .0, c .lines-bytes), omega (arith, within .1, c .lines-some))
 
   -- ---- nothing comes
 
@@ -117,3 +120,32 @@ module _ (z : code-session.Session) (s out out′ : List ℕ) (r : code-handed.H
 
   pub filled-over : r .answer ≡ said.Over → (c : Session × Coming) → nextOf (toldSession z) s ≡ c → c .1 ≡ no-line
   filled-over is = over-by is (fitting (length out) (toldSession z) s (length out)) refl
+
+  -- where there is room and no lines come, none is left in the session to carry on
+  stays-by : r .answer ≡ said.Over → (x : Session × List Line)
+      → fitting (length out) (toldSession z) s (length out) ≡ x → (c : Session × Coming) → nextOf (toldSession z) s ≡ c
+      → toldSession (r .session) ≡ toldSession z
+  unfolding filledBy
+  stays-by is x fits (w, line l) next = absurd (line-never l (sym (filled-over is (w, line l) next)))
+  stays-by is (y, m ∷ ls) fits (w, no-line) next =
+      absurd (line-not-nothing (sym (told-answer _ (filled-by nothing (ap toldHandOut is) _ fits)) ∙ ap toldHandOut is))
+  stays-by is (y, []) fits (w, no-line) next =
+      let room = filled-room nothing (ap toldHandOut is) in
+      let goes = fitting-next (toldSession z) s (length out) (length out) room (omega arith) (w, no-line) next in
+      ap (λ (h : Handed). h .session) (filled-by nothing (ap toldHandOut is) _ fits)
+      ∙ ap (λ (x : Session × List Line). x .0) (sym fits ∙ goes)
+      ∙ none-same (toldSession z) w s next
+
+  none-left : r .answer ≡ said.Over → nextOf (toldSession (r .session)) s .1 ≡ no-line
+  none-left is =
+      let stays = stays-by is (fitting (length out) (toldSession z) s (length out)) refl (nextOf (toldSession z) s) refl in
+      ap (λ (x : Session). nextOf x s .1) stays ∙ filled-over is (nextOf (toldSession z) s) refl
+
+  pub filled-ends : longestLine ≤ length out → ((n : ℕ) → r .answer ≡ said.Written n → ⊥)
+      → nextOf (toldSession (r .session)) s .1 ≡ no-line
+  filled-ends room never = by (filled-answers room)
+    where
+      by : (r .answer ≡ said.Over) ⊎ ((n : ℕ) × (r .answer ≡ said.Written n))
+          → nextOf (toldSession (r .session)) s .1 ≡ no-line
+      by (inl over) = none-left over
+      by (inr (n, is)) = absurd (never n is)
