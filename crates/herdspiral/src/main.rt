@@ -1,9 +1,9 @@
 // The session program: reads a session from standard input and writes its lines on standard output. What the lines are
 // and how they fill a buffer is the library's to say (crate `session`); here is only the reading and the writing.
 ghost use Prim.Native.Nat.{suc, _+_, _<_, _≤_};
-ghost use mathlib.Core.Bool.{true, not};
+ghost use mathlib.Core.Bool.{true, false, not};
 ghost use mathlib.Core.Path.{_≡_};
-ghost use lib.ListN.{length};
+ghost use lib.ListN.{length, take};
 ghost use lib.Signed.{nonNeg};
 ghost use Rattle.io.specs.Counts.{Counts, clamped};
 ghost use Rattle.board_reader.specs.Reading.{longestInput};
@@ -56,8 +56,8 @@ fn read_on(buffer: &mut [u8], at: usize) -> Input
     read_came_to(got, rest)
 }
 
-// Reads until the buffer is full, the input ends or a read fails. The buffer has room for the longest input and one byte
-// more; where a read failed, it is not full.
+// Reads until the buffer is full, the input ends or a read fails. The buffer has room for the longest input and one
+// byte more; where a read failed, it is not full.
 fn read_input(buffer: &mut [u8]) -> Input
     requires { ⌜ length (now buffer) ≡ suc longestInput ⌝ }
     ensures { λ r. ⌜ r .length ≤ length (now (buffer .entry)) ⌝ }
@@ -105,32 +105,54 @@ fn print_lines(input: &[u8], lines: &mut [u8]) -> Printed
                 written: true,
             };
         };
-        if !write_out(lines, used) {
-            return Printed {
-                session,
-                written: false,
-            };
+        let written = write_out(lines, used);
+        if !written {
+            return Printed { session, written };
         }
     }
+}
+
+// Prints the lines of the session that was read into the start of a buffer: no read failed.
+fn print_session(buffer: &[u8], read: Input, lines: &mut [u8]) -> Printed
+    requires { ⌜ read .failed ≡ false ⌝ }
+    requires { ⌜ read .length ≤ length (now buffer) ⌝ }
+    requires { ⌜ longestLine ≤ length (now lines) ⌝ }
+    ensures { λ r. ⌜ (r .written ≡ true → nextOf (toldSession (r .session))
+        (take (read .length) (now (buffer .entry))) .1 ≡ no-line) ⌝ }
+{
+    print_lines(&buffer[..read.length], lines)
+}
+
+// Tells that a read failed.
+fn tell_unread(read: Input)
+    requires { ⌜ read .failed ≡ true ⌝ }
+{
+    io::write_all(
+        STDERR_FILENO,
+        b"herdspiral: standard input cannot be read\n",
+    );
+}
+
+// Tells that a write failed.
+fn tell_unwritten(printed: Printed)
+    requires { ⌜ printed .written ≡ false ⌝ }
+{
+    io::write_all(
+        STDERR_FILENO,
+        b"herdspiral: standard output cannot be written\n",
+    );
 }
 
 fn main() {
     let mut input = [0u8; INPUT_ROOM];
     let read = read_input(&mut input);
     if read.failed {
-        io::write_all(
-            STDERR_FILENO,
-            b"herdspiral: standard input cannot be read\n",
-        );
+        tell_unread(read);
         return;
     }
-    let length = read.length;
     let mut lines = [0u8; LINES_ROOM];
-    let printed = print_lines(&input[..length], &mut lines);
+    let printed = print_session(&input, read, &mut lines);
     if !printed.written {
-        io::write_all(
-            STDERR_FILENO,
-            b"herdspiral: standard output cannot be written\n",
-        );
+        tell_unwritten(printed);
     }
 }

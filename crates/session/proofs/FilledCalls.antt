@@ -138,7 +138,8 @@ module _ (z : code-session.Session) (s out out′ : List ℕ) (r : code-handed.H
 
   none-left : r .answer ≡ said.Over → nextOf (toldSession (r .session)) s .1 ≡ no-line
   none-left is =
-      let stays = stays-by is (fitting (length out) (toldSession z) s (length out)) refl (nextOf (toldSession z) s) refl in
+      let stays =
+      stays-by is (fitting (length out) (toldSession z) s (length out)) refl (nextOf (toldSession z) s) refl in
       ap (λ (x : Session). nextOf x s .1) stays ∙ filled-over is (nextOf (toldSession z) s) refl
 
   pub filled-ends : longestLine ≤ length out → ((n : ℕ) → r .answer ≡ said.Written n → ⊥)

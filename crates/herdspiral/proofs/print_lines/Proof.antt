@@ -1,10 +1,11 @@
 -- `herdspiral::print_lines` meets its contract and ends: each buffer leaves less to come, and where no lines fill it
 -- none is left.
-use Prim.Native.Nat.{ℕ}
-use mathlib.Core.Path.{_≡_}
+use mathlib.Core.Path.{_≡_, sym, _∙_}
+use mathlib.Core.Bool.{false≢true}
 use native.Mathlib.Omega.{arith}
 use lib.ListN.{length}
 use borrow.Author.Needs.{needs}
+use borrow.Author.Tests.{not-true}
 use Rattle.session.specs.Carried.{toldSession}
 use Rattle.session.proofs.ToCome.{toCome}
 use Rattle.session.proofs.FilledCalls.{filled-advances, filled-ends}
@@ -36,12 +37,13 @@ write-out-requires c κs =
     omega (
       arith,
       filled-advances (at-loop .loop .session) (entry .args .input .now) (at-loop .loop .lines) _
-          (at-next-lines .next-lines .result) (at-next-lines .next-lines .ensures) _ (c .before .before .answer .given .1) .0,
+          (at-next-lines .next-lines .result) (at-next-lines .next-lines .ensures) _
+          (c .before .before .answer .given .1) .0,
       kept,
     )
 
 returns-2 : tie.Need-returns-2 Inv-loop μ-loop
-returns-2 c = λ no. absurd (let z : _≡_ {A = ℕ} 0 1 = cc in omega arith)
+returns-2 c = λ wrote. absurd (false≢true (sym (not-true _ (c .if1 .taken)) ∙ wrote))
 
 loop-less : tie.Need-loop-less Inv-loop μ-loop
 loop-less c =

@@ -1,4 +1,4 @@
--- `herdspiral::read_came_to` meets its contract: the count is `io::count`'s, and a number below 0 is no number from 0 on.
+-- `herdspiral::read_came_to` meets its contract: the count is `io::count`'s, and below 0 is what is not from 0 on.
 use borrow.Author.Needs.{needs}
 use mathlib.Core.Path.{_≡_, refl, ap, _∙_}
 use mathlib.Core.Bool.{not}
