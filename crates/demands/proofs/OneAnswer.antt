@@ -84,4 +84,5 @@ one-answer = record {
   events-event-line = λ b e s v w. one-told _ told-shown-injective _;
   session-begin = λ s. one-told _ told-session-injective _;
   session-next-line = λ z s out. one-lent _ told-handed-injective _;
+  session-next-lines = λ z s out. one-lent _ told-handed-injective _;
 }

@@ -42,9 +42,11 @@ use Rattle.runs.specs.Running as runs
 use Rattle.lines.specs.declared.Line.{Line}
 use Rattle.lines.specs.Lines as lines
 use Rattle.session.specs.declared.Session.{Session}
+use Rattle.session.specs.declared.Handed.{Handed}
 use Rattle.events.specs.Events as events
 use Rattle.session.specs.Carried as session
 use Rattle.session.specs.HandingOut as handing-out
+use Rattle.session.specs.Filling as filling
 
 abbrev pub itself : {A : Type 0} → A → A
 itself x = x
@@ -112,3 +114,5 @@ pub record OneAnswer : Type 0 where
   pub session-begin : (s : List ℕ) → One session.toldSession (session.beginning s)
   pub session-next-line : (z : Session) (s out : List ℕ)
       → OneLent handing-out.toldHanded (handing-out.nextLine (session.toldSession z) s out)
+  pub session-next-lines : (z : Session) (s out : List ℕ) (x y : Handed) (k l : List ℕ)
+      → filling.Filled z s out x k → filling.Filled z s out y l → (x ≡ y) × (k ≡ l)
