@@ -2,7 +2,7 @@
 -- `line_at` hands out the next of them, or ends it.
 use Prim.Native.Nat.{ℕ, zero, suc, _+_, _-_, _<_, _≤_}
 use native.Mathlib.Omega.{arith}
-use mathlib.Core.Path.{_≡_, refl, sym, ap, ap₂, subst, _∙_}
+use mathlib.Core.Path.{_≡_, refl, sym, ap, subst, _∙_}
 use mathlib.Core.Logic.{inl, inr, _⊎_}
 use mathlib.Core.List.{List, [], _∷_, _++_, append-nil, append-assoc}
 use lib.Dec.{leb}
@@ -122,7 +122,7 @@ module _ (z : Session) (s p : List ℕ) where
 pub line-is : {m n : ℕ} → _≡_ {A = Outcome HandOut} (given (written m)) (given (written n)) → m ≡ n
 line-is e = cc
 
-pub line-not-refused : {m n p : ℕ} → _≡_ {A = Outcome HandOut} (given (written m)) (refused n p) → ⊥
+line-not-refused : {m n p : ℕ} → _≡_ {A = Outcome HandOut} (given (written m)) (refused n p) → ⊥
 line-not-refused e = let z : _≡_ {A = ℕ} 0 1 = cc in omega arith
 
 pub line-not-nothing : {m : ℕ} → _≡_ {A = Outcome HandOut} (given (written m)) (given nothing) → ⊥

@@ -3,20 +3,19 @@
 use Prim.Native.Nat.{ℕ, _<_, _≤_}
 use native.Mathlib.Omega.{arith}
 use mathlib.Core.Path.{_≡_, refl, sym, ap, _∙_}
-use mathlib.Core.List.{List, [], _∷_, _++_}
+use mathlib.Core.List.{List, [], _∷_}
 use mathlib.Core.Logic.{inl, inr, _⊎_}
 use lib.Dec.{leb}
 use lib.ListN.{length, take, drop}
 use lib.Seq.{take-at}
 use borrow.Author.Tests.{leb-true, leb-false}
 use Rattle.bits.proofs.BoolLaws.{by-test}
-use Rattle.number.specs.Outcomes.{Outcome, given}
+use Rattle.number.specs.Outcomes.{given}
 use Rattle.number.proofs.OutcomeLaws.{refused-never}
 use Rattle.lines.specs.Lines.{Line, longestLine}
 use Rattle.session.specs.declared.Session as code-session
 use Rattle.session.specs.declared.Handed as code-handed
 use Rattle.session.specs.declared.HandOut.the-variants as said
-use Rattle.session.specs.Sessions.{lineTexts, printed}
 use Rattle.session.specs.Carried.{Session, Coming, line, no-line, nextOf, toldSession}
 use Rattle.session.specs.HandingOut.{HandOut, written, nothing, Handed, toldHandOut, toldHanded}
 use Rattle.session.specs.Filling.{fitting, filledBy, Filled}
@@ -24,7 +23,7 @@ use Rattle.session.proofs.ToCome.{Advances}
 use Rattle.session.proofs.AheadLaws.{line-never, none-same}
 use Rattle.session.proofs.ToldLaws.{told-hand-out-injective}
 use Rattle.session.proofs.FitLaws.{bytesOf, fitting-next, fitting-within}
-use Rattle.session.proofs.FillLaws.{line-is, line-not-refused, line-not-nothing, lines-short, lines-room}
+use Rattle.session.proofs.FillLaws.{line-is, line-not-nothing, lines-short, lines-room}
 
 module _ (z : code-session.Session) (s out out′ : List ℕ) (r : code-handed.Handed)
     (called : Filled z s out r out′) where

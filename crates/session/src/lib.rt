@@ -1,5 +1,5 @@
-// A session: a board, the allowance and events. `begin` reads what stands before the events, and each `next_line` hands
-// out one line of the session into a lent buffer.
+// A session: a board, the allowance and events. `begin` reads what stands before the events, each `next_line` hands out
+// one line of the session into a lent buffer, and each `next_lines` as many as fit.
 ghost use mathlib.Core.Path.{_≡_};
 ghost use Rattle.session.specs.Carried.{beginning, toldSession};
 ghost use Rattle.lines.specs.Lines.{toldLineWritten};

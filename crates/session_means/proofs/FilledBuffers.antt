@@ -6,7 +6,7 @@ use mathlib.Core.Path.{_≡_, refl, sym, ap, ap₂, subst, _∙_}
 use mathlib.Core.List.{List, [], _∷_, _++_, append-nil, append-assoc}
 use mathlib.Core.Logic.{inl, inr, _⊎_}
 use lib.ListN.{length, take}
-use Rattle.lines.specs.Lines.{Line, lineText, longestLine}
+use Rattle.lines.specs.Lines.{Line}
 use Rattle.session.specs.declared.Session as code-session
 use Rattle.session.specs.declared.Handed as code-handed
 use Rattle.session.specs.declared.HandOut.the-variants.{Written, Over}
@@ -17,7 +17,7 @@ use Rattle.session.proofs.AheadLaws.{line-never}
 use Rattle.session.proofs.FitLaws.{bytesOf, bytes-append, fitting-holds}
 use Rattle.session.proofs.FilledCalls.{came-lines, filled-answers, filled-over}
 use Rattle.session_means.specs.HandedLines.{Begun, Hands, HandsOut}
-use Rattle.session_means.specs.FilledBuffers.{HandsSome, FilledSoFar, BuffersFilled, AllFilled}
+use Rattle.session_means.specs.FilledBuffers.{HandsSome, BuffersFilled, AllFilled}
 use Rattle.session_means.proofs.StillLaws.{still, Numbered, still-next, numbered-next}
 use Rattle.session_means.proofs.BeginningLaws.{beginning-still, beginning-numbered}
 
