@@ -1,7 +1,8 @@
 """Compares the proved program `file_cases` with the model of the rule book in tests/lib/board_model.py on thousands of
 generated cases: good files, damaged files, cut files, random bytes, boards handed in with and without a fault. Those are
-moved and run as well, by `run_cases`. Seeded, so each run tries the same cases; `python3 tests/board_files.py SEED BATCHES`
-tries others. Needs target/bin/file_cases and target/bin/run_cases, which `rt check file_cases run_cases` builds."""
+moved and run as well, by `run_cases`. Seeded, so each run tries the same cases; `python3 tests/board_files.py SEED CASES`
+tries others, or more (it is 1 and 10,500 else). Needs target/bin/file_cases and target/bin/run_cases, which
+`rt check file_cases run_cases` builds."""
 import os
 import random
 import sys
@@ -76,8 +77,8 @@ def handed_case(dice):
     return bytes(data)
 
 
-def handed_answer(data):
-    """What the calls answer on a board handed in: it is fine exactly if its file reads."""
+def handed_answers(data):
+    """What the calls answer on a board handed in, a line of each program's: it is fine exactly if its file reads."""
     data = data + bytes(5 + 4 * 256)
     counts, parts = list(data[:3]), data[3] + 256 * data[4]
     size = None
@@ -90,15 +91,14 @@ def handed_answer(data):
             pass
     if size is None:
         calls = " ".join(f"{call} refused 15" for call in ("write", "push", "again", "release", "absent", "beyond"))
-        return calls + " moved refused 15 0 0 ran refused 15 0 0 0 255:"
+        return calls, "moved refused 15 0 0", "ran refused 15 0 0 0 255:"
     presses = "push done again refused 12 release refused 12" if counts[2] else "push refused 7 again refused 7 release refused 7"
-    moves = "moved undecided 0 0 ran undecided 0 0 0 0:" if counts[1] else "moved refused 11 0 0 ran idle 0 0 0 255:"
-    return f"write {size} {presses} absent refused 7 beyond refused 14 {moves}"
+    moves = ("moved undecided 0 0", "ran undecided 0 0 0 0:") if counts[1] else ("moved refused 11 0 0", "ran idle 0 0 0 255:")
+    return f"write {size} {presses} absent refused 7 beyond refused 14", *moves
 
 
-def answer(ending, data):
-    if ending == "!":
-        return handed_answer(data)
+def file_answer(ending, data):
+    """What reading a file comes to, and writing it back: into a buffer that has room, or into one that is a byte too short."""
     try:
         next_place = model.read(data)
     except model.Refused as refusal:
@@ -106,43 +106,40 @@ def answer(ending, data):
     return f"read {next_place} wrote {next_place} same" if ending == ">" else "short refused 16 kept"
 
 
-def batch(dice):
-    """One text of cases, with the line that each should print."""
-    text, lines = "", []
-    while True:
-        ending = dice.choice(">>>!!?")
-        data = handed_case(dice) if ending == "!" else file_case(dice)
-        case = data.hex() + ending + "\n"
-        if len(text) + len(case) > program.TEXT_ROOM:
-            return text, lines
-        text += case
-        lines.append(answer(ending, data))
+def some_case(dice):
+    """A case: its ending, its bytes and the lines that it should print: one, or for a board handed in three."""
+    ending = dice.choice(">>>!!?")
+    data = handed_case(dice) if ending == "!" else file_case(dice)
+    return ending, data, handed_answers(data) if ending == "!" else (file_answer(ending, data),)
 
 
-def answers(text):
-    """What the programs print for each case: for a board handed in the lines of both, one after the other."""
-    told, cases = program.answers("file_cases", text), text.split("\n")
-    handed = [case[:-1] for case in cases if case.endswith("!")]
-    runs = [program.answers("run_cases", "".join(program.numbers(ASKED[ending]) + case + ending + "\n" for case in handed)) for ending in "^="]
-    own = zip(*runs)
-    return [" ".join([line, *next(own, [])]) if case.endswith("!") else line for case, line in zip(cases, told)]
+def compared(name, cases, wanted):
+    """The checks that a program prints these lines for these cases, and no others."""
+    return program.compared(cases, wanted, program.answers(program.command(name), cases))
 
 
-def compare(seed, batches):
-    dice, checks, words = random.Random(seed), [], set()
-    for _ in range(batches):
-        text, wanted = batch(dice)
-        told = answers(text)
-        told += [None] * (len(wanted) - len(told))
-        for case, want, got in zip(text.split("\n"), wanted, told):
-            checks.append((f"{case}: wanted {want}, got {got}", want == got))
-            words.update(f"refused {number}" for number in want.split("refused ")[1:] for number in [number.split()[0]])
-            words.add(want.split()[0])
+def case_checks(found):
+    """The checks on some cases: all of them by `file_cases`, the boards handed in also by `run_cases`, moved and then run."""
+    checks = compared("file_cases", [data.hex() + ending + "\n" for ending, data, _ in found], [lines[0] for _, _, lines in found])
+    handed = [(data, lines) for ending, data, lines in found if ending == "!"]
+    for place, ending in enumerate(ASKED, 1):
+        cases = [program.handed_case(ASKED[ending], data, ending) for data, _ in handed]
+        checks += compared("run_cases", cases, [lines[place] for _, lines in handed])
+    return checks
+
+
+def compare(seed, count):
+    dice, words = random.Random(seed), set()
+    found = [some_case(dice) for _ in range(count)]
+    checks = case_checks(found)
+    for want in (line for _, _, lines in found for line in lines):
+        words.update(f"refused {number.split()[0]}" for number in want.split("refused ")[1:])
+        words.add(want.split()[0])
     for word in ["read", "write", "short"] + [f"refused {number}" for number in (1, 2, 3, 4, 5, 6, 7, 8, 9, 11, 12, 14, 15, 16)]:
         checks.append((f"some case answers {word}", word in words))
     return checks
 
 
 if __name__ == "__main__":
-    seed, batches = (int(word) for word in sys.argv[1:3]) if len(sys.argv) > 2 else (1, 30)
-    sys.exit(repository.report(compare(seed, batches)))
+    seed, count = (int(word) for word in sys.argv[1:3]) if len(sys.argv) > 2 else (1, 10_500)
+    sys.exit(repository.report(compare(seed, count)))

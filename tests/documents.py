@@ -1,10 +1,12 @@
 """docs/READING.md lists every file of definitions once with its number of lines, adds up those of its first part, and names
-laws that are there; docs/COST.md has every crate with its own counts."""
+laws that are there; docs/COST.md has every crate with its own counts, and no other; docs/CONTRIBUTING.md has a row for every
+script of tests/. What a document names in backquotes is there (tests/lib/named.py)."""
 import os
 import re
 import sys
 
 sys.path.insert(0, os.path.join(os.path.dirname(os.path.abspath(__file__)), "lib"))
+import named
 import repository
 
 page = repository.text("docs", "READING.md")
@@ -36,4 +38,11 @@ for name, laws in re.findall(r"`(\w+/proofs/\w+\.antt)`: ((?:`[\w-]+`(?:, )?)+)"
     proofs = repository.text("crates", name) if os.path.exists(repository.path("crates", name)) else ""
     for law in re.findall(r"`([\w-]+)`", laws):
         checks.append((f"docs/READING.md: {name} proves {law}", bool(re.search(rf"^\s*pub {law} :", proofs, re.M))))
-sys.exit(repository.report(checks))
+
+# A row of docs/COST.md is a crate's; a row of docs/CONTRIBUTING.md is a script's.
+for crate in cost:
+    checks.append((f"docs/COST.md: {crate} is a crate", crate in repository.crates()))
+scripts = sorted(name for name in os.listdir(repository.path("tests")) if name.endswith(".py"))
+listed = sorted(re.findall(r"^\| `(\w+\.py)` \|", repository.text("docs", "CONTRIBUTING.md"), re.M))
+checks.append((f"docs/CONTRIBUTING.md: a row for each script of tests/, {scripts}, not {listed}", scripts == listed))
+sys.exit(repository.report(checks + named.checks()))

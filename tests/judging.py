@@ -139,27 +139,10 @@ def deep_judgements():
     return found
 
 
-def batches(found):
-    """The judgements in lists whose texts the program takes."""
-    size, own = 0, []
-    for text, line in found:
-        if size + len(text) > program.TEXT_ROOM:
-            yield own
-            size, own = 0, []
-        size += len(text)
-        own.append((text, line))
-    yield own
-
-
 def compared(found, stack=None):
-    """A check for each judgement: that the program prints its line."""
-    checks = []
-    for own in batches(found):
-        told = program.answers("current_cases", "".join(text for text, _ in own), stack)
-        checks.append((f"a text of {len(own)} cases has {len(told)} answers", len(told) == len(own)))
-        told += [None] * (len(own) - len(told))
-        checks += [(f"{text.strip()}: wanted {want}, got {got}", want == got) for (text, want), got in zip(own, told)]
-    return checks
+    """A check for each judgement, that the program prints its line, and that it prints no others."""
+    cases, wanted = zip(*found)
+    return program.compared(cases, wanted, program.answers(program.command("current_cases", stack), cases))
 
 
 def compare(seed, boards):

@@ -1,6 +1,8 @@
-"""Each function that another crate can call has a promise for all inputs, and a line in the proved list of laws of one answer
-(crates/demands/specs/OneAnswer.antt, proofs/OneAnswer.antt), which has lines for nothing else. docs/PROMISES.md has a row for
-it that names that line and at least two must-fail edits, all of which exist."""
+"""Each function that another crate can call has one promise, under one name: its `ensures` is exactly that named relation, of
+the call's arguments in their order, the answer, and what a lent buffer holds afterwards. The relation is defined once, in the
+crate's own specs/, and the proved list of laws of one answer (crates/demands/specs/OneAnswer.antt, proofs/OneAnswer.antt) has a
+line over that name at any arguments, and lines for nothing else. docs/PROMISES.md has a row for it that names the relation, that
+line and at least two must-fail edits, all of which exist."""
 import os
 import re
 import sys
@@ -15,9 +17,11 @@ for line in page.split("\n"):
     if row:
         rows[row.group(1)] = line
 
-# A line of the list may go on below, further in.
-listed = dict(re.findall(r"^  pub ([\w-]+) : (.*(?:\n    .*)*)$", repository.text("crates", "demands", "specs", "OneAnswer.antt"), re.M))
-proved = re.findall(r"^  ([\w-]+) = ", repository.text("crates", "demands", "proofs", "OneAnswer.antt"), re.M)
+# The list is the last of its file. A line of it may go on below, further in.
+statements = repository.text("crates", "demands", "specs", "OneAnswer.antt").partition("pub record OneAnswer ")[2]
+listed = dict(re.findall(r"^  pub ([\w-]+) : (.*(?:\n    .*)*)$", statements, re.M))
+answers = repository.text("crates", "demands", "proofs", "OneAnswer.antt").partition("pub one-answer ")[2]
+proved = re.findall(r"^  ([\w-]+) = ", answers, re.M)
 
 
 def line_of(name):
@@ -26,23 +30,54 @@ def line_of(name):
     return f"{words[0]}-{words[-1]}".replace("_", "-")
 
 
+def parameters(contract):
+    """A function's parameters: pairs of the name and the type, which is empty for `self`."""
+    inside = contract[contract.index("(") + 1:contract.index(") ->")]
+    named = [part.strip().partition(": ") for part in inside.split(", ") if part.strip()]
+    return [(name, kind) for name, _, kind in named]
+
+
+def promise_of(contract):
+    """The one promise that a contract may make, as (the relation's name, its whole text), or None if it makes another."""
+    lent = [name for name, kind in parameters(contract) if kind.startswith("&mut ")]
+    given = [f"(now ({name} .entry))" if kind.startswith("&") else name for name, kind in parameters(contract)]
+    rest = " ".join(given + ["r"] + [f"(now ({name} .exit))" for name in lent])
+    made = re.search(r"\n\s*ensures \{ λ r\. ⌜ (\w+) (.*) ⌝ \}\s*\{$", contract, re.S)
+    return made.group(1) if made and " ".join(made.group(2).split()) == rest else None
+
+
+def says_one(line, relation, contract):
+    """Whether a line of the list says that the relation allows one answer, whatever the call is given."""
+    binders = re.findall(r"\(([\w ]+) : [\w ]+\)", line)
+    names = " ".join(binders).split()
+    law = "OneLent" if "&mut " in contract else "One"
+    said = f"({relation} {' '.join(names)})" if names else relation
+    whole = "".join(f"({group}) " for group in re.findall(r"\(([\w ]+ : [\w ]+)\)", line))
+    # A byte is below 256, which `wide` promises of its answer; a number of the definitions does not say so by itself.
+    whole += "→ x < 256 " if relation == "Wide" else ""
+    return len(names) == len(set(names)) == len(parameters(contract)) and line == (f"{whole}→ {law} {said}" if names else f"{law} {said}")
+
+
 checks, public = [], set()
 for crate in repository.crates():
     if not repository.is_library(crate):
         continue
     edits = repository.edits(crate)
+    own = "\n".join(repository.text(name) for name in repository.files(crate, "specs"))
     checks.append((f"{crate} has must-fail edits", bool(edits)))
     for name, contract in repository.public_functions(crate):
         public.add(name)
         row = rows.get(name, "")
         named = re.findall(r"`([^`\s]+)`", row)
-        checks.append((f"{name} has an ensures", "ensures" in contract))
+        relation = promise_of(contract)
+        line = " ".join(listed.get(line_of(name), "").split())
         checks.append((f"{name} has no requires", "requires" not in contract))
+        checks.append((f"{name}'s ensures is one named relation of its arguments, its answer and what it was lent", relation is not None))
+        checks.append((f"{name}'s promise {relation} is defined in its crate's specs/", len(re.findall(rf"^abbrev pub {relation} : ", own, re.M)) == 1))
         checks.append((f"{name} has a row in docs/PROMISES.md", bool(row)))
-        cited = re.findall(r"[\w-]+\.(\w+)", listed.get(line_of(name), ""))
         checks.append((f"{name} has a line in the list of laws of one answer", line_of(name) in listed and line_of(name) in proved))
-        checks.append((f"{name}'s line in the list is over the definitions of its promise: {cited}", all(definition in contract for definition in cited)))
-        checks.append((f"{name}'s row names that line", line_of(name) in named))
+        checks.append((f"{name}'s line in the list is over its promise {relation}, whatever it is given", says_one(line, relation, contract)))
+        checks.append((f"{name}'s row names its promise {relation} and that line", relation in named and line_of(name) in named))
         checks.append((f"{name}'s row names two must-fail edits", len([label for label in named if label in edits]) >= 2))
 for line in listed:
     checks.append((f"{line} of the list is a public function", line in {line_of(name) for name in public}))

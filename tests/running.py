@@ -107,11 +107,14 @@ def total(names):
     return sum(2**name for name in names)
 
 
+def handed(counts, parts):
+    """The bytes of a board handed in."""
+    return bytes(counts + [len(parts) % 256, len(parts) // 256] + [byte for part in parts for byte in (part + [0])[:4]])
+
+
 def case(own, numbers, ending):
     """The text of a case: the numbers, then the board handed in."""
-    count = len(own.parts)
-    data = own.counts + [count % 256, count // 256] + [byte for part in own.parts for byte in (part + [0])[:4]]
-    return program.numbers(numbers) + bytes(data).hex() + ending + "\n"
+    return program.handed_case(numbers, handed(own.counts, own.parts), ending)
 
 
 def move_case(own, drawn, pushed, relay, allowance):
@@ -169,15 +172,6 @@ def long_runs(dice):
     return [run_case(model.Board(*own, MOST_CHAINS), set(), pushed, LARGEST, model.LONGEST_LOG) for own, pushed in boards]
 
 
-def answers(found):
-    """What the program prints for each case; None for those of a text that it answers with more lines or fewer."""
-    told = []
-    for own in judging.batches(found):
-        lines = program.answers("run_cases", "".join(text for text, _ in own))
-        told += lines if len(lines) == len(own) else [None] * len(own)
-    return told
-
-
 def goes_on(less, more):
     """Whether the second line, of a run that is no less generous, starts with every move of the first, and is the same if
     that one ended idle or in conflict."""
@@ -218,8 +212,9 @@ def compare(seed, boards):
             groups.append((len(found) + len(of_moves), [asked for _, asked in of_runs]))
             found += of_moves + [each for each, _ in of_runs]
     found += long_runs(dice)
-    told = answers(found)
-    checks = [(f"{text.strip()}: wanted {want}, got {got}", want == got) for (text, want), got in zip(found, told)]
+    cases, wanted = zip(*found)
+    told = program.answers(program.command("run_cases"), cases)
+    checks = program.compared(cases, wanted, told)
     for start, asked in groups:
         wrong = disagreeing(list(zip(asked, told[start:])))
         checks.append((f"{found[start][0].strip()}: of two runs from this state the one goes on as the other did: {wrong}", not wrong))

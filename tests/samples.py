@@ -1,22 +1,31 @@
 """Runs the script `herdspiral` on each session of samples/ and compares what it prints with the lines beside it, byte by
 byte; on long sessions; and, over a repository and a kit that stand in for the real ones (tests/lib/stand_in.py), tries its
-typed text, its errors, and when it asks `rt` to build. Nothing in the repository is changed but target/, where the script
-leaves its stamp. Needs the Rattle kit; the script builds target/bin/herdspiral if it is missing."""
+typed text, its errors, and when it asks `rt` to build. What a start comes to is compared whole: its output, its exact words on
+standard error, its status. Holds README.md to the samples that it shows. Nothing in the repository is changed but target/,
+where the script leaves its stamp. Needs the Rattle kit; the script builds target/bin/herdspiral if it is missing."""
 import os
+import platform
+import re
 import shutil
-import subprocess
 import sys
 import tempfile
 
 sys.path.insert(0, os.path.join(os.path.dirname(os.path.abspath(__file__)), "lib"))
+import program
 import repository
 import stand_in
+from program import Told, well
 from stand_in import StandIn
 
 SCRIPT = repository.path("herdspiral")
 EVERY_BYTE = bytes(range(256))
 LONGEST = 65_536  # bytes that a session may have
 NO_DIGIT, NO_SECOND = "is not a hex digit", "has no second hex digit right after it"
+MORE = "./herdspiral --help says more"
+BUILDING = "proving and building the program; the first time this takes some minutes"
+NOT_BUILT = "the program could not be proved and built: rt check herdspiral says why, above"
+NO_KIT = "rt is not found: this needs the Rattle kit, with rt on the PATH or RATTLE_HOME set to the kit's folder"
+RT_SAID = b"rt: said on standard output\nrt: said on standard error\n"
 
 # Typed texts and the bytes that they stand for.
 GOOD = [
@@ -62,7 +71,18 @@ def same(name, got, want):
 
 
 def run(*words, data=b"", **more):
-    return subprocess.run([SCRIPT, *words], input=data, capture_output=True, **more)
+    """What the script comes to with these words, and with this on its standard input."""
+    return program.run([SCRIPT, *words], data, **more)
+
+
+def said(words):
+    """A message of the script."""
+    return f"herdspiral: {words}\n".encode()
+
+
+def built(out):
+    """A run that built the program first, and then prints this."""
+    return Told(out, said(BUILDING), 0)
 
 
 def bytes_of(text):
@@ -78,13 +98,27 @@ def samples():
     with tempfile.TemporaryDirectory() as folder:
         raw = os.path.join(folder, "session")
         for name in sorted(typed & lines):
-            want = (repository.text("samples", name + ".lines").encode(), b"", 0)
+            want = well(repository.text("samples", name + ".lines").encode())
             data = bytes_of(repository.text("samples", name + ".hex"))
             stand_in.put(raw, data)
             ways = {"": run(repository.path("samples", name + ".hex")), " on standard input": run(data=data), " as a file of bytes": run(raw)}
             for way, told in ways.items():
-                checks.append(same(f"samples/{name}.hex{way}", (told.stdout, told.stderr, told.returncode), want))
+                checks.append(same(f"samples/{name}.hex{way}", told, want))
     return checks
+
+
+def readme():
+    """README.md shows commands that run a sample, each with the lines that it prints, and the typed bytes of one of them."""
+    blocks = re.findall(r"(?:^    .*\n)+", repository.text("README.md"), re.M)
+    blocks = [[line[4:] for line in block.split("\n")[:-1]] for block in blocks]
+    printed = iter([block for block in blocks if block[0].startswith("0 ")])
+    shown = [re.fullmatch(r"\./herdspiral samples/(.+)\.hex", line) for block in blocks for line in block]
+    names = [command[1] for command in shown if command]
+    checks = [same("README.md runs these samples", names, ["h2", "h1"])]
+    for name in names:
+        checks.append(same(f"README.md on samples/{name}.hex", "\n".join(next(printed, [])) + "\n", repository.text("samples", name + ".lines")))
+    typed = [bytes_of("\n".join(block)) for block in blocks if re.match(r"[0-9a-f]{2} [0-9a-f]{2} ", block[0])]
+    return checks + [same("the typed session of README.md", typed, [bytes_of(repository.text("samples", "h1.hex"))])]
 
 
 def long_sessions():
@@ -92,14 +126,14 @@ def long_sessions():
     start = bytes_of(repository.text("samples", "h2.hex"))[:-2]
     events = LONGEST - len(start)
     data = start + bytes((event + 1) % 2 for event in range(events + 1))
-    lines = ["0 idle 0 0", "1 idle 1 1"] + [f"{event} idle 0 1" for event in range(2, events + 1)]
+    lines = "0 idle 0 0\n1 idle 1 1\n" + "".join(f"{event} idle 0 1\n" for event in range(2, events + 1))
     checks = []
     with tempfile.TemporaryDirectory() as folder:
         path = os.path.join(folder, "long.hex")
-        for length, want in ((LONGEST, lines), (LONGEST + 1, ["refused 10 0"])):
+        for length, want in ((LONGEST, lines), (LONGEST + 1, "refused 10 0\n")):
             stand_in.put(path, data[:length].hex(" "))
             for way, told in (("typed", run(path)), ("on standard input", run(data=data[:length]))):
-                checks.append(same(f"a session of {length} bytes, {way}", told.stdout.decode().split("\n")[:-1], want))
+                checks.append(same(f"a session of {length} bytes, {way}", told, well(want.encode())))
     return checks
 
 
@@ -111,7 +145,7 @@ def settled():
         own = {**os.environ, "PATH": folder + os.pathsep + os.environ["PATH"], "RATTLE_HOME": kit}
         told = run(repository.path("samples", "h2.hex"), env=own)
         return [
-            same("a start with nothing changed", (told.stdout, told.stderr), (repository.text("samples", "h2.lines").encode(), b"")),
+            same("a start with nothing changed", told, well(repository.text("samples", "h2.lines").encode())),
             ("a start with nothing changed does not call rt", not os.path.exists(os.path.join(folder, "called"))),
         ]
 
@@ -120,34 +154,38 @@ def typed_text(own):
     """Typed text, good and bad. A slip is told before anything is built or started."""
     checks = []
     for text, line, column, what in BAD:
-        told = own.typed(text)
-        said = f"herdspiral: {own.folder}/typed.hex: line {line}, column {column}: {what}\n"
-        checks.append(same(f"the text {text[-40:]!r}", (told.stdout, told.stderr.decode(), told.returncode), (b"", said, 2)))
+        wrong = said(f"{own.folder}/typed.hex: line {line}, column {column}: {what}")
+        checks.append(same(f"the text {text[-40:]!r}", own.typed(text), Told(b"", wrong, 2)))
     checks.append(same("after a slip nothing is built or started", (own.noted("calls"), own.noted("starts")), ([], [])))
     own.start()
     for name, text, data in GOOD:
-        told = own.typed(text)
-        checks.append(same(f"typed, {name}", (told.stdout, told.stderr, told.returncode), (data, b"", 0)))
+        checks.append(same(f"typed, {name}", own.typed(text), well(data)))
     long = EVERY_BYTE * 300
-    checks.append(("76,800 bytes typed, with a comment each", own.typed("\n".join(f"{byte:02x} # byte {byte}" for byte in long)).stdout == long))
-    checks.append(same("a file of bytes is taken as it is", own.typed(b"03 zz\0\xff\n", "typed.hex.bin").stdout, b"03 zz\0\xff\n"))
+    checks.append(same("76,800 bytes typed, with a comment each", own.typed("\n".join(f"{byte:02x} # byte {byte}" for byte in long)), well(long)))
+    checks.append(same("a file of bytes is taken as it is", own.typed(b"03 zz\0\xff\n", "typed.hex.bin"), well(b"03 zz\0\xff\n")))
     return checks
 
 
 def arguments(own):
     """Wrong arguments, and the ways to name the script and its file."""
     checks = []
-    for name, words in (("a file that is not there", ["none.hex"]), ("a directory", [own.folder]), ("two files", ["a.hex", "b.hex"]), ("an empty name", [""])):
-        told = own.start(*words)
-        checks.append(same(f"{name}: {told.stderr!r}", (told.stdout, told.returncode, told.stderr[:12]), (b"", 2, b"herdspiral: ")))
-    told = own.start("--help")
-    checks.append(same("--help", (told.stdout[:19], told.stderr, told.returncode), (b"usage: ./herdspiral", b"", 0)))
+    for name, words, message in (
+        ("a file that is not there", ["none.hex"], f"none.hex: there is no such file; {MORE}"),
+        ("a directory", [own.folder], f"{own.folder}: this is a directory, not a session"),
+        ("two files", ["a.hex", "b.hex"], f"one file at most, and there are 2 arguments; {MORE}"),
+        ("an empty name", [""], f": there is no such file; {MORE}"),
+    ):
+        checks.append(same(name, own.start(*words), Told(b"", said(message), 2)))
+    folder = os.open("/", os.O_RDONLY)
+    checks.append(same("a directory on standard input", run(stdin=folder), Told(b"", said("standard input is a directory, not a session"), 2)))
+    os.close(folder)
+    usage = repository.text("herdspiral").split("    cat <<'EOF'\n")[1].split("EOF\n")[0]
+    checks.append(same("--help", own.start("--help"), well(usage.encode())))
     checks.append(same("none of these builds or starts anything", (own.noted("calls"), own.noted("starts")), ([], [])))
     own.start()
     for name in ("a b  c.hex", "-n.hex", "-", "--.hex", "a=b.hex", "*.hex", "ä'\".hex", "$x\\n.hex"):
         stand_in.put(os.path.join(own.folder, "files", name), "03 ff" if name.endswith(".hex") else b"\x03\xff")
-        told = own.start(name, folder=os.path.join(own.folder, "files"))
-        checks.append(same(f"a file called {name}", (told.stdout, told.stderr), (b"\x03\xff", b"")))
+        checks.append(same(f"a file called {name}", own.start(name, folder=os.path.join(own.folder, "files")), well(b"\x03\xff")))
     os.symlink("../the root/herdspiral", os.path.join(own.folder, "files", "first"))
     os.symlink(os.path.join(own.folder, "files", "first"), os.path.join(own.folder, "links", "second"))
     for name, script, folder in (
@@ -158,9 +196,9 @@ def arguments(own):
         ("by a link to a link", os.path.join(own.folder, "links", "second"), "/"),
     ):
         told = own.start(os.path.join(own.folder, "files", "-n.hex"), script=script, folder=folder, CDPATH="/tmp:/")
-        checks.append(same(f"started {name}", (told.stdout, told.stderr), (b"\x03\xff", b"")))
-    told = subprocess.run("second '-n.hex'", shell=True, capture_output=True, cwd=os.path.join(own.folder, "files"), env=own.environment())
-    checks.append(same("started by its name, found on PATH", (told.stdout, told.stderr), (b"\x03\xff", b"")))
+        checks.append(same(f"started {name}", told, well(b"\x03\xff")))
+    told = program.run(["sh", "-c", "second '-n.hex'"], cwd=os.path.join(own.folder, "files"), env=own.environment())
+    checks.append(same("started by its name, found on PATH", told, well(b"\x03\xff")))
     return checks + [same("all of these are built once", own.noted("calls"), ["check herdspiral"])]
 
 
@@ -172,9 +210,8 @@ def building(own):
         nonlocal asked
         asked += calls
         told = own.start(data=b"\0session\xff")
-        checks.append(same(f"{name}: what is printed", (told.stdout, told.returncode), (b"\0session\xff", 0)))
+        checks.append(same(f"{name}: what is printed, and said of building", told, (built if calls else well)(b"\0session\xff")))
         checks.append(same(f"{name}: calls of rt", own.noted("calls"), ["check herdspiral"] * asked))
-        checks.append(same(f"{name}: one line is said of it, or nothing", told.stderr.count(b"\n"), calls))
 
     def file(*words):
         return os.path.join(own.root, *words)
@@ -212,20 +249,17 @@ def not_built(own):
     checks = []
     for time in ("first", "second"):
         told = own.start(data=b"session")
-        checks.append(same(f"a check fails, the {time} start", (told.stdout, told.returncode), (b"", 1)))
-        for words in (b"rt: said on standard output\n", b"rt: said on standard error\n", b"could not be proved and built"):
-            checks.append((f"a check fails, the {time} start: {words} is in {told.stderr}", words in told.stderr))
+        checks.append(same(f"a check fails, the {time} start", told, Told(b"", said(BUILDING) + RT_SAID + said(NOT_BUILT), 1)))
     checks.append(same("a check that fails is made again", len(own.noted("calls")), 2))
     checks.append(same("in target/ nothing is left of it", os.listdir(os.path.join(own.root, "target")), []))
     bare = own.bare_path()
-    told = own.start(PATH=bare)
-    checks.append(same(f"no rt: {told.stderr!r}", (told.stdout, told.returncode, b"Rattle kit" in told.stderr), (b"", 1, True)))
+    checks.append(same("no rt", own.start(PATH=bare), Told(b"", said(NO_KIT), 1)))
     os.remove(os.path.join(own.kit, "refuse"))
-    told = own.start(data=b"session", PATH=bare, RATTLE_HOME=own.kit)
-    checks.append(same("the kit by RATTLE_HOME alone", (told.stdout, told.returncode), (b"session", 0)))
+    checks.append(same("the kit by RATTLE_HOME alone", own.start(data=b"session", PATH=bare, RATTLE_HOME=own.kit), built(b"session")))
+    loader = os.path.join(own.tools, "lib", "ld-linux-x86-64.so.2")
     shutil.rmtree(own.tools)
-    told = own.start(data=b"session")
-    checks.append(same(f"a kit for other machines: {told.stderr!r}", (told.stdout, told.returncode), (b"", 1)))
+    lacking = f"the Rattle kit at {own.kit} has nothing for this machine, {platform.machine()}: there is no {loader}"
+    checks.append(same("a kit for other machines", own.start(data=b"session"), Told(b"", said(lacking), 1)))
     return checks
 
 
@@ -233,15 +267,21 @@ def how_it_ends(own):
     """The program's status is passed on, and a killed program is seen. It is started by the emulator where there is one."""
     checks = []
     stand_in.put(os.path.join(own.folder, "a.hex"), "03")
-    for name, text, direct, typed in (("status 7", "cat >/dev/null; exit 7", 7, 7), ("killed", "kill -9 $$", -9, 137), ("status 0, its input not read", "exit 0", 0, 0)):
+    for name, text, direct, typed in (
+        ("status 7", "cat >/dev/null; echo line; echo word >&2; exit 7", Told(b"line\n", b"word\n", 7), 7),
+        ("killed", "kill -9 $$", Told(b"", b"", -9), 137),
+        ("status 0, its input not read", "exit 0", well(b""), 0),
+    ):
         stand_in.put(os.path.join(own.kit, "program"), f"#!/bin/sh\n{text}\n", 0o755)
         shutil.rmtree(os.path.join(own.root, "target"), ignore_errors=True)
-        checks.append(same(f"{name}, on bytes", own.start().returncode, direct))
-        checks.append(same(f"{name}, on typed text", own.start("a.hex").returncode, typed))
-    told = own.typed("00 " * 300_000)
-    checks.append(same("a program that does not read all", (told.stdout, told.stderr, told.returncode), (b"", b"", 0)))
+        checks.append(same(f"{name}, on bytes", own.start(), direct._replace(errors=said(BUILDING) + direct.errors)))
+        told = own.start("a.hex")
+        if typed == 137:  # the shell says on standard error, in its own words, that the program was killed
+            told = told._replace(errors=b"")
+        checks.append(same(f"{name}, on typed text", told, direct._replace(status=typed)))
+    checks.append(same("a program that does not read all", own.typed("00 " * 300_000), well(b"")))
     stand_in.put(os.path.join(own.tools, "bin", "qemu-x86_64"), stand_in.EMULATOR, 0o755)
-    checks.append(same("the emulator", own.start("a.hex").stderr, b"emulated\n"))
+    checks.append(same("the emulator", own.start("a.hex"), Told(b"", b"emulated\n", 0)))
     return checks
 
 
@@ -255,10 +295,10 @@ def over_stand_ins():
 
 def over_the_program():
     """What needs the real program. If it cannot be built that is one failure, and it is not tried again for each sample."""
-    told = run(repository.path("samples", "h0.hex"))
-    if told.returncode:
-        return [(f"the program starts; status {told.returncode}: {told.stderr.decode()[-600:]}", False)]
-    return samples() + long_sessions() + settled()
+    told = run(repository.path("samples", "h0.hex"), timeout=None)
+    if told.status:
+        return [(f"the program starts; status {told.status}: {told.errors.decode()[-600:]}", False)]
+    return samples() + readme() + long_sessions() + settled()
 
 
 if __name__ == "__main__":

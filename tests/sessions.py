@@ -11,7 +11,6 @@ import concurrent.futures
 import os
 import re
 import shutil
-import subprocess
 import sys
 
 sys.path.insert(0, os.path.join(os.path.dirname(os.path.abspath(__file__)), "lib"))
@@ -22,7 +21,6 @@ import second_program
 import session_sorts
 import session_streams
 
-PATIENCE = 120  # seconds that a session may take
 SHOWN = 300  # characters of an answer in a message
 SESSION_SHOWN = 2_200  # and of a session: those with few events are shown whole
 ALONE = 6  # of each sort, so many sessions are given to the program itself, one to a process
@@ -52,22 +50,17 @@ def from_difference(first, second):
 
 
 def proved(session):
-    """What the proved program prints on standard output and on standard error."""
-    try:
-        told = subprocess.run(program.command("herdspiral"), input=session, capture_output=True, timeout=PATIENCE)
-    except subprocess.TimeoutExpired:
-        return None, f"no end after {PATIENCE} s".encode()
-    ended = b"" if told.returncode >= 0 else f"ended by signal {-told.returncode}".encode()
-    return told.stdout, told.stderr + ended
+    """What the proved program comes to on a session."""
+    return program.run(program.command("herdspiral"), session)
 
 
 def same(name, session, told, wanted):
-    """The check that a program prints for a session what is wanted, some line at least, and nothing on standard error."""
-    answer, errors = told
-    if answer == wanted and wanted and wanted.endswith(b"\n") and not errors:
+    """The check that a program prints for a session what is wanted, some line at least, says nothing on standard error, and
+    ends with status 0."""
+    if told == program.well(wanted) and wanted and wanted.endswith(b"\n"):
         return name, True
-    want, got = from_difference(wanted, answer)
-    return f"{name}: {shown(session.hex(), SESSION_SHOWN)}: wanted {want}, got {got}, on standard error {shown(repr(errors))}", False
+    want, got = from_difference(wanted, told.out)
+    return f"{name}: {shown(session.hex(), SESSION_SHOWN)}: wanted {want}, got {got}, on standard error {shown(repr(told.errors))}, status {told.status}", False
 
 
 class Seen:
@@ -134,7 +127,7 @@ def compared(sessions):
     its bytes."""
     seen, data = Seen(), [session for _, _, session in sessions]
     second = second_program.answers(data)
-    checks = [same(name, session, (own, b""), wanted) for (name, _, session), own, wanted in zip(sessions, by_library(data), second)]
+    checks = [same(name, session, program.well(own), wanted) for (name, _, session), own, wanted in zip(sessions, by_library(data), second)]
     first = [place for place, (name, _, _) in enumerate(sessions) if int(name.split()[-1]) < ALONE]
     for place, own in zip(first, by_program([data[place] for place in first])):
         checks.append(same(f"{sessions[place][0]}, alone", data[place], own, second[place]))
@@ -157,7 +150,7 @@ def book():
     """That both programs print what the rule book says of its boards."""
     for name, session, wanted in book_sessions.sessions():
         yield same(f"{name}, herdspiral", session, proved(session), wanted)
-        yield same(f"{name}, the second program", session, (second_program.answer(session), b""), wanted)
+        yield same(f"{name}, the second program", session, second_program.answer(session), wanted)
 
 
 def compare(seed, count):

@@ -3,11 +3,15 @@
 //! Each module renders one part of the rule book, in its order: `number` and
 //! `file` are "The board file" with the refusals of a read, `board` is "Parts
 //! of a board", `chains` and `judge` are "Chains and current", `moves` and
-//! `runs` are "How a relay moves", `session` is "The session program". Only
-//! `streams` is not in the rule book: it fetches sessions from a stream.
+//! `runs` are "How a relay moves", `calls` is the order of refusals for what is
+//! handed in, `session` is "The session program". Only `streams` and `cases`
+//! are not in the rule book: they fetch sessions, and single calls, from a
+//! stream.
 #![forbid(unsafe_code)]
 
 pub mod board;
+pub mod calls;
+pub mod cases;
 pub mod chains;
 pub mod file;
 pub mod judge;

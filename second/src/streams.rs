@@ -1,9 +1,10 @@
 //! Fetching sessions from a stream and printing their lines.
 //!
 //! `one` is the outer half of "The session program": it reads a session from
-//! its input, and no byte beyond those that show it to be too long. `many` is
-//! for comparing programs and is not in the rule book.
+//! its input, and no byte beyond those that show it to be too long. `many` and
+//! `typed` are for comparing programs and are not in the rule book.
 
+use crate::cases::answers;
 use crate::number::LONGEST_INPUT;
 use crate::session::session;
 use std::io::{self, Read, Write};
@@ -26,6 +27,17 @@ pub fn many(input: &mut impl Read, out: &mut impl Write) -> io::Result<()> {
         out.write_all(b".\n")?;
     }
     Ok(())
+}
+
+/// Answers typed cases to the end of the input; if one is malformed, none.
+pub fn typed(input: &mut impl Read, out: &mut impl Write) -> io::Result<()> {
+    let mut text = String::new();
+    input.read_to_string(&mut text)?;
+    let Some(lines) = answers(&text) else {
+        let kind = io::ErrorKind::InvalidData;
+        return Err(io::Error::new(kind, "a case is malformed"));
+    };
+    out.write_all(lines.as_bytes())
 }
 
 /// The length of the next session; none at the end of the stream.

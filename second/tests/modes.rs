@@ -1,4 +1,4 @@
-//! The program as a process: its two modes, its usage and its exit status.
+//! The program as a process: its three modes, its usage and its exit status.
 
 use std::fs::File;
 use std::io::{Seek, Write};
@@ -47,8 +47,28 @@ fn many_sessions_and_a_stream_cut_short() {
 }
 
 #[test]
+fn typed_cases_and_one_that_is_malformed() {
+    let text = b"03 01 01 02  03 00 02 00  04 02 01 00  00 01 00 00 64 @\n";
+    let output = play(&["--cases"], text);
+    assert_eq!(output.status.code(), Some(0));
+    assert_eq!(lines(&output), "judged live 3 3: 0 2 1\n");
+    assert!(output.stderr.is_empty());
+    for malformed in [&text[1..], &[text, &b"0"[..]].concat(), b"\xff"] {
+        let output = play(&["--cases"], malformed);
+        assert_eq!(output.status.code(), Some(1));
+        assert!(output.stdout.is_empty());
+        assert!(!output.stderr.is_empty());
+    }
+}
+
+#[test]
 fn other_arguments_get_the_usage() {
-    for arguments in [&["--few"][..], &["--many", "--many"], &[""]] {
+    for arguments in [
+        &["--few"][..],
+        &["--many", "--many"],
+        &["--many", "--cases"],
+        &[""],
+    ] {
         let output = program().args(arguments).output().unwrap();
         assert_eq!(output.status.code(), Some(2));
         assert!(output.stdout.is_empty());

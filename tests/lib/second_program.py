@@ -26,5 +26,5 @@ def answers(sessions):
 
 
 def answer(session):
-    """What it prints for one session."""
-    return subprocess.run(command(), input=session, capture_output=True).stdout
+    """What it comes to on one session."""
+    return program.run(command(), session)

@@ -4,9 +4,9 @@ and as the program a shell script that a test hands in."""
 import os
 import platform
 import shutil
-import subprocess
 import time
 
+import program
 import repository
 
 # It takes its standard input and writes to both outputs, so that a session lost or a line too many is seen.
@@ -36,9 +36,9 @@ def put(path, text, mode=0o644):
 
 
 class StandIn:
-    """The repository `root` and the kit `kit`, both below a folder, with this program."""
+    """The repository `root` and the kit `kit`, both below a folder, with a program that prints the session."""
 
-    def __init__(self, folder, program=ECHO):
+    def __init__(self, folder):
         self.folder, self.root, self.kit = folder, os.path.join(folder, "the root"), os.path.join(folder, "the kit")
         self.script, self.stamp = os.path.join(self.root, "herdspiral"), os.path.join(self.root, "target", "herdspiral.stamp")
         self.tools = os.path.join(self.kit, "on", platform.machine(), "toolchain")
@@ -48,7 +48,7 @@ class StandIn:
         put(os.path.join(self.root, "crates", "one", "src", "lib.rt"), "one\n")
         put(os.path.join(self.root, "crates", "one", "src", "more.rt"), "more\n")
         put(os.path.join(self.kit, "KIT-ID"), "a kit\n")
-        put(os.path.join(self.kit, "program"), program, 0o755)
+        put(os.path.join(self.kit, "program"), ECHO, 0o755)
         put(os.path.join(self.kit, "bin", "rt"), RT, 0o755)
         put(os.path.join(self.tools, "lib", "ld-linux-x86-64.so.2"), LOADER, 0o755)
         os.makedirs(os.path.join(folder, "links"))
@@ -61,8 +61,8 @@ class StandIn:
         return {**own, **more}
 
     def start(self, *words, data=b"", script=None, folder=None, **more):
-        """Starts the script with these words, from a folder, with this on its standard input."""
-        return subprocess.run([script or self.script, *words], input=data, capture_output=True, cwd=folder or self.folder, env=self.environment(**more))
+        """What the script comes to with these words, from a folder, with this on its standard input."""
+        return program.run([script or self.script, *words], data, cwd=folder or self.folder, env=self.environment(**more))
 
     def typed(self, text, name="typed.hex"):
         """Starts the script on a file with this text."""

@@ -1,14 +1,12 @@
 // Sets of the numbers 0 to 63, a bit of a word each: n is a member exactly if bit n is set.
-ghost use mathlib.Core.Path.{_≡_};
-ghost use Prim.Native.Nat.{_<_};
-ghost use Rattle.bits.specs.Sets.{member, including, excluding, remaining, lowestFrom, within};
+ghost use Rattle.bits.specs.Sets.{Has, With, Without, Remaining, LowestFrom, AllBelow, Wide};
 
 // How many numbers a word has room for.
 const ROOM: u32 = 64;
 
 // Whether n is a member.
 pub fn has(set: u64, n: u32) -> bool
-    ensures { λ r. ⌜ r ≡ member set n ⌝ }
+    ensures { λ r. ⌜ Has set n r ⌝ }
 {
     if ROOM <= n {
         return false;
@@ -18,7 +16,7 @@ pub fn has(set: u64, n: u32) -> bool
 
 // The set with n as a member besides; as it is where a word has no room for n.
 pub fn with(set: u64, n: u32) -> u64
-    ensures { λ r. ⌜ r ≡ including set n ⌝ }
+    ensures { λ r. ⌜ With set n r ⌝ }
 {
     if ROOM <= n {
         return set;
@@ -28,21 +26,21 @@ pub fn with(set: u64, n: u32) -> u64
 
 // The set without n.
 pub fn without(set: u64, n: u32) -> u64
-    ensures { λ r. ⌜ r ≡ excluding set n ⌝ }
+    ensures { λ r. ⌜ Without set n r ⌝ }
 {
     if has(set, n) { set ^ (1 << n) } else { set }
 }
 
 // The members of a set that are not in another.
 pub fn remaining(set: u64, taken: u64) -> u64
-    ensures { λ r. ⌜ r ≡ remaining set taken ⌝ }
+    ensures { λ r. ⌜ Remaining set taken r ⌝ }
 {
     set ^ (set & taken)
 }
 
 // The lowest member from n up; where there is none, the room of a word, or n if that is more.
 pub fn lowest_from(set: u64, n: u32) -> u32
-    ensures { λ r. ⌜ r ≡ lowestFrom set n ⌝ }
+    ensures { λ r. ⌜ LowestFrom set n r ⌝ }
 {
     if ROOM <= n {
         return n;
@@ -61,7 +59,7 @@ pub fn lowest_from(set: u64, n: u32) -> u32
 
 // Whether every member is below n.
 pub fn all_below(set: u64, n: u32) -> bool
-    ensures { λ r. ⌜ r ≡ within set n ⌝ }
+    ensures { λ r. ⌜ AllBelow set n r ⌝ }
 {
     if ROOM <= n {
         return true;
@@ -71,7 +69,7 @@ pub fn all_below(set: u64, n: u32) -> bool
 
 // A byte as the number that the functions above take.
 pub fn wide(x: u8) -> u32
-    ensures { λ r. ⌜ (r ≡ x) × (r < 256) ⌝ }
+    ensures { λ r. ⌜ Wide x r ⌝ }
 {
     x as u32
 }

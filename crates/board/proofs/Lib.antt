@@ -4,3 +4,5 @@ pub mod SameLaws
 pub mod PaddedLaws
 pub mod FineLaws
 pub mod WindingLaws
+pub mod BreaksNoRule
+pub mod TallyLaws

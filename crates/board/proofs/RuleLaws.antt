@@ -14,17 +14,11 @@ use Rattle.board.specs.declared.Part.{Part}
 use Rattle.board.specs.Parts.{mostParts, blank}
 use Rattle.board.specs.Rules.{leastTerminals, mostTerminals, mostRelays, mostButtons, countsFine, inRange}
 use Rattle.board.specs.Rules.{partFine, partsFine}
+pub use Rattle.board.specs.BreaksNoRule.{InRange}
 use Rattle.lists.proofs.FirstLaws.{first-from, first-past}
 use Rattle.bits.proofs.BoolLaws.{both-true}
 
 -- what `countsFine` says, as bounds
-pub record InRange (c : Counts) : Type 0 where
-  pub least-terminals : leastTerminals ≤ c .terminals
-  pub most-terminals : c .terminals ≤ mostTerminals
-  pub most-relays : c .relays ≤ mostRelays
-  pub most-buttons : c .buttons ≤ mostButtons
-  pub most-parts : c .parts ≤ mostParts
-
 pub counts-in-range : (c : Counts) → countsFine c ≡ true → InRange c
 unfolding countsFine inRange
 counts-in-range c fine =

@@ -54,12 +54,12 @@ absent-room s n r clear =
 -- ---- what a part's kind does to the windings of a relay r
 
 -- relay r is of at most one sort so far
-record MostOneSort (w : WoundSoFar) (r : ℕ) : Type 0 where
+pub record MostOneSort (w : WoundSoFar) (r : ℕ) : Type 0 where
   pub drawing : worth (member (w .regular) r) + worth (member (w .drawing) r) ≤ 1
   pub dropping : worth (member (w .regular) r) + worth (member (w .dropping) r) ≤ 1
 
 -- a part of kind k that is free and names a relay counts for r where it carries r, and nowhere else
-record Gain (w : WoundSoFar) (k : Kind) (r : ℕ) : Type 0 where
+pub record Gain (w : WoundSoFar) (k : Kind) (r : ℕ) : Type 0 where
   pub regular : worth (member (gained w k .regular) r) ≡ worth (member (w .regular) r) + worth (carries regularKind r k)
   pub drawing : worth (member (gained w k .drawing) r) ≡ worth (member (w .drawing) r) + worth (carries drawingKind r k)
   pub dropping : worth (member (gained w k .dropping) r) ≡ worth (member (w .dropping) r)
@@ -85,7 +85,7 @@ named-room : (c : Counts) (n : ℕ) → c .relays ≤ mostRelays → ltb n (c .r
 named-room c n few named = omega (arith, ltb-true n (c .relays) named)
 
 module _ (c : Counts) (few : c .relays ≤ mostRelays) (w : WoundSoFar) (r : ℕ) where
-  gain : (k : Kind) → nameFine c k ≡ true → windingFree w k ≡ true → Gain w k r
+  pub gain : (k : Kind) → nameFine c k ≡ true → windingFree w k ≡ true → Gain w k r
   unfolding nameFine carries
   gain Wire named free = record { regular = omega arith; drawing = omega arith; dropping = omega arith }
   gain (Upper n) named free = record { regular = omega arith; drawing = omega arith; dropping = omega arith }
@@ -113,7 +113,7 @@ module _ (c : Counts) (few : c .relays ≤ mostRelays) (w : WoundSoFar) (r : ℕ
       }
 
 -- a relay stays of at most one sort
-apart-gained : (w : WoundSoFar) (r : ℕ) (k : Kind) → windingFree w k ≡ true → Gain w k r → MostOneSort w r
+pub apart-gained : (w : WoundSoFar) (r : ℕ) (k : Kind) → windingFree w k ≡ true → Gain w k r → MostOneSort w r
     → MostOneSort (gained w k) r
 unfolding carries
 apart-gained w r Wire free more apart = apart
@@ -140,10 +140,10 @@ apart-gained w r (Dropping n) free more apart =
 -- ---- a relay's sums
 
 -- the sums of a relay of one sort: 1, 0, 0 if it is regular and 0, 1, 1 if it is steel-core
-abbrev Sums : ℕ → ℕ → ℕ → Type 0
+abbrev pub Sums : ℕ → ℕ → ℕ → Type 0
 Sums x y z = ((x ≡ 1) × (y ≡ 0) × (z ≡ 0)) ⊎ ((x ≡ 0) × (y ≡ 1) × (z ≡ 1))
 
-sums-same : {x y z x′ y′ z′ : ℕ} → x ≡ x′ → y ≡ y′ → z ≡ z′ → Sums x y z → Sums x′ y′ z′
+pub sums-same : {x y z x′ y′ z′ : ℕ} → x ≡ x′ → y ≡ y′ → z ≡ z′ → Sums x y z → Sums x′ y′ z′
 sums-same p q r (inl (x, y, z)) = inl (sym p ∙ x, sym q ∙ y, sym r ∙ z)
 sums-same p q r (inr (x, y, z)) = inr (sym p ∙ x, sym q ∙ y, sym r ∙ z)
 
@@ -167,7 +167,7 @@ sort-after w r p ps more =
     sums-same (omega (arith, more .regular)) (omega (arith, more .drawing)) (omega (arith, more .dropping))
 
 -- with no parts to come the sums are the windings alone
-end-sums : (g d s : Bool) → (g || d && s) ≡ true → worth g + worth d ≤ 1 → worth g + worth s ≤ 1
+pub end-sums : (g d s : Bool) → (g || d && s) ≡ true → worth g + worth d ≤ 1 → worth g + worth s ≤ 1
     → Sums (worth g + 0) (worth d + 0) (worth s + 0)
 end-sums true true s all drawing dropping = absurd (omega arith)
 end-sums true false true all drawing dropping = absurd (omega arith)
@@ -176,7 +176,7 @@ end-sums false true true all drawing dropping = inr (refl, refl, refl)
 end-sums false true false all drawing dropping = absurd (false≢true all)
 end-sums false false s all drawing dropping = absurd (false≢true all)
 
-sums-end : (g d s : Bool) → Sums (worth g + 0) (worth d + 0) (worth s + 0) → (g || d && s) ≡ true
+pub sums-end : (g d s : Bool) → Sums (worth g + 0) (worth d + 0) (worth s + 0) → (g || d && s) ≡ true
 sums-end true d s sums = refl
 sums-end false true true sums = refl
 sums-end false true false (inl (x, y, z)) = absurd (omega arith)
@@ -221,7 +221,7 @@ module _ (c : Counts) (w : WoundSoFar) (ps : List Part) where
 
 -- ---- along the parts
 
-part-splits : (c : Counts) (w : WoundSoFar) (p : Part) → partFine c w p ≡ true → (partFits c p ≡ true)
+pub part-splits : (c : Counts) (w : WoundSoFar) (p : Part) → partFine c w p ≡ true → (partFits c p ≡ true)
     × (windingFree w (p .kind) ≡ true)
 unfolding partFine
 part-splits c w p fine = both-true (partFits c p) (windingFree w (p .kind)) fine

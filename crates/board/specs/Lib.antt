@@ -3,3 +3,4 @@ pub mod Parts
 pub mod Rules
 pub mod Same
 pub mod Sorts
+pub mod BreaksNoRule

@@ -4,7 +4,10 @@
 --     blank         what fills the places past C of a board that was read
 --     padded ps     parts as an array of `mostParts` places
 --     emptyBoard    "the empty board (T 2, else 0)"
+--     Blank r       promise: `blank` answers r
+--     Empty r       promise: `empty` answers r
 use Prim.Native.Nat.{ℕ, _-_}
+use mathlib.Core.Path.{_≡_}
 use mathlib.Core.List.{List, [], _++_}
 use lib.ListN.{length, take, replicate}
 use Rattle.kinds.specs.declared.Kind.the-variants.{Wire}
@@ -25,3 +28,9 @@ padded ps = ps ++ replicate (mostParts - length ps) blank
 
 unfoldable pub emptyBoard : Board
 emptyBoard = record { counts = record { terminals = 2; relays = 0; buttons = 0; parts = 0 }; parts = padded [] }
+
+abbrev pub Blank : Part → Type 0
+Blank r = r ≡ blank
+
+abbrev pub Empty : Board → Type 0
+Empty r = r ≡ emptyBoard

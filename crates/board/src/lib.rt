@@ -4,9 +4,9 @@ ghost use mathlib.Core.Path.{_≡_};
 ghost use Prim.Native.Nat.{_≤_};
 ghost use lib.ListN.{take};
 ghost use Rattle.windings.specs.Windings.{noneWound};
-ghost use Rattle.board.specs.Parts.{mostParts, blank, emptyBoard};
-ghost use Rattle.board.specs.Rules.{limitOf, nameFine, countsFine, partFine, partsFine, boardFine};
-ghost use Rattle.board.specs.Same.{sameCounts, samePart, sameParts, sameBoard};
+ghost use Rattle.board.specs.Parts.{mostParts, Blank, Empty};
+ghost use Rattle.board.specs.Rules.{nameFine, countsFine, partFine, partsFine, Limit, Checks};
+ghost use Rattle.board.specs.Same.{sameCounts, samePart, sameParts, Same};
 use kinds::Kind;
 use windings::WoundSoFar;
 
@@ -44,7 +44,7 @@ pub struct Board {
 
 // What a name carried by a kind of this number must be below: B for a button, R for a relay.
 pub fn limit(counts: Counts, kind: u32) -> u8
-    ensures { λ r. ⌜ r ≡ limitOf counts kind ⌝ }
+    ensures { λ r. ⌜ Limit counts kind r ⌝ }
 {
     if kind == kinds::BUTTON_KIND {
         counts.buttons
@@ -55,7 +55,7 @@ pub fn limit(counts: Counts, kind: u32) -> u8
 
 // What fills the places past C of a board that was read.
 pub fn blank() -> Part
-    ensures { λ r. ⌜ r ≡ blank ⌝ }
+    ensures { λ r. ⌜ Blank r ⌝ }
 {
     Part {
         a: 0,
@@ -66,7 +66,7 @@ pub fn blank() -> Part
 
 // The empty board: T 2, else 0.
 pub fn empty() -> Board
-    ensures { λ r. ⌜ r ≡ emptyBoard ⌝ }
+    ensures { λ r. ⌜ Empty r ⌝ }
 {
     let filler = blank();
     let counts = Counts {
@@ -152,7 +152,7 @@ fn parts_fine(parts: [Part; 256], counts: Counts) -> bool
 
 // Whether a board breaks none of the rules behind refusals 3 to 9; one that does is refused by 15.
 pub fn check(board: Board) -> bool
-    ensures { λ r. ⌜ r ≡ boardFine board ⌝ }
+    ensures { λ r. ⌜ Checks board r ⌝ }
 {
     let counts = board.counts;
     if !counts_fine(counts) {
@@ -215,7 +215,7 @@ fn same_parts(x: [Part; 256], y: [Part; 256], count: usize) -> bool
 
 // Whether two boards are the same: by their counts and first C parts.
 pub fn same(x: Board, y: Board) -> bool
-    ensures { λ r. ⌜ r ≡ sameBoard x y ⌝ }
+    ensures { λ r. ⌜ Same x y r ⌝ }
 {
     let counts = x.counts;
     let others = y.counts;

@@ -1,17 +1,37 @@
--- Answers that are told alike are alike: their cases are told apart.
-use mathlib.Core.Path.{_≡_, ap}
-use Rattle.number.proofs.OutcomeLaws.{refusal-equal}
+-- Answers and what they tell: each can be had from the other.
+use Prim.Native.Nat.{ℕ}
+use mathlib.Core.Path.{_≡_, refl}
+use Rattle.number.specs.Outcomes.{Outcome, given, refused}
+use Rattle.number.proofs.Told.{Told}
+use Rattle.board.specs.declared.Board.{Board}
 use Rattle.board_reader.specs.declared.BoardRead.{BoardRead}
 use Rattle.board_reader.specs.declared.ReadAnswer.{ReadAnswer}
 use Rattle.board_reader.specs.declared.ReadAnswer.the-variants.{Read, Refused}
 use Rattle.board_reader.specs.Reading.{toldReadAnswer, toldBoardRead}
 
-told-read-answer-injective : (x y : ReadAnswer) → toldReadAnswer x ≡ toldReadAnswer y → x ≡ y
-told-read-answer-injective (Read n) (Read m) e = cc
-told-read-answer-injective (Read n) (Refused q) e = cc
-told-read-answer-injective (Refused r) (Read m) e = cc
-told-read-answer-injective (Refused r) (Refused q) e = ap Refused (refusal-equal r q (cc) (cc))
+read-answer-told : Told toldReadAnswer
+read-answer-told = record { untold = untold; back = back; onto = onto }
+  where
+    untold : Outcome ℕ → ReadAnswer
+    untold (given n) = Read n
+    untold (refused n p) = Refused (record { number = n; place = p })
 
-pub told-board-read-injective : (x y : BoardRead) → toldBoardRead x ≡ toldBoardRead y → x ≡ y
-told-board-read-injective x y e =
-    λ i. record { board = e i .0; answer = told-read-answer-injective (x .answer) (y .answer) (λ j. e j .1) i }
+    back : (x : ReadAnswer) → untold (toldReadAnswer x) ≡ x
+    back (Read n) = refl
+    back (Refused r) = refl
+
+    onto : (y : Outcome ℕ) → toldReadAnswer (untold y) ≡ y
+    onto (given n) = refl
+    onto (refused n p) = refl
+
+pub board-read-told : Told toldBoardRead
+board-read-told = record { untold = untold; back = back; onto = onto }
+  where
+    untold : Board × Outcome ℕ → BoardRead
+    untold (b, o) = record { board = b; answer = read-answer-told .untold o }
+
+    back : (x : BoardRead) → untold (toldBoardRead x) ≡ x
+    back x = λ i. record { board = x .board; answer = read-answer-told .back (x .answer) i }
+
+    onto : (y : Board × Outcome ℕ) → toldBoardRead (untold y) ≡ y
+    onto (b, o) = λ i. (b, read-answer-told .onto o i)

@@ -13,7 +13,9 @@
 --                                      empty board"
 --     reading s                        what reading answers
 --     toldReadAnswer, toldBoardRead    the answers' cases in the rule book's numbers
+--     Reads s r                        promise: `read` of the bytes s answers r
 use Prim.Native.Nat.{ℕ, zero, suc}
+use mathlib.Core.Path.{_≡_}
 use mathlib.Core.Bool.{Bool, cond}
 use mathlib.Core.List.{List, [], _∷_}
 use lib.Dec.{ltb, leb, eqb}
@@ -102,3 +104,6 @@ toldReadAnswer (Refused r) = refused (r .number) (r .place)
 
 abbrev pub toldBoardRead : BoardRead → Board × Outcome ℕ
 toldBoardRead r = (r .board, toldReadAnswer (r .answer))
+
+abbrev pub Reads : List ℕ → BoardRead → Type 0
+Reads s r = toldBoardRead r ≡ reading s

@@ -1,7 +1,6 @@
 // Reading a board file: from a slice of any length the board and the place just after it, or the number and place of
 // the refusal with the empty board.
-ghost use mathlib.Core.Path.{_≡_};
-ghost use Rattle.board_reader.specs.Reading.{reading, toldBoardRead};
+ghost use Rattle.board_reader.specs.Reading.{Reads};
 
 mod counts;
 mod fields;
@@ -27,7 +26,7 @@ pub struct BoardRead {
 
 // Reads the board at the start of the input; the bytes after it are not judged.
 pub fn read(s: &[u8]) -> BoardRead
-    ensures { λ r. ⌜ toldBoardRead r ≡ reading (now (s .entry)) ⌝ }
+    ensures { λ r. ⌜ Reads (now (s .entry)) r ⌝ }
 {
     if LONGEST_INPUT < s.len() {
         return parts::no_board(fields::refuse(number::INPUT_TOO_LONG, 0));

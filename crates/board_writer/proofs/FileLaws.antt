@@ -8,7 +8,8 @@ use borrow.Author.Tests.{ltb-true, leb-true, leb-false}
 use lib.Dec.{eqb, ltb, leb}
 use lib.ListN.{length, take, drop, length-append, length-take}
 use lib.Seq.{take-all}
-use Rattle.number.proofs.OutcomeLaws.{refusal-equal, given-injective, refused-never}
+use Rattle.number.proofs.OutcomeLaws.{given-injective, refused-never}
+use Rattle.number.proofs.Told.{Told}
 use Rattle.number.specs.Outcomes.{Outcome, given, refused}
 use Rattle.number.specs.Refusals.{brokenBoard, bufferTooShort}
 use Rattle.number.specs.Numbers.{numberBytes}
@@ -167,6 +168,19 @@ module _ (b : Board) (out : List ℕ) {A : Type 0} where
       (omega (arith, board-bytes-sum b, leb-false (length (boardBytes b)) (length out) off)) refl)))
       (λ off. broken (writing-broken b out off refl))
 
+-- `write` never refuses a buffer of LONGEST_FILE bytes by 16
+pub write-never-short : (b : Board) (out out′ : List ℕ) (w : Written) → longestFile ≤ length out
+    → _≡_ {A = Answered} (toldWritten w, out′) (writing b out) → ¬ (toldWritten w ≡ refused bufferTooShort 0)
+write-never-short b out out′ w room wrote short =
+    by-test (boardFine b)
+    (λ fine. refused-never bufferTooShort 0 (length (boardBytes b))
+    (sym short ∙ ap answer (wrote ∙ write-fits b out fine room)))
+    (λ off.
+    let other : _≡_ {A = Outcome ℕ} (refused brokenBoard 0) (refused bufferTooShort 0) =
+    ap answer (writing-broken b out off refl ∙ sym wrote) ∙ short in
+    let same : brokenBoard ≡ bufferTooShort = cc in
+    omega (arith, same))
+
 -- a refused write leaves the buffer as it was, and its place is 0
 pub writing-refused : (b : Board) (out : List ℕ) (n p : ℕ) (out′ : List ℕ)
     → _≡_ {A = Outcome ℕ × List ℕ} (writing b out) (refused n p, out′) → (out′ ≡ out) × (p ≡ 0)
@@ -211,9 +225,18 @@ write-bytes b out out′ (Bytes n) wrote =
     was .begins ∙ ap (λ (l : List ℕ). l ++ drop n out) (sym (take-all n (boardBytes b) (omega (arith, was .count))))
 write-bytes b out out′ (Refused r) wrote = writing-refused b out (r .number) (r .place) out′ (sym wrote) .0
 
--- an answer is known by what it tells
-pub told-written-injective : (x y : Written) → toldWritten x ≡ toldWritten y → x ≡ y
-told-written-injective (Bytes n) (Bytes m) e = cc
-told-written-injective (Bytes n) (Refused q) e = cc
-told-written-injective (Refused r) (Bytes m) e = cc
-told-written-injective (Refused r) (Refused q) e = ap Refused (refusal-equal r q (cc) (cc))
+-- answers and what they tell
+pub written-told : Told toldWritten
+written-told = record { untold = untold; back = back; onto = onto }
+  where
+    untold : Outcome ℕ → Written
+    untold (given n) = Bytes n
+    untold (refused n p) = Refused (record { number = n; place = p })
+
+    back : (x : Written) → untold (toldWritten x) ≡ x
+    back (Bytes n) = refl
+    back (Refused r) = refl
+
+    onto : (y : Outcome ℕ) → toldWritten (untold y) ≡ y
+    onto (given n) = refl
+    onto (refused n p) = refl

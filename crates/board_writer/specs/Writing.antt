@@ -1,9 +1,11 @@
 -- Writing a board. Rule book: "Calls: 15, .., 16, those that apply"; "a refused write 0 bytes written. .. output buffer
 -- stay as lent"; "Written bytes begin the buffer; the rest stays."
---     writing b out     what writing answers, the count of bytes or the refusal, and the buffer afterwards
---     toldWritten       the answer's cases in the rule book's numbers
---     bytesWritten w    how many bytes an answer says were written: none where it is a refusal
+--     writing b out          what writing answers, the count of bytes or the refusal, and the buffer afterwards
+--     toldWritten            the answer's cases in the rule book's numbers
+--     bytesWritten w         how many bytes an answer says were written: none where it is a refusal
+--     Writes b out r out′    promise: `write` of board b into the buffer `out` answers r, and leaves the buffer out′
 use Prim.Native.Nat.{ℕ}
+use mathlib.Core.Path.{_≡_}
 use mathlib.Core.Bool.{cond}
 use mathlib.Core.List.{List, _++_}
 use lib.Dec.{leb}
@@ -31,3 +33,6 @@ toldWritten (Refused r) = refused (r .number) (r .place)
 abbrev pub bytesWritten : Written → ℕ
 bytesWritten (Bytes n) = n
 bytesWritten (Refused r) = 0
+
+abbrev pub Writes : Board → List ℕ → Written → List ℕ → Type 0
+Writes b out r out′ = _≡_ {A = Outcome ℕ × List ℕ} (toldWritten r, out′) (writing b out)

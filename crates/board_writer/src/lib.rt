@@ -1,9 +1,7 @@
 // Writing a board file: into a lent buffer of any length the board's bytes, or a refusal with no byte written.
 ghost use mathlib.Core.Path.{_≡_};
-ghost use mathlib.Core.List.{List};
-ghost use Prim.Native.Nat.{ℕ};
-ghost use Rattle.number.specs.Outcomes.{Outcome, refused};
-ghost use Rattle.board_writer.specs.Writing.{writing, toldWritten};
+ghost use Rattle.number.specs.Outcomes.{refused};
+ghost use Rattle.board_writer.specs.Writing.{toldWritten, Writes};
 
 mod bytes;
 mod lengths;
@@ -29,8 +27,7 @@ fn refuse(number: u32) -> Written
 
 // Writes a board's file at the start of the buffer: 15, then 16, with no byte written.
 pub fn write(board: Board, out: &mut [u8]) -> Written
-    ensures { λ r. ⌜ _≡_ {A = Outcome ℕ × List ℕ} (toldWritten r, now (out .exit))
-        (writing board (now (out .entry))) ⌝ }
+    ensures { λ r. ⌜ Writes board (now (out .entry)) r (now (out .exit)) ⌝ }
 {
     if !board::check(board) {
         return refuse(number::BROKEN_BOARD);

@@ -3,6 +3,7 @@ use Prim.Native.Nat.{ℕ}
 use mathlib.Core.Path.{_≡_, refl, sym, ap, _∙_}
 use mathlib.Core.Bool.{Bool, true, false, not, cond}
 use mathlib.Core.List.{List, [], _∷_}
+use mathlib.Core.Option.{Option, none, some}
 use lib.Dec.{ltb, leb}
 use lib.ListN.{length}
 use Rattle.number.specs.Outcomes.{Outcome, given, refused, _>>_, unless}
@@ -19,13 +20,12 @@ use Rattle.presses.specs.Presses.{pressable}
 use Rattle.board_writer.specs.Writing.{writing}
 use Rattle.search.specs.declared.Winding.{Winding}
 use Rattle.judge.specs.declared.Which.{Which}
-use Rattle.judge.specs.RelayWindings.{windingOf}
+use Rattle.judge.specs.RelayWindings.{windingOf, orNoSuchWinding}
 use Rattle.judge.specs.Judging.{windingFor}
-use Rattle.judge.proofs.SoughtLaws.{winding-refused}
 use Rattle.moves.specs.Moving.{movable}
 use Rattle.runs.specs.Running.{longestLog, runnable}
 use Rattle.lines.specs.Lines.{Line, longestLine, lineWriting}
-use Rattle.demands.specs.EveryCallComesBack.{against, firstNo, isGiven, writeLines, usableLines, runLines}
+use Rattle.demands.specs.EveryCallComesBack.{against, firstNo, isThere, writeLines, usableLines, runLines}
 use Rattle.demands.specs.EveryCallComesBack.{judgeLines, moveLines, releaseLines, numberLines, lineLines}
 
 -- a line, and those after it
@@ -83,17 +83,16 @@ module _ (b : Board) (s : State) where
   against-after (given u) q = refl
   against-after (refused n p) q = refl
 
-  winding-by : (k : Which) (r : ℕ) (o : Outcome Winding) → windingOf k r (partsOf b) ≡ o
-      → against o ≡ firstNo ((isGiven o, noSuchWinding) ∷ [])
+  asked-first : (o : Option Winding) → against (orNoSuchWinding o) ≡ firstNo ((isThere o, noSuchWinding) ∷ [])
   unfolding firstNo
-  winding-by k r (given v) e = refl
-  winding-by k r (refused n p) e = ap against (sym e ∙ winding-refused k r (partsOf b) n p e)
+  asked-first (some v) = refl
+  asked-first none = refl
 
   pub winding-for-first : (r : ℕ) (k : Which) → against (windingFor b s r k) ≡ firstNo (judgeLines b s r k)
   unfolding windingFor
   winding-for-first r k =
-      against-after (usable b s) (windingOf k r (partsOf b))
-      ∙ usable-first b s _ _ (winding-by k r (windingOf k r (partsOf b)) refl)
+      against-after (usable b s) (orNoSuchWinding (windingOf k r (partsOf b)))
+      ∙ usable-first b s _ _ (asked-first (windingOf k r (partsOf b)))
 
 -- ---- calls that test and then answer
 

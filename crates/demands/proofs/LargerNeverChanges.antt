@@ -1,8 +1,92 @@
--- Demand 3: each field is a theorem of a wing.
+-- Demand 3: each field is a theorem of a wing. That no judge of one word meets it is shown by H1, live while its button
+-- is pushed and dead while it is not.
+use Prim.Native.Nat.{_≤_}
+use mathlib.Core.Path.{refl}
+use mathlib.Core.List.{[], _∷_}
+use Rattle.bits.specs.Sets.{member, including, excluding, within}
+use Rattle.windings.specs.Windings.{every, complete}
+use Rattle.board.specs.Parts.{padded}
+use Rattle.board.specs.Rules.{inRange, countsFine, nameFine, partFits, partFine, partsFine, boardFine}
+use Rattle.board.specs.Sorts.{carries}
+use Rattle.state.specs.States.{freshState, stateFine, usable}
+use Rattle.neighbours.specs.Neighbours.{gathered, neighbours}
+use Rattle.chains.specs.ChainList.{isIn, canFollow, tries, beyond, chains, crosses, someCrosses, beside, shows}
+use Rattle.search.specs.declared.Winding.{Winding}
+use Rattle.search.specs.declared.Finding.{Finding}
+use Rattle.search.specs.declared.Verdict.{Verdict}
+use Rattle.search.specs.Verdicts.{firstShown, effort, places, weighed, verdictBy, inSets}
+use Rattle.judge.specs.declared.Which.the-variants.{First}
+use Rattle.judge.specs.RelayWindings.{windingOf}
+use Rattle.judge.specs.Judging.{windingFor, judging, Judges}
+use Rattle.judge_means.specs.Exactness.{Judge, Keeps, AcceptedWinding, IsLive, effortOf}
+use Rattle.judge_means.proofs.Exactness.{liveVerdict, deadVerdict, the-chains, effort-numbers, judges-keep}
+use Rattle.judge_means.proofs.Exactness.{live-exactly, dead-exactly, undecided-exactly, live-shows, dead-counts}
+use Rattle.judge_means.proofs.Exactness.{undecided-reports}
 use Rattle.judge_means.proofs.Allowances.{larger-allowance, turns-at-effort, effort-some-always}
 use Rattle.runs_means.proofs.LongerRuns.{longer-run}
-use Rattle.demands.specs.LargerNeverChanges.{LargerNeverChanges}
+use Rattle.demands.specs.Starred.{h1, pushed0}
+use Rattle.demands.specs.LargerNeverChanges.{JudgedExactly, NoWordAlways, LargerNeverChanges}
+
+judged-exactly : (J : Judge) → Keeps J → JudgedExactly J
+judged-exactly J keeps = record {
+  live = live-exactly J keeps;
+  dead = dead-exactly J keeps;
+  undecided = undecided-exactly J keeps;
+  shown = live-shows J keeps;
+  counted = dead-counts J keeps;
+  reported = undecided-reports J keeps;
+  larger = larger-allowance J keeps;
+  turns = turns-at-effort J keeps;
+  effort = effort-some-always J keeps;
+}
+
+-- ---- H1
+
+abbrev ends : Winding
+ends = record { a = 2; b = 1 }
+
+-- what H1 comes to while its button is pushed, and while it is not
+record H1 : Type 0 where
+  pushed-taken : AcceptedWinding h1 pushed0 0 First ends
+  fresh-taken : AcceptedWinding h1 freshState 0 First ends
+  pushed : Judges h1 pushed0 0 First 100 (liveVerdict 3 (0 ∷ 2 ∷ 1 ∷ []))
+  fresh : Judges h1 freshState 0 First 100 (deadVerdict 1)
+
+h1-judged : H1
+unfolding member including excluding within every complete padded inRange countsFine nameFine partFits partFine
+    partsFine boardFine carries stateFine usable gathered neighbours isIn canFollow tries beyond chains crosses
+    someCrosses beside shows firstShown effort places weighed verdictBy inSets windingOf windingFor judging
+h1-judged = record { pushed-taken = refl; fresh-taken = refl; pushed = refl; fresh = refl }
+
+pushed-live : IsLive h1 pushed0 ends × (effortOf h1 pushed0 ends ≤ 100)
+pushed-live =
+    live-exactly _ judges-keep h1 pushed0 0 First 100 ends _ (h1-judged .pushed) (h1-judged .pushed-taken) .0 refl
+
+fresh-dead : ¬ (IsLive h1 freshState ends) × (effortOf h1 freshState ends ≤ 100)
+fresh-dead =
+    dead-exactly _ judges-keep h1 freshState 0 First 100 ends _ (h1-judged .fresh) (h1-judged .fresh-taken) .0 refl
+
+-- one word for both cannot be right for both
+no-word-always : NoWordAlways
+no-word-always f = (
+  λ exactly.
+      let live = exactly h1 pushed0 0 First 100 ends (saying f) refl (h1-judged .pushed-taken) .1 pushed-live in
+      fresh-dead .0 (exactly h1 freshState 0 First 100 ends (saying f) refl (h1-judged .fresh-taken) .0 live .0),
+  λ exactly.
+      let dead = exactly h1 freshState 0 First 100 ends (saying f) refl (h1-judged .fresh-taken) .1 fresh-dead in
+      exactly h1 pushed0 0 First 100 ends (saying f) refl (h1-judged .pushed-taken) .0 dead .0 (pushed-live .0),
+)
+  where
+    saying : Finding → Verdict
+    saying g = record { finding = g; effort = 0; length = 0; terminals = [] }
+
+-- ---- the demand
 
 pub larger-never-changes : LargerNeverChanges
-larger-never-changes =
-    record { judges = larger-allowance; turns = turns-at-effort; effort = effort-some-always; runs = longer-run }
+larger-never-changes = record {
+  chains = the-chains;
+  numbers = effort-numbers;
+  judge = judged-exactly _ judges-keep;
+  always = no-word-always;
+  runs = longer-run;
+}

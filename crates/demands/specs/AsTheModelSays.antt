@@ -1,45 +1,60 @@
--- Demand 2: "Relays move as the published model says. A relay draws when a chain of conducting parts that meets no
--- terminal twice runs from plus to minus through its winding, and drops when there is none. Board files keep their
--- meaning: write then read gives the board, read then write gives the bytes read. A run moves the lowest relay that can
--- move until it is idle or must stop."
---     AsTheModelSays    the demand: each field is a statement over the calls, put into words in the file that
---                       defines it
+-- Demand 2, in the user's own words, and what states each sentence:
+--     "Relays move as the relay circuit model published by the Technical University of Denmark says."
+--         `paths`, `carrying`: the model's paths and its current are ours; `current`: what is called live or dead goes
+--         exactly by it, within the allowance; `moves`: a relay is moved exactly by the model's guards
+--     "A relay draws when a chain of conducting parts that meets no terminal twice runs from plus to minus through its
+--     winding, and drops when there is none."
+--         `regular`, of the relay's `winding`; `sorts`: each relay is regular or steel-core; `changes`: a move changes
+--         that relay and nothing else
+--     "A steel-core relay moves only on its drawing or dropping winding."
+--         `steel`
+--     "Board files keep their meaning both ways: write then read gives the board, read then write gives the bytes
+--     read."
+--         `written-read`, `read-written`; `file-read`: a board that was read is what stands in the file; `bytes-after`:
+--         what stands behind a board does not bear on it
+--     "A run moves the lowest relay that can move until it is idle or must stop."
+--         `runs`; and what a session prints of its runs: `lines`, `all-lines`, `events`, `drawn`
+-- Each field is a statement over the calls, put into words in the file that defines it.
+--     AsTheModelSays    the demand
+use Rattle.board.specs.BreaksNoRule.{EveryRelaySort}
 use Rattle.file_means.specs.RoundTrip.{WriteThenRead, ReadThenWrite}
-use Rattle.judge_means.specs.Circuits.{PathsAreChains}
-use Rattle.judge_means.specs.Exactness.{TheChains, LiveExactly, DeadExactly, UndecidedExactly, LiveShows, DeadCounts}
-use Rattle.judge_means.specs.Exactness.{UndecidedReports, AsPublished}
+use Rattle.file_means.specs.BytesAfter.{BytesAfter}
+use Rattle.file_means.specs.FileRefusals.{FileAccepted}
+use Rattle.judge.specs.Judging.{Judges}
+use Rattle.judge_means.specs.Circuits.{PathsAreChains, LiveIsCarrying}
+use Rattle.judge_means.specs.Exactness.{AsPublished}
 use Rattle.judge_means.specs.Eleven.{TheWinding}
 use Rattle.moves_means.specs.SingleMoves.{MoveExactly}
 use Rattle.moves_means.specs.ByChains.{RegularByChains, SteelByChains}
+use Rattle.moves_means.specs.OneRelay.{ChangesOneRelay}
 use Rattle.runs_means.specs.Courses.{RunExactly}
 use Rattle.session_means.specs.HandedLines.{LinesHandedOut, AllHandedOut}
 use Rattle.session_means.specs.EventRefusals.{EventsRefused}
 use Rattle.session_means.specs.LinesDrawn.{LinesDrawn}
 
 pub record AsTheModelSays : Type 0 where
-  -- what a chain is, that the list of them is all of them in order, and that those to minus are the published
-  -- model's paths
-  pub chains : TheChains
+  -- the chains to minus are the published model's paths, and a winding is live exactly if it is current carrying
   pub paths : PathsAreChains
-  -- a winding is called live, dead or undecided exactly if it is so, and its first chain is shown
+  pub carrying : LiveIsCarrying
+  -- the winding judged is the relay's; it is called live or dead exactly by that current, within the allowance
   pub winding : TheWinding
-  pub live : LiveExactly
-  pub dead : DeadExactly
-  pub undecided : UndecidedExactly
-  pub shown : LiveShows
-  pub counted : DeadCounts
-  pub reported : UndecidedReports
-  pub current : AsPublished
+  pub current : AsPublished Judges
+  -- each relay is regular or steel-core and not both, so that the next two fields are all cases
+  pub sorts : EveryRelaySort
   -- a relay draws, drops, rests exactly if the chains through its windings say so, which is exactly by the
   -- published guards
   pub regular : RegularByChains
   pub steel : SteelByChains
   pub moves : MoveExactly
+  -- a move changes that relay and nothing else
+  pub changes : ChangesOneRelay
   -- a run makes the lowest relay's move, again and again, until it is idle or must stop
   pub runs : RunExactly
   -- board files keep their meaning
   pub written-read : WriteThenRead
   pub read-written : ReadThenWrite
+  pub file-read : FileAccepted
+  pub bytes-after : BytesAfter
   -- the lines handed out are the session's lines; its events are refused by 12 alone, and each prints the sum over
   -- its drawn relays
   pub lines : LinesHandedOut

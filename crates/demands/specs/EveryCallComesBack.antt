@@ -1,17 +1,26 @@
--- Demand 1: "Every call comes back. Whatever it is given, it answers; what it cannot use it refuses by number, in a
--- stated order, with the state as given and no byte of a lent log or output buffer written."
--- That a call ends, whatever it is given, the prover shows of every function. What it answers is the definition in its
--- promise, for every input. Here is what the calls that refuse have in common; that a number is refused by its form (1,
--- 2) is all that `read_number` refuses, and its definition says when.
+-- Demand 1, in the user's own words, and what states each sentence:
+--     "Give the simulator anything: a cut board file, a wrong state, a relay that isn't there. Every call comes back."
+--         `comes-back`: whatever a call is given, its promise allows exactly one answer; that the call ends, the prover
+--         shows of every function before it builds it. A cut board file is line 1 of `reads`, a wrong state 14 of each
+--         call on a state, a relay that isn't there `eleven` and `eleven-moved`
+--     "What it can't use it refuses by number, in a stated order,"
+--         `in-order`: the first line that holds, of each call's lines in the stated order. What stands behind two of
+--         these lines: `fifteen`, a board that breaks a rule; `eleven`, a winding that isn't there
+--     "with the state as given and no byte of a lent log or output buffer written."
+--         `as-lent`
+-- The words:
 --     against o                   what stands against a call that came to o: its refusal, or nothing
 --     firstNo ls                  the first of these lines whose test fails, by its number at place 0, or nothing
---     isGiven o                   whether o is given
+--     isThere o                   whether o is something, and not none
 --     numberLines .. lineLines    "Calls: 15, 14, 13, 11, 7, 12, 16, those that apply": the lines of each call in that
 --                                 order, each a test that must hold and the number for no; `usableLines` are the two
 --                                 that every call on a board and a state has first
+--     pressLines b s v            those of the event v, which pushes or releases its button
+--     wordOf l                    the word of the run that a line tells of, or what refused it
 --     InOrder                     what stands against each call is the first of its lines whose test fails; a file is
---                                 refused exactly by the first line of the table that holds, from left to right; and 11
---                                 is its line
+--                                 refused exactly by the first line of the table that holds, from left to right; 11
+--                                 and 15 are given exactly if their lines hold. That a number is refused by its form
+--                                 (1, 2) is all that `read_number` refuses, and its definition says when
 --     AsLent                      "A refused read returns number, place and the empty board. A refused call returns the
 --                                 number, place 0 and the state it was given, if it takes one; a refused run also 0
 --                                 moves and relay 255, a refused judgement no verdict, effort 0 and length 0, a refused
@@ -21,47 +30,52 @@ use Prim.Native.Nat.{ℕ, _+_}
 use mathlib.Core.Path.{_≡_}
 use mathlib.Core.Bool.{Bool, true, false, not, cond}
 use mathlib.Core.List.{List, [], _∷_}
+use mathlib.Core.Option.{Option, none, some}
 use lib.Dec.{ltb, leb}
 use lib.ListN.{length}
 use Rattle.number.specs.Outcomes.{Outcome, given, refused}
 use Rattle.number.specs.Refusals.{badForm, noSuchName, noSuchWinding, alreadySo, logTooLong, stateBeyondBoard}
 use Rattle.number.specs.Refusals.{brokenBoard, bufferTooShort}
 use Rattle.number.specs.declared.NumberWritten.{NumberWritten}
-use Rattle.number.specs.Numbers.{largest, numberBytes, numberWriting, toldNumberWritten}
+use Rattle.number.specs.Numbers.{largest, numberBytes, toldNumberWritten, WritesNumber}
 use Rattle.board.specs.declared.Board.{Board}
 use Rattle.board.specs.Parts.{partsOf, emptyBoard}
 use Rattle.board.specs.Rules.{boardFine}
+use Rattle.board.specs.BreaksNoRule.{FifteenExactly}
 use Rattle.state.specs.declared.State.{State}
 use Rattle.state.specs.States.{isPushed, stateFine}
 use Rattle.presses.specs.declared.Pressed.{Pressed}
-use Rattle.presses.specs.Presses.{pushing, releasing, toldPress, toldPressed}
+use Rattle.presses.specs.Presses.{toldPress, Pushes, Releases}
 use Rattle.board_reader.specs.declared.BoardRead.{BoardRead}
-use Rattle.board_reader.specs.Reading.{toldReadAnswer}
+use Rattle.board_reader.specs.Reading.{toldReadAnswer, Reads}
 use Rattle.board_writer.specs.declared.Written.{Written}
 use Rattle.board_writer.specs.File.{boardBytes}
-use Rattle.board_writer.specs.Writing.{toldWritten, bytesWritten}
-use Rattle.file_means.specs.RoundTrip.{Wrote, WasRead}
+use Rattle.board_writer.specs.Writing.{toldWritten, bytesWritten, Writes}
 use Rattle.file_means.specs.FileRefusals.{FileRefused}
 use Rattle.search.specs.declared.Verdict.{Verdict}
 use Rattle.search.specs.Verdicts.{places, toldFinding}
 use Rattle.judge.specs.declared.Which.{Which}
 use Rattle.judge.specs.RelayWindings.{windingOf}
-use Rattle.judge_means.specs.Exactness.{Judges}
+use Rattle.judge.specs.Judging.{Judges}
 use Rattle.judge_means.specs.Eleven.{ElevenExactly}
 use Rattle.moves.specs.declared.Moved.{Moved}
-use Rattle.moves.specs.Moving.{toldMoveAnswer}
-use Rattle.moves_means.specs.SingleMoves.{Moves}
+use Rattle.moves.specs.Moving.{toldMoveAnswer, Moves}
+use Rattle.moves_means.specs.SingleMoves.{MoveElevenExactly}
 use Rattle.runs.specs.declared.Ran.{Ran}
 use Rattle.runs.specs.Runs.{noRelay}
-use Rattle.runs.specs.Running.{longestLog, toldEnding}
-use Rattle.runs_means.specs.LongerRuns.{Runs}
+use Rattle.runs.specs.Running.{longestLog, toldEnding, Runs}
+use Rattle.runs.specs.Looks.{Ending}
 use Rattle.lines.specs.declared.Line.{Line}
 use Rattle.lines.specs.declared.LineWritten.{LineWritten}
-use Rattle.lines.specs.Lines.{longestLine, lineWriting, toldLine, toldLineWritten}
+use Rattle.lines.specs.Lines as told
+use Rattle.lines.specs.Lines.{event, closing, longestLine, toldLine, toldLineWritten, WritesLine}
+use Rattle.events.specs.declared.Shown.{Shown}
+use Rattle.events.specs.Events.{buttonOf, pushes, RunsLine, EventLine}
 use Rattle.session.specs.declared.Session.{Session}
 use Rattle.session.specs.declared.Handed.{Handed}
-use Rattle.session.specs.HandingOut.{toldHandOut}
-use Rattle.session_means.specs.HandedLines.{Called}
+use Rattle.session.specs.HandingOut.{toldHandOut, NextLine}
+use Rattle.session.specs.Filling.{NextLines}
+use Rattle.demands.specs.OneAnswer.{OneAnswer}
 
 abbrev pub against : {A : Type 0} → Outcome A → Outcome (Unit {0})
 against (given a) = given tt
@@ -71,9 +85,9 @@ unfoldable pub firstNo : List (Bool × ℕ) → Outcome (Unit {0})
 firstNo [] = given tt
 firstNo ((t, n) ∷ ls) = cond t (firstNo ls) (refused n 0)
 
-abbrev pub isGiven : {A : Type 0} → Outcome A → Bool
-isGiven (given a) = true
-isGiven (refused n p) = false
+abbrev pub isThere : {A : Type 0} → Option A → Bool
+isThere (some a) = true
+isThere none = false
 
 -- a number too large to write is too long for a file
 abbrev pub numberLines : ℕ → List ℕ → ℕ → List (Bool × ℕ)
@@ -89,7 +103,7 @@ abbrev pub runLines : Board → State → List ℕ → List (Bool × ℕ)
 runLines b s log = usableLines b s ((leb (length log) longestLog, logTooLong) ∷ [])
 
 abbrev pub judgeLines : Board → State → ℕ → Which → List (Bool × ℕ)
-judgeLines b s r k = usableLines b s ((isGiven (windingOf k r (partsOf b)), noSuchWinding) ∷ [])
+judgeLines b s r k = usableLines b s ((isThere (windingOf k r (partsOf b)), noSuchWinding) ∷ [])
 
 abbrev pub moveLines : Board → State → ℕ → List (Bool × ℕ)
 moveLines b s r = usableLines b s ((ltb r (b .counts .relays), noSuchWinding) ∷ [])
@@ -100,26 +114,35 @@ pushLines b s n = usableLines b s ((ltb n (b .counts .buttons), noSuchName) ∷ 
 abbrev pub releaseLines : Board → State → ℕ → List (Bool × ℕ)
 releaseLines b s n = usableLines b s ((ltb n (b .counts .buttons), noSuchName) ∷ (isPushed s n, alreadySo) ∷ [])
 
+abbrev pub pressLines : Board → State → ℕ → List (Bool × ℕ)
+pressLines b s v = cond (pushes v) (pushLines b s (buttonOf v)) (releaseLines b s (buttonOf v))
+
 abbrev pub lineLines : List ℕ → List (Bool × ℕ)
 lineLines out = (leb longestLine (length out), bufferTooShort) ∷ []
+
+abbrev pub wordOf : told.Line → Outcome Ending
+wordOf (event e o m d) = o
+wordOf (closing n p) = refused n p
 
 pub record InOrder : Type 0 where
   pub reads : FileRefused
   pub eleven : ElevenExactly
+  pub eleven-moved : MoveElevenExactly
+  pub fifteen : FifteenExactly
   pub writes-number : (v : ℕ) (out out′ : List ℕ) (at : ℕ) (x : NumberWritten)
-      → _≡_ {A = Outcome ℕ × List ℕ} (toldNumberWritten x, out′) (numberWriting v out at)
+      → WritesNumber v out at x out′
       → against (toldNumberWritten x) ≡ firstNo (numberLines v out at)
   pub writes-line : (l : Line) (out out′ : List ℕ) (x : LineWritten)
-      → _≡_ {A = Outcome ℕ × List ℕ} (toldLineWritten x, out′) (lineWriting (toldLine l) out)
+      → WritesLine l out x out′
       → against (toldLineWritten x) ≡ firstNo (lineLines out)
   pub writes : (b : Board) (out out′ : List ℕ) (w : Written)
-      → Wrote b out w out′
+      → Writes b out w out′
       → against (toldWritten w) ≡ firstNo (writeLines b out)
   pub pushes : (b : Board) (s : State) (n : ℕ) (x : Pressed)
-      → toldPressed x ≡ pushing b s n
+      → Pushes b s n x
       → toldPress (x .answer) ≡ firstNo (pushLines b s n)
   pub releases : (b : Board) (s : State) (n : ℕ) (x : Pressed)
-      → toldPressed x ≡ releasing b s n
+      → Releases b s n x
       → toldPress (x .answer) ≡ firstNo (releaseLines b s n)
   pub judges : (b : Board) (s : State) (r : ℕ) (k : Which) (w : ℕ) (v : Verdict)
       → Judges b s r k w v
@@ -130,33 +153,43 @@ pub record InOrder : Type 0 where
   pub runs : (b : Board) (s : State) (w : ℕ) (log log′ : List ℕ) (a : Ran)
       → Runs b s log w a log′
       → against (toldEnding (a .word)) ≡ firstNo (runLines b s log)
+  -- a session's log of 4,096 is never too long (13), and the run after a push or release is never refused
+  pub tells-run : (b : Board) (e : ℕ) (s : State) (w : ℕ) (x : Shown)
+      → RunsLine b e s w x
+      → against (wordOf (toldLine (x .line))) ≡ firstNo (usableLines b s [])
+  pub tells-event : (b : Board) (e : ℕ) (s : State) (v w : ℕ) (x : Shown)
+      → EventLine b e s v w x
+      → against (wordOf (toldLine (x .line))) ≡ firstNo (pressLines b s v)
   pub hands : (z : Session) (s out out′ : List ℕ) (r : Handed)
-      → Called z s out r out′
+      → NextLine z s out r out′
+      → against (toldHandOut (r .answer)) ≡ firstNo (lineLines out)
+  pub hands-lines : (z : Session) (s out out′ : List ℕ) (r : Handed)
+      → NextLines z s out r out′
       → against (toldHandOut (r .answer)) ≡ firstNo (lineLines out)
 
 pub record AsLent : Type 0 where
   pub reads : (s : List ℕ) (r : BoardRead) (n p : ℕ)
-      → WasRead s r
+      → Reads s r
       → toldReadAnswer (r .answer) ≡ refused n p
       → r .board ≡ emptyBoard
   pub writes-number : (v : ℕ) (out out′ : List ℕ) (at : ℕ) (x : NumberWritten) (n p : ℕ)
-      → _≡_ {A = Outcome ℕ × List ℕ} (toldNumberWritten x, out′) (numberWriting v out at)
+      → WritesNumber v out at x out′
       → toldNumberWritten x ≡ refused n p
       → out′ ≡ out
   pub writes-line : (l : Line) (out out′ : List ℕ) (x : LineWritten) (n p : ℕ)
-      → _≡_ {A = Outcome ℕ × List ℕ} (toldLineWritten x, out′) (lineWriting (toldLine l) out)
+      → WritesLine l out x out′
       → toldLineWritten x ≡ refused n p
       → out′ ≡ out
   pub writes : (b : Board) (out out′ : List ℕ) (w : Written) (n p : ℕ)
-      → Wrote b out w out′
+      → Writes b out w out′
       → toldWritten w ≡ refused n p
       → (out′ ≡ out) × (bytesWritten w ≡ 0)
   pub pushes : (b : Board) (s : State) (k : ℕ) (x : Pressed) (n p : ℕ)
-      → toldPressed x ≡ pushing b s k
+      → Pushes b s k x
       → toldPress (x .answer) ≡ refused n p
       → x .state ≡ s
   pub releases : (b : Board) (s : State) (k : ℕ) (x : Pressed) (n p : ℕ)
-      → toldPressed x ≡ releasing b s k
+      → Releases b s k x
       → toldPress (x .answer) ≡ refused n p
       → x .state ≡ s
   pub judges : (b : Board) (s : State) (r : ℕ) (k : Which) (w : ℕ) (v : Verdict) (n p : ℕ)
@@ -171,11 +204,24 @@ pub record AsLent : Type 0 where
       → Runs b s log w a log′
       → toldEnding (a .word) ≡ refused n p
       → (a .state ≡ s) × ((a .moves ≡ 0) × ((a .relay ≡ noRelay) × (log′ ≡ log)))
+  pub tells-run : (b : Board) (e : ℕ) (s : State) (w : ℕ) (x : Shown) (n p : ℕ)
+      → RunsLine b e s w x
+      → wordOf (toldLine (x .line)) ≡ refused n p
+      → (toldLine (x .line) ≡ event e (refused n p) 0 (s .drawn)) × (x .state ≡ s)
+  pub tells-event : (b : Board) (e : ℕ) (s : State) (v w : ℕ) (x : Shown) (n p : ℕ)
+      → EventLine b e s v w x
+      → wordOf (toldLine (x .line)) ≡ refused n p
+      → (toldLine (x .line) ≡ event e (refused n p) 0 (s .drawn)) × (x .state ≡ s)
   pub hands : (z : Session) (s out out′ : List ℕ) (r : Handed) (n p : ℕ)
-      → Called z s out r out′
+      → NextLine z s out r out′
+      → toldHandOut (r .answer) ≡ refused n p
+      → (r .session ≡ z) × (out′ ≡ out)
+  pub hands-lines : (z : Session) (s out out′ : List ℕ) (r : Handed) (n p : ℕ)
+      → NextLines z s out r out′
       → toldHandOut (r .answer) ≡ refused n p
       → (r .session ≡ z) × (out′ ≡ out)
 
 pub record EveryCallComesBack : Type 0 where
+  pub comes-back : OneAnswer
   pub in-order : InOrder
   pub as-lent : AsLent

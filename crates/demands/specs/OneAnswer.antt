@@ -1,118 +1,104 @@
--- Rule book, how tight the promises are: "Any pair of answers allowed by a promise is shown to be one answer". A line
--- for each function that another crate can call: its promise, and that it allows one answer only. `docs/PROMISES.md`
--- has the promises in words.
---     itself                 an answer that is told as it is
---     One told a             two answers that are told as a are one answer
---     OneLent told a         two answers, with what they leave in a lent log or buffer, that are told as a are one
---                            answer, and leave the same
---     withBuffer told x l    the answer x as an outcome, with what it leaves in the buffer, l
---     OneAnswer              the list
+-- Demand 1: "Every call comes back." Rule book, how tight the promises are: "Any pair of answers allowed by a promise is
+-- shown to be one answer". A line for each function that another crate can call: its promise, by the name that its
+-- `ensures` cites, allows exactly one answer, whatever the call is given. `docs/PROMISES.md` has the promises in words.
+--     One P        the promise P allows an answer, and any two that it allows are one
+--     OneLent P    P allows an answer with what it leaves in a lent log or buffer, and any two that it allows are one
+--                  answer, and leave the same
+--     OneAnswer    the list; an argument of `wide` is a byte
 use Prim.Native.Nat.{ℕ, _<_}
 use mathlib.Core.Path.{_≡_}
 use mathlib.Core.List.{List}
-use lib.ListN.{length}
-use Rattle.number.specs.Outcomes.{Outcome}
-use Rattle.bits.specs.Sets as bits
-use Rattle.number.specs.Numbers as number
+use Rattle.bits.specs.Sets.{Has, With, Without, Remaining, LowestFrom, AllBelow, Wide}
+use Rattle.number.specs.Numbers.{ReadsNumber, NumberLength, WritesNumber}
 use Rattle.kinds.specs.declared.Kind.{Kind}
-use Rattle.kinds.specs.Kinds as kinds
+use Rattle.kinds.specs.Kinds.{KindOf, KindNumber, KindName}
 use Rattle.windings.specs.declared.WoundSoFar.{WoundSoFar}
-use Rattle.windings.specs.Windings as windings
+use Rattle.windings.specs.Windings.{WoundNone, WoundFree, WoundWith, WoundComplete}
 use Rattle.board.specs.declared.Counts.{Counts}
 use Rattle.board.specs.declared.Board.{Board}
-use Rattle.board.specs.Parts as parts
-use Rattle.board.specs.Rules as rules
-use Rattle.board.specs.Same as same
+use Rattle.board.specs.Parts.{Blank, Empty}
+use Rattle.board.specs.Rules.{Limit, Checks}
+use Rattle.board.specs.Same.{Same}
 use Rattle.state.specs.declared.State.{State}
-use Rattle.state.specs.States as state
-use Rattle.presses.specs.Presses as presses
-use Rattle.board_reader.specs.Reading as reader
-use Rattle.board_writer.specs.Writing as writer
-use Rattle.neighbours.specs.Conduction as conduction
-use Rattle.neighbours.specs.Neighbours as neighbours
+use Rattle.state.specs.States.{StateFresh, StateDraws, StateDrops, StatePushes, StateReleases, StateFits}
+use Rattle.presses.specs.Presses.{Pushes, Releases}
+use Rattle.board_reader.specs.Reading.{Reads}
+use Rattle.board_writer.specs.Writing.{Writes}
+use Rattle.neighbours.specs.Conduction.{Conducts}
+use Rattle.neighbours.specs.Neighbours.{Neighbours}
 use Rattle.search.specs.declared.Winding.{Winding}
-use Rattle.search.specs.Verdicts as search
+use Rattle.search.specs.Verdicts.{Searches}
 use Rattle.judge.specs.declared.Which.{Which}
-use Rattle.judge.specs.RelayWindings as windings-of
-use Rattle.judge.specs.Judging as judge
+use Rattle.judge.specs.RelayWindings.{SeeksWinding}
+use Rattle.judge.specs.Judging.{Judges}
 use Rattle.moves.specs.declared.Move.{Move}
-use Rattle.moves.specs.Steps as steps
-use Rattle.moves.specs.Moving as moves
-use Rattle.runs.specs.Running as runs
+use Rattle.moves.specs.Steps.{Steps, After}
+use Rattle.moves.specs.Moving.{Moves}
+use Rattle.runs.specs.Running.{Runs}
 use Rattle.lines.specs.declared.Line.{Line}
-use Rattle.lines.specs.Lines as lines
+use Rattle.lines.specs.Lines.{WritesLine}
+use Rattle.events.specs.Events.{RunsLine, EventLine}
 use Rattle.session.specs.declared.Session.{Session}
-use Rattle.session.specs.declared.Handed.{Handed}
-use Rattle.events.specs.Events as events
-use Rattle.session.specs.Carried as session
-use Rattle.session.specs.HandingOut as handing-out
-use Rattle.session.specs.Filling as filling
+use Rattle.session.specs.Carried.{Begins}
+use Rattle.session.specs.HandingOut.{NextLine}
+use Rattle.session.specs.Filling.{NextLines}
 
-abbrev pub itself : {A : Type 0} → A → A
-itself x = x
+pub record One {R : Type 0} (P : R → Type 0) : Type 0 where
+  pub answer : R
+  pub allowed : P answer
+  pub only : (x y : R) → P x → P y → x ≡ y
 
-abbrev pub One : {A R : Type 0} → (R → A) → A → Type 0
-One {A} {R} told a = (x y : R) → told x ≡ a → told y ≡ a → x ≡ y
-
-abbrev pub OneLent : {A R : Type 0} → (R → List ℕ → A) → A → Type 0
-OneLent {A} {R} told a = (x y : R) (k l : List ℕ) → told x k ≡ a → told y l ≡ a → (x ≡ y) × (k ≡ l)
-
-abbrev pub withBuffer : {R : Type 0} → (R → Outcome ℕ) → R → List ℕ → Outcome ℕ × List ℕ
-withBuffer told x l = (told x, l)
+pub record OneLent {R : Type 0} (P : R → List ℕ → Type 0) : Type 0 where
+  pub answer : R
+  pub left : List ℕ
+  pub allowed : P answer left
+  pub only : (x y : R) (k l : List ℕ) → P x k → P y l → (x ≡ y) × (k ≡ l)
 
 pub record OneAnswer : Type 0 where
-  pub bits-has : (s n : ℕ) → One itself (bits.member s n)
-  pub bits-with : (s n : ℕ) → One itself (bits.including s n)
-  pub bits-without : (s n : ℕ) → One itself (bits.excluding s n)
-  pub bits-remaining : (s t : ℕ) → One itself (bits.remaining s t)
-  pub bits-lowest-from : (s n : ℕ) → One itself (bits.lowestFrom s n)
-  pub bits-all-below : (s n : ℕ) → One itself (bits.within s n)
-  pub bits-wide : (x p q : ℕ) → (p ≡ x) × (p < 256) → (q ≡ x) × (q < 256) → p ≡ q
-  pub number-read-number : (s : List ℕ) (at : ℕ) → One number.toldNumber (number.numberAt s at)
-  pub number-number-length : (v : ℕ) → One itself (length (number.numberBytes v))
-  pub number-write-number : (v : ℕ) (out : List ℕ) (at : ℕ)
-      → OneLent (withBuffer number.toldNumberWritten) (number.numberWriting v out at)
-  pub kinds-of : (k n : ℕ) → One itself (kinds.kindOf k n)
-  pub kinds-number : (k : Kind) → One itself (kinds.kindNumber k)
-  pub kinds-name : (k : Kind) → One itself (kinds.nameOf k)
-  pub windings-none : One itself windings.noneWound
-  pub windings-free : (w : WoundSoFar) (k : Kind) → One itself (windings.windingFree w k)
-  pub windings-with : (w : WoundSoFar) (k : Kind) → One itself (windings.gained w k)
-  pub windings-complete : (w : WoundSoFar) (n : ℕ) → One itself (windings.complete n w)
-  pub board-limit : (c : Counts) (k : ℕ) → One itself (rules.limitOf c k)
-  pub board-blank : One itself parts.blank
-  pub board-empty : One itself parts.emptyBoard
-  pub board-check : (b : Board) → One itself (rules.boardFine b)
-  pub board-same : (b c : Board) → One itself (same.sameBoard b c)
-  pub state-fresh : One itself state.freshState
-  pub state-draw : (s : State) (r : ℕ) → One itself (state.withDrawn s r)
-  pub state-drop : (s : State) (r : ℕ) → One itself (state.withDropped s r)
-  pub state-push : (s : State) (n : ℕ) → One itself (state.withPushed s n)
-  pub state-release : (s : State) (n : ℕ) → One itself (state.withReleased s n)
-  pub state-fits : (s : State) (c : Counts) → One itself (state.stateFine c s)
-  pub presses-push : (b : Board) (s : State) (n : ℕ) → One presses.toldPressed (presses.pushing b s n)
-  pub presses-release : (b : Board) (s : State) (n : ℕ) → One presses.toldPressed (presses.releasing b s n)
-  pub board-reader-read : (s : List ℕ) → One reader.toldBoardRead (reader.reading s)
-  pub board-writer-write : (b : Board) (out : List ℕ) → OneLent (withBuffer writer.toldWritten) (writer.writing b out)
-  pub neighbours-conducts : (k : Kind) (s : State) → One itself (conduction.conducts s k)
-  pub neighbours-neighbours : (b : Board) (s : State) → One itself (neighbours.neighbours b s)
-  pub search-search : (near : List ℕ) (t : ℕ) (v : Winding) (w : ℕ)
-      → One search.toldVerdict (search.verdictBy near (search.inSets t) v w)
-  pub judge-winding : (b : Board) (r : ℕ) (k : Which)
-      → One windings-of.toldSought (windings-of.windingOf k r (parts.partsOf b))
-  pub judge-judge : (b : Board) (s : State) (r : ℕ) (k : Which) (w : ℕ)
-      → One search.toldVerdict (judge.judging b s r k w)
-  pub moves-step : (near : List ℕ) (b : Board) (s : State) (r w : ℕ)
-      → One steps.toldMove (steps.stepBy near b (state.isDrawn s r) r w)
-  pub moves-after : (s : State) (r : ℕ) (m : Move) → One itself (steps.made s r (steps.toldMove m))
-  pub moves-move-relay : (b : Board) (s : State) (r w : ℕ) → One moves.toldMoved (moves.moving b s r w)
-  pub runs-run : (b : Board) (s : State) (log : List ℕ) (w : ℕ) → OneLent runs.toldRan (runs.running b s log w)
-  pub lines-write-line : (l : Line) (out : List ℕ)
-      → OneLent (withBuffer lines.toldLineWritten) (lines.lineWriting (lines.toldLine l) out)
-  pub events-run-line : (b : Board) (e : ℕ) (s : State) (w : ℕ) → One events.toldShown (events.ranLine b e s w)
-  pub events-event-line : (b : Board) (e : ℕ) (s : State) (v w : ℕ) → One events.toldShown (events.eventLine b e s v w)
-  pub session-begin : (s : List ℕ) → One session.toldSession (session.beginning s)
-  pub session-next-line : (z : Session) (s out : List ℕ)
-      → OneLent handing-out.toldHanded (handing-out.nextLine (session.toldSession z) s out)
-  pub session-next-lines : (z : Session) (s out : List ℕ) (x y : Handed) (k l : List ℕ)
-      → filling.Filled z s out x k → filling.Filled z s out y l → (x ≡ y) × (k ≡ l)
+  pub bits-has : (s n : ℕ) → One (Has s n)
+  pub bits-with : (s n : ℕ) → One (With s n)
+  pub bits-without : (s n : ℕ) → One (Without s n)
+  pub bits-remaining : (s t : ℕ) → One (Remaining s t)
+  pub bits-lowest-from : (s n : ℕ) → One (LowestFrom s n)
+  pub bits-all-below : (s n : ℕ) → One (AllBelow s n)
+  pub bits-wide : (x : ℕ) → x < 256 → One (Wide x)
+  pub number-read-number : (s : List ℕ) (at : ℕ) → One (ReadsNumber s at)
+  pub number-number-length : (v : ℕ) → One (NumberLength v)
+  pub number-write-number : (v : ℕ) (out : List ℕ) (at : ℕ) → OneLent (WritesNumber v out at)
+  pub kinds-of : (k n : ℕ) → One (KindOf k n)
+  pub kinds-number : (k : Kind) → One (KindNumber k)
+  pub kinds-name : (k : Kind) → One (KindName k)
+  pub windings-none : One WoundNone
+  pub windings-free : (w : WoundSoFar) (k : Kind) → One (WoundFree w k)
+  pub windings-with : (w : WoundSoFar) (k : Kind) → One (WoundWith w k)
+  pub windings-complete : (w : WoundSoFar) (n : ℕ) → One (WoundComplete w n)
+  pub board-limit : (c : Counts) (k : ℕ) → One (Limit c k)
+  pub board-blank : One Blank
+  pub board-empty : One Empty
+  pub board-check : (b : Board) → One (Checks b)
+  pub board-same : (x y : Board) → One (Same x y)
+  pub state-fresh : One StateFresh
+  pub state-draw : (s : State) (r : ℕ) → One (StateDraws s r)
+  pub state-drop : (s : State) (r : ℕ) → One (StateDrops s r)
+  pub state-push : (s : State) (n : ℕ) → One (StatePushes s n)
+  pub state-release : (s : State) (n : ℕ) → One (StateReleases s n)
+  pub state-fits : (s : State) (c : Counts) → One (StateFits s c)
+  pub presses-push : (b : Board) (s : State) (n : ℕ) → One (Pushes b s n)
+  pub presses-release : (b : Board) (s : State) (n : ℕ) → One (Releases b s n)
+  pub board-reader-read : (s : List ℕ) → One (Reads s)
+  pub board-writer-write : (b : Board) (out : List ℕ) → OneLent (Writes b out)
+  pub neighbours-conducts : (k : Kind) (s : State) → One (Conducts k s)
+  pub neighbours-neighbours : (b : Board) (s : State) → One (Neighbours b s)
+  pub search-search : (near : List ℕ) (t : ℕ) (v : Winding) (w : ℕ) → One (Searches near t v w)
+  pub judge-winding : (b : Board) (r : ℕ) (k : Which) → One (SeeksWinding b r k)
+  pub judge-judge : (b : Board) (s : State) (r : ℕ) (k : Which) (w : ℕ) → One (Judges b s r k w)
+  pub moves-step : (near : List ℕ) (b : Board) (s : State) (r w : ℕ) → One (Steps near b s r w)
+  pub moves-after : (s : State) (r : ℕ) (m : Move) → One (After s r m)
+  pub moves-move-relay : (b : Board) (s : State) (r w : ℕ) → One (Moves b s r w)
+  pub runs-run : (b : Board) (s : State) (log : List ℕ) (w : ℕ) → OneLent (Runs b s log w)
+  pub lines-write-line : (l : Line) (out : List ℕ) → OneLent (WritesLine l out)
+  pub events-run-line : (b : Board) (e : ℕ) (s : State) (w : ℕ) → One (RunsLine b e s w)
+  pub events-event-line : (b : Board) (e : ℕ) (s : State) (v w : ℕ) → One (EventLine b e s v w)
+  pub session-begin : (s : List ℕ) → One (Begins s)
+  pub session-next-line : (z : Session) (s out : List ℕ) → OneLent (NextLine z s out)
+  pub session-next-lines : (z : Session) (s out : List ℕ) → OneLent (NextLines z s out)

@@ -1,5 +1,5 @@
--- The rule book's "Boards to try" as one table: the starred ones, and the others that compute quickly. The rest are
--- run and compared.
+-- The rule book's "Boards to try (starred: proved)" as one table: the rows that it stars, and others that compute
+-- quickly. The rest are run and compared.
 --     part k x y, board t r b ps    a part of kind k between x and y; a board of T t, R r, B b and the parts ps
 --     h0 .. h6, pair                the boards; `pair` is one of ours, on which two relays can move at once
 --     pushed0, pushedBoth           the states with button 0 pushed, and with buttons 0 and 1
@@ -16,7 +16,10 @@
 --                                   log l afterwards
 --       prints s x                  a session and all that it prints
 --     RowHolds x                    the row's call comes to its answer
---     starred, Starred              the table; every row of it holds
+--     starred                       the rows that the rule book stars
+--     besides                       rows that it does not star, and H2, with rows of ours: two relays that can move
+--                                   at once, logs that are just long enough
+--     Starred                       every row of either holds
 use Prim.Native.Nat.{ℕ}
 use mathlib.Core.Path.{_≡_}
 use mathlib.Core.List.{List, [], _∷_, _++_}
@@ -134,19 +137,14 @@ RowHolds (runs b s log w e m t r l) =
     running b s log w ≡ record { word = given e; moves = m; state = t; relay = r; log = l }
 RowHolds (prints s x) = sessionText s ≡ x
 
+-- H0 .. H6 and the number `80 00`, in the rule book's order
 abbrev pub starred : List Row
 starred =
     reads h0File h0 (given 4)
     ∷ runs h0 freshState (lent 2) 100 idle 0 freshState noRelay (lent 2)
-    ∷ runs h0 freshState [] 100 idle 0 freshState noRelay []
-    ∷ reads [] emptyBoard (refused inputEnds 0)
-    ∷ reads (1 ∷ 0 ∷ 0 ∷ 0 ∷ []) emptyBoard (refused outOfRange 0)
-    ∷ reads (65 ∷ 0 ∷ 0 ∷ 0 ∷ []) emptyBoard (refused outOfRange 0)
-    ∷ reads (64 ∷ 0 ∷ 0 ∷ 0 ∷ []) (board 64 0 0 []) (given 4)
     ∷ judges h1 freshState First 100 (deadWith 1)
     ∷ judges h1 pushed0 First 100 (liveWith 3 (0 ∷ 2 ∷ 1 ∷ []))
     ∷ judges h1 pushed0 First 2 (unsettled 2)
-    ∷ prints h2Session h2Lines
     ∷ runs h3 freshState (lent 5) 100 spent 5 (drawn0 freshState) 0 (128 ∷ 0 ∷ 128 ∷ 0 ∷ 128 ∷ [])
     ∷ runs h3 freshState [] 100 spent 0 freshState 0 []
     ∷ judges h4 freshState First 100 (deadWith 6)
@@ -154,23 +152,33 @@ starred =
     ∷ judges h4wired freshState First 100 (deadWith 7)
     ∷ judges h5 pushedBoth First 100 (liveWith 3 (0 ∷ 2 ∷ 1 ∷ []))
     ∷ judges h5 pushedBoth Second 100 (liveWith 5 (0 ∷ 3 ∷ 1 ∷ []))
-    ∷ judges h5 pushedBoth Second 4 (unsettled 4)
     ∷ moves h5 pushedBoth 100 pushedBoth step.conflict
-    ∷ moves h5 pushedBoth 4 pushedBoth step.undecided
     ∷ moves h5 pushed0 100 (drawn0 pushed0) step.drew
     ∷ moves h5 (drawn0 freshState) 100 (drawn0 freshState) step.rests
+    ∷ judges h6 freshState First 100 (liveWith 3 (0 ∷ 2 ∷ 1 ∷ []))
+    ∷ reads (128 ∷ 0 ∷ []) emptyBoard (refused badForm 0)
+    ∷ []
+
+abbrev pub besides : List Row
+besides =
+    runs h0 freshState [] 100 idle 0 freshState noRelay []
+    ∷ reads [] emptyBoard (refused inputEnds 0)
+    ∷ reads (1 ∷ 0 ∷ 0 ∷ 0 ∷ []) emptyBoard (refused outOfRange 0)
+    ∷ reads (65 ∷ 0 ∷ 0 ∷ 0 ∷ []) emptyBoard (refused outOfRange 0)
+    ∷ reads (64 ∷ 0 ∷ 0 ∷ 0 ∷ []) (board 64 0 0 []) (given 4)
+    ∷ prints h2Session h2Lines
+    ∷ judges h5 pushedBoth Second 4 (unsettled 4)
+    ∷ moves h5 pushedBoth 4 pushedBoth step.undecided
     ∷ runs h5 pushedBoth (lent 2) 100 conflict 0 pushedBoth 0 (lent 2)
     ∷ runs h5 pushedBoth (lent 2) 4 undecided 0 pushedBoth 0 (lent 2)
     ∷ runs h5 pushed0 (lent 2) 100 idle 1 (drawn0 pushed0) noRelay (128 ∷ 7 ∷ [])
     ∷ runs h5 pushed0 (lent 1) 100 idle 1 (drawn0 pushed0) noRelay (128 ∷ [])
     ∷ runs h5 (withReleased (drawn0 pushed0) 0) (lent 2) 100 idle 0 (drawn0 freshState) noRelay (lent 2)
-    ∷ judges h6 freshState First 100 (liveWith 3 (0 ∷ 2 ∷ 1 ∷ []))
     ∷ runs pair freshState (lent 3) 100 idle 2 (withDrawn (drawn0 freshState) 1) noRelay (128 ∷ 129 ∷ 7 ∷ [])
-    ∷ reads (128 ∷ 0 ∷ []) emptyBoard (refused badForm 0)
     ∷ reads (128 ∷ 128 ∷ []) emptyBoard (refused inputEnds 2)
     ∷ reads (128 ∷ 128 ∷ 128 ∷ []) emptyBoard (refused badForm 0)
     ∷ prints (h0File ++ (255 ∷ 255 ∷ 127 ∷ [])) h0Line
     ∷ []
 
 abbrev pub Starred : Type 0
-Starred = All RowHolds starred
+Starred = All RowHolds (starred ++ besides)

@@ -1,18 +1,21 @@
 -- One event of a session. Rule book: "then events to the end: 2 x button + 1 pushes, 2 x button releases"; "One line
 -- for the first run (event 0), then one for each event"; "An event refused by 12 prints its number, `refused` and 12;
 -- nothing is run"; "After spent, undecided or conflict the next event acts on the state left."
---     buttonOf v, pushes v    the button of the event v, and whether it pushes it
---     eventAt b s at          the event at a place of the input: a number (1, 2) that names a button of the board (7)
---     pressing b t v          the event v pushes or releases its button in state t
---     sessionLog              "a log of 4,096"
---     Shown                   a line, and the state after what it tells
---     tells e r               event e tells what a run answers: its word, its moves and the drawn relays
---     ranLine b e t w         event e tells of a run from state t
---     pressedLine b e x w     event e tells of the push or release x: of the run from the state that it leaves, or
---                             of its refusal
---     eventLine b e t v w     event e, which is v, in state t
---     toldShown               the code's line in the rule book's words
+--     buttonOf v, pushes v     the button of the event v, and whether it pushes it
+--     eventAt b s at           the event at a place of the input: a number (1, 2) that names a button of the board (7)
+--     pressing b t v           the event v pushes or releases its button in state t
+--     sessionLog               "a log of 4,096"
+--     Shown                    a line, and the state after what it tells
+--     tells e r                event e tells what a run answers: its word, its moves and the drawn relays
+--     ranLine b e t w          event e tells of a run from state t
+--     pressedLine b e x w      event e tells of the push or release x: of the run from the state that it leaves, or of
+--                              its refusal
+--     eventLine b e t v w      event e, which is v, in state t
+--     toldShown                the code's line in the rule book's words
+--     RunsLine b e t w r       promise: `run_line` of event e on board b in state t, within the allowance w, answers r
+--     EventLine b e t v w r    promise: `event_line` of event e, which is v, likewise
 use Prim.Native.Nat.{ℕ, _/_, _%_}
+use mathlib.Core.Path.{_≡_}
 use mathlib.Core.Bool.{Bool, cond}
 use mathlib.Core.List.{List}
 use lib.Dec.{ltb, eqb}
@@ -60,3 +63,9 @@ eventLine b e t v w = pressedLine b e (pressing b t v) w
 
 abbrev pub toldShown : code.Shown → Shown
 toldShown r = (toldLine (r .line), r .state)
+
+abbrev pub RunsLine : Board → ℕ → State → ℕ → code.Shown → Type 0
+RunsLine b e t w r = toldShown r ≡ ranLine b e t w
+
+abbrev pub EventLine : Board → ℕ → State → ℕ → ℕ → code.Shown → Type 0
+EventLine b e t v w r = toldShown r ≡ eventLine b e t v w

@@ -2,7 +2,7 @@
 // 0, which pushes and releases nothing.
 ghost use mathlib.Core.Path.{_≡_};
 ghost use Rattle.presses.specs.Presses.{toldPressed};
-ghost use Rattle.events.specs.Events.{pressing, ranLine, pressedLine, eventLine, toldShown};
+ghost use Rattle.events.specs.Events.{pressing, pressedLine, toldShown, RunsLine, EventLine};
 use board::Board;
 use lines::Line;
 use presses::Press;
@@ -21,7 +21,7 @@ pub struct Shown {
 
 // Runs the board from a state, and tells of it as the event of this number.
 pub fn run_line(board: Board, event: usize, state: State, allowance: u32) -> Shown
-    ensures { λ r. ⌜ toldShown r ≡ ranLine board event state allowance ⌝ }
+    ensures { λ r. ⌜ RunsLine board event state allowance r ⌝ }
 {
     let mut log = [0u8; LOG_LENGTH];
     let ran = runs::run(board, state, &mut log, allowance);
@@ -62,7 +62,7 @@ fn pressed_line(board: Board, event: usize, pressed: Pressed, allowance: u32) ->
 
 // Makes an event in a state, and tells of it under its number.
 pub fn event_line(board: Board, event: usize, state: State, value: u32, allowance: u32) -> Shown
-    ensures { λ r. ⌜ toldShown r ≡ eventLine board event state value allowance ⌝ }
+    ensures { λ r. ⌜ EventLine board event state value allowance r ⌝ }
 {
     pressed_line(board, event, press(board, state, value), allowance)
 }

@@ -6,11 +6,18 @@ use board::Counts;
 use board::MOST_PARTS;
 use board::Part;
 use board_writer::LONGEST_FILE;
+use board_writer::Written;
 use kinds::Kind;
 use presses::Press;
 use presses::Pressed;
 use state::State;
 ghost use Prim.Native.Nat.{_≤_};
+ghost use mathlib.Core.Path.{_≡_};
+ghost use lib.ListN.{length};
+ghost use Rattle.number.specs.Outcomes.{refused};
+ghost use Rattle.number.specs.Refusals.{bufferTooShort};
+ghost use Rattle.board_writer.specs.File.{longestFile};
+ghost use Rattle.board_writer.specs.Writing.{toldWritten};
 
 // A button and a relay that no board has.
 const ABSENT_BUTTON: u32 = 200;
@@ -81,11 +88,19 @@ fn press_buttons(board: Board) {
     print_pressed(b" beyond ", presses::push(board, beyond, 0));
 }
 
+// Writes a board into a buffer as long as the longest file: none is refused by 16.
+fn write_any(board: Board, out: &mut [u8]) -> Written
+    requires { ⌜ length (now out) ≡ longestFile ⌝ }
+    ensures { λ r. ⌜ ¬ (toldWritten r ≡ refused bufferTooShort 0) ⌝ }
+{
+    board_writer::write(board, out)
+}
+
 // Writes the board handed in, and pushes and releases its buttons.
 pub fn answer_board(bytes: &[u8]) {
     let board = handed_board(bytes);
     let mut out = [0u8; LONGEST_FILE];
-    let answer = board_writer::write(board, &mut out);
+    let answer = write_any(board, &mut out);
     print::written_length(b"write ", answer);
     press_buttons(board);
     print::words(b"\n");

@@ -1,5 +1,5 @@
--- The theorem over the call: a board file is refused by n at p exactly if line n of the table holds there and none
--- before it.
+-- The theorems over the call: a board file is refused by n at p exactly if line n of the table holds there and none
+-- before it; and where it is accepted, the numbers of the board stand in the file.
 use Prim.Native.Nat.{ℕ, _<_, _≤_}
 use mathlib.Core.Path.{_≡_, refl, sym, ap, _∙_}
 use mathlib.Core.Logic.{_⊎_, inl, inr}
@@ -7,29 +7,35 @@ use mathlib.Core.List.{List}
 use lib.Dec.{leb}
 use lib.ListN.{length}
 use borrow.Author.Tests.{leb-true, leb-false, le-leb, lt-leb}
-use Rattle.number.specs.Outcomes.{Outcome, refused, Found, _>>_, unless}
+use Rattle.number.specs.Outcomes.{Outcome, given, refused, Found, found, _>>_, unless}
 use Rattle.number.specs.Refusals.{inputTooLong}
+use Rattle.number.proofs.OutcomeLaws.{refused-never, given-injective}
 use Rattle.board.specs.declared.Board.{Board}
+use Rattle.board.specs.Parts.{partsOf}
 use Rattle.board_reader.specs.Reading.{boardAt, answered, reading, longestInput}
 use Rattle.board_reader.proofs.ReadLaws.{answered-refused}
-use Rattle.file_means.specs.FileRefusals.{LineHolds, FileRefused}
-use Rattle.file_means.proofs.RefusesLaws.{refuses-by, refuses-unless, refuses-each}
-use Rattle.file_means.proofs.RefusedHolds.{board-holds}
+use Rattle.file_means.specs.FileRefusals.{LineHolds, FileRefused, FileAccepted}
+use Rattle.file_means.proofs.LeadsLaws.{Leads, leads-refused, leads-given, leads-each, leads-unless}
+use Rattle.file_means.proofs.ReadLeads.{Given, board-leads}
 use Rattle.file_means.proofs.HoldsRefused.{holds-board}
 
 module _ (s : List ℕ) where
   abbrev Line : ℕ → ℕ → Type 0
   Line n p = ((longestInput < length s) × (n ≡ inputTooLong) × (p ≡ 0)) ⊎ ((length s ≤ longestInput) × LineHolds s n p)
 
+  abbrev BoardGiven : Found Board → Type 0
+  BoardGiven b = Given s (b .value .counts) (partsOf (b .value)) (b .next)
+
   abbrev read : Outcome (Found Board)
   read = unless (leb (length s) longestInput) inputTooLong 0 >> boardAt s
 
-  read-holds : (n p : ℕ) → read ≡ refused n p → Line n p
-  read-holds n p =
-      refuses-by Line read n p (refuses-unless Line (leb (length s) longestInput) inputTooLong 0 (boardAt s)
+  read-leads : Leads Line BoardGiven read
+  read-leads =
+      leads-unless Line BoardGiven (leb (length s) longestInput) inputTooLong 0 (boardAt s)
       (λ long. inl (leb-false _ _ long, refl, refl))
-      (λ short. refuses-each Line (boardAt s)
-      (λ n p e. inr (leb-true _ _ short, refuses-by (LineHolds s) (boardAt s) n p (board-holds s) e))))
+      (λ short. leads-each Line BoardGiven (boardAt s)
+      (λ n p e. inr (leb-true _ _ short, leads-refused (LineHolds s) BoardGiven (boardAt s) n p (board-leads s) e))
+      (λ b e. leads-given (LineHolds s) BoardGiven (boardAt s) b (board-leads s) e))
 
   holds-read : (n p : ℕ) → Line n p → read ≡ refused n p
   holds-read n p (inl (long, ten, place)) = rw (lt-leb (length s) longestInput long, ten, place)
@@ -39,6 +45,22 @@ pub file-refused : FileRefused
 unfolding reading answered
 file-refused s r n p was =
     let answer = ap (λ (x : Board × Outcome ℕ). x .1) was in (
-      λ no. read-holds s n p (answered-refused (read s) n p (sym answer ∙ no)),
+      λ no. leads-refused (Line s) (BoardGiven s) (read s) n p (read-leads s)
+          (answered-refused (read s) n p (sym answer ∙ no)),
       λ line. answer ∙ ap (λ (o : Outcome (Found Board)). answered o .1) (holds-read s n p line),
     )
+
+answered-given : (o : Outcome (Found Board)) (b : Board) (n : ℕ) → answered o ≡ (b, given n) → o ≡ found b n
+unfolding answered
+answered-given (given f) b n e =
+    let place = given-injective (f .next) n (λ i. e i .1) in λ i. found (e i .0) (place i)
+answered-given (refused k p) b n e = absurd (refused-never k p n (λ i. e i .1))
+
+pub file-accepted : FileAccepted
+unfolding reading
+file-accepted s r n was told =
+    let answer = sym was ∙ ap (λ (o : Outcome ℕ). (r .board, o)) told in
+    let so =
+    leads-given (Line s) (BoardGiven s) (read s) (record { value = r .board; next = n }) (read-leads s)
+    (answered-given (read s) (r .board) n answer) in
+    (so .reached, so .counted, so .all-wound)

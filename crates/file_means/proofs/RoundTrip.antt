@@ -3,8 +3,8 @@ use Prim.Native.Nat.{ℕ, _≤_}
 use native.Mathlib.Omega.{arith}
 use mathlib.Core.Path.{_≡_, refl, sym, ap, subst, _∙_}
 use mathlib.Core.Bool.{true}
-use mathlib.Core.List.{List, [], _++_, append-nil}
-use lib.ListN.{length, take, drop}
+use mathlib.Core.List.{List, _++_}
+use lib.ListN.{length, take, drop, length-append}
 use lib.Seq.{take-at, drop-at, length-take-le}
 use borrow.Author.Tests.{le-leb}
 use Rattle.number.specs.Outcomes.{Outcome, given}
@@ -16,7 +16,8 @@ use Rattle.bits.proofs.BoolLaws.{both-true}
 use Rattle.board.proofs.PaddedLaws.{padded-parts}
 use Rattle.board.proofs.RuleLaws.{counts-in-range}
 use Rattle.board.proofs.SameLaws.{equal-same-board}
-use Rattle.board_reader.specs.Reading.{boardOf, longestInput, answered, reading}
+use Rattle.board_reader.specs.Reading.{boardOf, longestInput, answered, reading, toldReadAnswer, Reads}
+use Rattle.board_reader.specs.declared.BoardRead.{BoardRead}
 use Rattle.board_writer.specs.File.{boardBytes}
 use Rattle.board_writer.specs.Writing.{writing}
 use Rattle.board_writer.proofs.WriteLaws.{writing-with-room}
@@ -35,7 +36,7 @@ begins bytes rest n long =
 -- a board's bytes, whatever stands after them, are read as that board
 module _ (b : Board) (rest : List ℕ) (n : ℕ) (places : length (b .parts) ≡ mostParts) (fine : boardFine b ≡ true)
     (long : n ≡ length (boardBytes b)) (short : length (boardBytes b ++ rest) ≤ longestInput) where
-  reads-back : reading (boardBytes b ++ rest) ≡ (boardOf (b .counts) (partsOf b), given n)
+  pub reads-back : reading (boardBytes b ++ rest) ≡ (boardOf (b .counts) (partsOf b), given n)
   unfolding reading answered
   reads-back =
       rw (
@@ -54,18 +55,21 @@ same-again b places fine =
     equal-same-board b (boardOf (b .counts) (partsOf b)) refl (sym (padded-parts (b .counts) (partsOf b) (sym counted)))
 
 pub write-then-read : WriteThenRead
-write-then-read b out out′ n w r places wrote told read =
+write-then-read b out out′ more n w r places wrote told =
     let written : WasWritten b out n out′ =
     writing-given b out n out′ (sym wrote ∙ ap (λ (o : Outcome ℕ). (o, out′)) told) in
-    let bytes : take n out′ ≡ boardBytes b ++ [] =
-    ap (take n) (written .begins) ∙ take-at (boardBytes b) (drop n out) n (sym (written .count))
-    ∙ sym (append-nil (boardBytes b)) in
-    let few : length (boardBytes b ++ []) ≤ longestInput =
-    rw (append-nil (boardBytes b)) (omega (arith, board-file-bound b (written .fine))) in
-    let back = read ∙ ap reading bytes ∙ reads-back b [] n places (written .fine) (written .count) few in (
-      ap (λ (a : Board × Outcome ℕ). a .1) back,
-      ap (λ (a : Board × Outcome ℕ). sameBoard b (a .0)) back
-          ∙ same-again b places (written .fine),
+    let begins : take n out′ ≡ boardBytes b =
+    ap (take n) (written .begins) ∙ take-at (boardBytes b) (drop n out) n (sym (written .count)) in (
+      omega (arith, written .count, board-file-bound b (written .fine)),
+      λ short read.
+          (let few : length (boardBytes b ++ more) ≤ longestInput =
+          omega (arith, written .count, length-append (boardBytes b) more) in
+          let back =
+          read ∙ ap (λ (l : List ℕ). reading (l ++ more)) begins
+          ∙ reads-back b more n places (written .fine) (written .count) few in (
+            ap (λ (a : Board × Outcome ℕ). a .1) back,
+            ap (λ (a : Board × Outcome ℕ). sameBoard b (a .0)) back ∙ same-again b places (written .fine),
+          )),
     )
 
 -- a fine board is written where it has room
@@ -74,12 +78,17 @@ writes : (b : Board) (out : List ℕ) (n : ℕ) → boardFine b ≡ true → n �
 writes b out n fine long room =
     writing-with-room b out fine (omega arith) ∙ ap (λ (m : ℕ). (given m, boardBytes b ++ drop m out)) (sym long)
 
+-- a board that was read is fine and stands at the start of the input
+pub was-read-fine : (s : List ℕ) (r : BoardRead) (n : ℕ) → Reads s r → toldReadAnswer (r .answer) ≡ given n
+    → BoardIsFine s (r .board) n
+was-read-fine s r n read told =
+    subst (λ (a : Board × Outcome ℕ). Gives (BoardIsFine s (a .0)) (a .1))
+    (sym read ∙ ap (λ (o : Outcome ℕ). (r .board, o)) told) (read-fine s)
+
 pub read-then-write : ReadThenWrite
 read-then-write s out out′ n r w bytes read told wrote =
     let b = r .board in
-    let was : BoardIsFine s b n =
-    subst (λ (a : Board × Outcome ℕ). Gives (BoardIsFine s (a .0)) (a .1))
-    (sym read ∙ ap (λ (o : Outcome ℕ). (b, o)) told) (read-fine s) in
+    let was = was-read-fine s r n read told in
     let long : n ≡ length (boardBytes b) = omega (arith, was .stands bytes .ends) in (
       was .fine,
       λ room.

@@ -1,122 +1,143 @@
 -- The numbers for no of a board file, line by line. Rule book: the table "Numbers for no", lines 1 to 10, and "A number
--- is given exactly when its line holds and none before it in the order does." The order is left to right: that the
--- reader has come to a number says that no line holds of those before it.
---     countFine i v                v is in the range of count i of T, R, B and C
---     CountAt s i at               count i is wanted at a place: those before it are in range
---     Reads c w s from ps w′ at    from a place on, after parts that gave the windings w, stand the parts ps, each of
---                                  them fine; they give the windings w′, and the place after them is `at`
---     Reached s c ps w at          the counts c are fine, and so are the parts ps after them, which give the windings
---                                  w; the reader has come to the place `at`
---     AtKind s c w at              after the counts c and parts that give the windings w, all of them fine, the kind of
---                                  one more part is wanted at a place
---     AtFirst s c w k at           the first end of a part of kind number k is wanted at a place, and what stands
---                                  before it is fine
---     AtSecond s c w k a at        its second end, after the first end a
---     AtName s c w k at            its relay or button, after two ends that differ; it is no wire
---     WantedAt s at                some number is wanted at a place
---     StandsAt s p v               the number v stands at place p. What the form of a number is, and when it ends or is
---                                  bad, `numberAt` says
---     LineHolds s n p              line n of the table holds at place p, and none before it
---     FileRefused                  over the call `board_reader::read`: it is refused by n at p exactly if line n holds
---                                  there, and none before it
-use Prim.Native.Nat.{ℕ, zero, suc, _<_, _≤_}
+-- is given exactly when its line holds and none before it in the order does. [..] Order: 10 first; then left to right,
+-- each number's form (1, 2) before its meaning, and for a part 4, 5, 5, 6, 7, 8 as its fields come; then 9."
+-- Nothing here goes by the reader. A stage of the file is reached by the numbers that stand there one after the other
+-- and by how they compare, so that no line holds of those before it; and windings are counted over the parts so far, by
+-- `crates/board/specs/Sorts.antt`.
+--     StandsAt s p v next     the number v stands at place p, and `next` is the place just after it. What the form of a
+--                             number is, and when it ends or is bad, `numberAt` says
+--     Taken r ps k            by the parts ps relay r already has the winding of kind number k, or is of the other
+--                             sort
+--     FileStage               what comes next in the file, after what was read:
+--       at-T                  T
+--       at-R t                R, after T is t
+--       at-B t r              B, after R is r
+--       at-C t r b            C, after B is b
+--       at-part c ps          one more part or the board's end, after the counts c and the parts ps
+--       at-first c ps k       the first end of a part of kind number k
+--       at-second c ps k a    its second end, after the first end a
+--       at-name c ps k a b    its relay or button, after the second end b; a wire has none
+--     NumberWanted f          a number is wanted at stage f: for a part while the parts are fewer than C, for a name
+--                             unless the part is a wire
+--     Reached s f p           stage f is reached at place p: every number before it is fine
+--     NumberStands s f p v    stage f is reached at place p, a number is wanted, and v stands there
+--     LineHolds s n p         line n of the table holds at place p, and none before it
+--     FileRefused             over the call `board_reader::read`: it is refused by n at p exactly if line n holds
+--                             there, and none before it
+--     FileAccepted            over the same call: where it is accepted up to place n, the counts and parts of the board
+--                             are the numbers that stand before n, the parts are C, and every relay is regular or
+--                             steel-core
+use Prim.Native.Nat.{ℕ, _+_, _<_, _≤_}
 use mathlib.Core.Path.{_≡_}
 use mathlib.Core.Logic.{_⊎_, _↔_}
-use mathlib.Core.Bool.{Bool, true, false}
-use mathlib.Core.List.{List, [], _∷_}
+use mathlib.Core.List.{List, [], _∷_, _++_}
 use lib.ListN.{length}
-use Rattle.number.specs.Outcomes.{refused, found}
+use Rattle.number.specs.Outcomes.{refused, given, found}
 use Rattle.number.specs.Refusals.{inputEnds, badForm, outOfRange, noSuchKind, noSuchTerminal, endsEqual, noSuchName}
 use Rattle.number.specs.Refusals.{windingTaken, windingLacking, inputTooLong}
 use Rattle.number.specs.Numbers.{numberAt}
-use Rattle.kinds.specs.Kinds.{lastKind, kindOf}
-use Rattle.windings.specs.declared.WoundSoFar.{WoundSoFar}
-use Rattle.windings.specs.Windings.{noneWound, windingFree, gained, complete}
+use Rattle.kinds.specs.Kinds.{buttonKind, regularKind, drawingKind, droppingKind, lastKind, kindOf}
+use Rattle.kinds.specs.declared.Kind.the-variants.{Wire, Button}
 use Rattle.board.specs.declared.Counts.{Counts}
 use Rattle.board.specs.declared.Part.{Part}
-use Rattle.board.specs.Parts.{mostParts}
-use Rattle.board.specs.Rules.{leastTerminals, mostTerminals, mostRelays, mostButtons, inRange, terminalFine, endsFine}
-use Rattle.board.specs.Rules.{limitOf}
+use Rattle.board.specs.Parts.{partsOf, mostParts}
+use Rattle.board.specs.Rules.{leastTerminals, mostTerminals, mostRelays, mostButtons}
+use Rattle.board.specs.Sorts.{windingsOf, isRegular, isSteel, Wound}
 use Rattle.board_reader.specs.declared.BoardRead.{BoardRead}
-use Rattle.board_reader.specs.Reading.{wanted, countsAt, partAt, longestInput, toldReadAnswer}
-use Rattle.file_means.specs.RoundTrip.{WasRead}
+use Rattle.board_reader.specs.Reading.{longestInput, toldReadAnswer, Reads}
 
-abbrev pub countFine : ℕ → ℕ → Bool
-countFine zero = inRange leastTerminals mostTerminals
-countFine (suc zero) = inRange 0 mostRelays
-countFine (suc (suc zero)) = inRange 0 mostButtons
-countFine (suc (suc (suc i))) = inRange 0 mostParts
+abbrev pub StandsAt : List ℕ → ℕ → ℕ → ℕ → Type 0
+StandsAt s p v next = numberAt s p ≡ found v next
 
-abbrev pub CountAt : List ℕ → ℕ → ℕ → Type 0
-CountAt s zero at = at ≡ 0
-CountAt s (suc i) at =
-    (before : ℕ) × (v : ℕ) × CountAt s i before × (wanted (countFine i) outOfRange s before ≡ found v at)
+pub data Taken (r : ℕ) (ps : List Part) : ℕ → Type 0 where
+  has-it : {k : ℕ} → regularKind ≤ k → 0 < windingsOf k r ps → Taken r ps k
+  is-steel : 0 < windingsOf drawingKind r ps + windingsOf droppingKind r ps → Taken r ps regularKind
+  is-regular : {k : ℕ} → regularKind < k → 0 < windingsOf regularKind r ps → Taken r ps k
 
-abbrev pub Reads : Counts → WoundSoFar → List ℕ → ℕ → List Part → WoundSoFar → ℕ → Type 0
-Reads c w s from [] w′ at = (w ≡ w′) × (from ≡ at)
-Reads c w s from (p ∷ ps) w′ at =
-    (next : ℕ) × (partAt c w s from ≡ found p next) × Reads c (gained w (p .kind)) s next ps w′ at
+pub data FileStage : Type 0 where
+  at-T : FileStage
+  at-R : ℕ → FileStage
+  at-B : ℕ → ℕ → FileStage
+  at-C : ℕ → ℕ → ℕ → FileStage
+  at-part : Counts → List Part → FileStage
+  at-first : Counts → List Part → ℕ → FileStage
+  at-second : Counts → List Part → ℕ → ℕ → FileStage
+  at-name : Counts → List Part → ℕ → ℕ → ℕ → FileStage
 
-pub record Reached (s : List ℕ) (c : Counts) (ps : List Part) (w : WoundSoFar) (at : ℕ) : Type 0 where
-  pub start : ℕ
-  pub counts-fine : countsAt s ≡ found c start
-  pub parts-fine : Reads c noneWound s start ps w at
+abbrev pub NumberWanted : FileStage → Type 0
+NumberWanted at-T = Unit {0}
+NumberWanted (at-R t) = Unit {0}
+NumberWanted (at-B t r) = Unit {0}
+NumberWanted (at-C t r b) = Unit {0}
+NumberWanted (at-part c ps) = length ps < c .parts
+NumberWanted (at-first c ps k) = Unit {0}
+NumberWanted (at-second c ps k a) = Unit {0}
+NumberWanted (at-name c ps k a b) = ¬ (k ≡ 0)
 
-pub record AtKind (s : List ℕ) (c : Counts) (w : WoundSoFar) (at : ℕ) : Type 0 where
-  pub parts : List Part
-  pub reached : Reached s c parts w at
-  pub one-more : length parts < c .parts
+pub data Reached (s : List ℕ) : FileStage → ℕ → Type 0 where
+  start : Reached s at-T 0
+  T-fine : {t p next : ℕ} → Reached s at-T p → StandsAt s p t next → leastTerminals ≤ t → t ≤ mostTerminals
+      → Reached s (at-R t) next
+  R-fine : {t r p next : ℕ} → Reached s (at-R t) p → StandsAt s p r next → r ≤ mostRelays → Reached s (at-B t r) next
+  B-fine : {t r b p next : ℕ} → Reached s (at-B t r) p → StandsAt s p b next → b ≤ mostButtons
+      → Reached s (at-C t r b) next
+  C-fine : {t r b c p next : ℕ} → Reached s (at-C t r b) p → StandsAt s p c next → c ≤ mostParts
+      → Reached s (at-part (record { terminals = t; relays = r; buttons = b; parts = c }) []) next
+  kind-fine : {c : Counts} {ps : List Part} {k p next : ℕ} → Reached s (at-part c ps) p → length ps < c .parts
+      → StandsAt s p k next → k ≤ lastKind → Reached s (at-first c ps k) next
+  first-fine : {c : Counts} {ps : List Part} {k a p next : ℕ} → Reached s (at-first c ps k) p → StandsAt s p a next
+      → a < c .terminals → Reached s (at-second c ps k a) next
+  second-fine : {c : Counts} {ps : List Part} {k a b p next : ℕ} → Reached s (at-second c ps k a) p
+      → StandsAt s p b next → b < c .terminals → ¬ (a ≡ b) → Reached s (at-name c ps k a b) next
+  wire-fine : {c : Counts} {ps : List Part} {a b p : ℕ} → Reached s (at-name c ps 0 a b) p
+      → Reached s (at-part c (ps ++ (record { a = a; b = b; kind = Wire } ∷ []))) p
+  button-fine : {c : Counts} {ps : List Part} {a b v p next : ℕ} → Reached s (at-name c ps buttonKind a b) p
+      → StandsAt s p v next → v < c .buttons
+      → Reached s (at-part c (ps ++ (record { a = a; b = b; kind = Button v } ∷ []))) next
+  relay-fine : {c : Counts} {ps : List Part} {k a b v p next : ℕ} → Reached s (at-name c ps k a b) p → ¬ (k ≡ 0)
+      → ¬ (k ≡ buttonKind) → StandsAt s p v next → v < c .relays → ¬ Taken v ps k
+      → Reached s (at-part c (ps ++ (record { a = a; b = b; kind = kindOf k v } ∷ []))) next
 
-pub record AtFirst (s : List ℕ) (c : Counts) (w : WoundSoFar) (k at : ℕ) : Type 0 where
-  pub kind-at : ℕ
-  pub before : AtKind s c w kind-at
-  pub kind-fine : wanted (inRange 0 lastKind) noSuchKind s kind-at ≡ found k at
-
-pub record AtSecond (s : List ℕ) (c : Counts) (w : WoundSoFar) (k a at : ℕ) : Type 0 where
-  pub a-at : ℕ
-  pub before : AtFirst s c w k a-at
-  pub a-fine : wanted (terminalFine c) noSuchTerminal s a-at ≡ found a at
-
-pub record AtName (s : List ℕ) (c : Counts) (w : WoundSoFar) (k at : ℕ) : Type 0 where
-  pub a : ℕ
-  pub b : ℕ
-  pub b-at : ℕ
-  pub before : AtSecond s c w k a b-at
-  pub b-fine : wanted (terminalFine c) noSuchTerminal s b-at ≡ found b at
-  pub ends-fine : endsFine a b ≡ true
-  pub no-wire : ¬ (k ≡ 0)
-
-pub data WantedAt (s : List ℕ) (at : ℕ) : Type 0 where
-  a-count : {i : ℕ} → i < 4 → CountAt s i at → WantedAt s at
-  a-kind : {c : Counts} {w : WoundSoFar} → AtKind s c w at → WantedAt s at
-  first-end : {c : Counts} {w : WoundSoFar} {k : ℕ} → AtFirst s c w k at → WantedAt s at
-  second-end : {c : Counts} {w : WoundSoFar} {k a : ℕ} → AtSecond s c w k a at → WantedAt s at
-  a-name : {c : Counts} {w : WoundSoFar} {k : ℕ} → AtName s c w k at → WantedAt s at
-
-abbrev pub StandsAt : List ℕ → ℕ → ℕ → Type 0
-StandsAt s p v = (next : ℕ) × (numberAt s p ≡ found v next)
+abbrev pub NumberStands : List ℕ → FileStage → ℕ → ℕ → Type 0
+NumberStands s f p v = Reached s f p × NumberWanted f × (next : ℕ) × StandsAt s p v next
 
 pub data LineHolds (s : List ℕ) : ℕ → ℕ → Type 0 where
-  line1 : {at : ℕ} → WantedAt s at → numberAt s at ≡ refused inputEnds (length s) → LineHolds s inputEnds (length s)
-  line2 : {p : ℕ} → WantedAt s p → numberAt s p ≡ refused badForm p → LineHolds s badForm p
-  line3 : {i v p : ℕ} → i < 4 → CountAt s i p → StandsAt s p v → countFine i v ≡ false → LineHolds s outOfRange p
-  line4 : {c : Counts} {w : WoundSoFar} {v p : ℕ} → AtKind s c w p → StandsAt s p v → lastKind < v
+  line1 : {f : FileStage} {at : ℕ} → Reached s f at → NumberWanted f → numberAt s at ≡ refused inputEnds (length s)
+      → LineHolds s inputEnds (length s)
+  line2 : {f : FileStage} {p : ℕ} → Reached s f p → NumberWanted f → numberAt s p ≡ refused badForm p
+      → LineHolds s badForm p
+  line3-T : {v p : ℕ} → NumberStands s at-T p v → (v < leastTerminals) ⊎ (mostTerminals < v) → LineHolds s outOfRange p
+  line3-R : {t v p : ℕ} → NumberStands s (at-R t) p v → mostRelays < v → LineHolds s outOfRange p
+  line3-B : {t r v p : ℕ} → NumberStands s (at-B t r) p v → mostButtons < v → LineHolds s outOfRange p
+  line3-C : {t r b v p : ℕ} → NumberStands s (at-C t r b) p v → mostParts < v → LineHolds s outOfRange p
+  line4 : {c : Counts} {ps : List Part} {v p : ℕ} → NumberStands s (at-part c ps) p v → lastKind < v
       → LineHolds s noSuchKind p
-  line5-first : {c : Counts} {w : WoundSoFar} {k v p : ℕ} → AtFirst s c w k p → StandsAt s p v → c .terminals ≤ v
+  line5-first : {c : Counts} {ps : List Part} {k v p : ℕ} → NumberStands s (at-first c ps k) p v → c .terminals ≤ v
       → LineHolds s noSuchTerminal p
-  line5-second : {c : Counts} {w : WoundSoFar} {k a v p : ℕ} → AtSecond s c w k a p → StandsAt s p v
+  line5-second : {c : Counts} {ps : List Part} {k a v p : ℕ} → NumberStands s (at-second c ps k a) p v
       → c .terminals ≤ v → LineHolds s noSuchTerminal p
-  line6 : {c : Counts} {w : WoundSoFar} {k a p : ℕ} → AtSecond s c w k a p → StandsAt s p a → LineHolds s endsEqual p
-  line7 : {c : Counts} {w : WoundSoFar} {k v p : ℕ} → AtName s c w k p → StandsAt s p v → limitOf c k ≤ v
-      → LineHolds s noSuchName p
-  line8 : {c : Counts} {w : WoundSoFar} {k v p : ℕ} → AtName s c w k p → StandsAt s p v → v < limitOf c k
-      → windingFree w (kindOf k v) ≡ false → LineHolds s windingTaken p
-  line9 : {c : Counts} {w : WoundSoFar} {ps : List Part} {p : ℕ} → Reached s c ps w p → length ps ≡ c .parts
-      → complete (c .relays) w ≡ false → LineHolds s windingLacking p
+  line6 : {c : Counts} {ps : List Part} {k a p : ℕ} → NumberStands s (at-second c ps k a) p a → LineHolds s endsEqual p
+  line7-button : {c : Counts} {ps : List Part} {a b v p : ℕ} → NumberStands s (at-name c ps buttonKind a b) p v
+      → c .buttons ≤ v → LineHolds s noSuchName p
+  line7-relay : {c : Counts} {ps : List Part} {k a b v p : ℕ} → NumberStands s (at-name c ps k a b) p v
+      → ¬ (k ≡ buttonKind) → c .relays ≤ v → LineHolds s noSuchName p
+  line8 : {c : Counts} {ps : List Part} {k a b v p : ℕ} → NumberStands s (at-name c ps k a b) p v → v < c .relays
+      → Taken v ps k → LineHolds s windingTaken p
+  line9 : {c : Counts} {ps : List Part} {r p : ℕ} → Reached s (at-part c ps) p → length ps ≡ c .parts → r < c .relays
+      → ¬ isRegular r ps → ¬ isSteel r ps → LineHolds s windingLacking p
 
 abbrev pub FileRefused : Type 0
 FileRefused =
     (s : List ℕ) (r : BoardRead) (n p : ℕ)
-    → WasRead s r
+    → Reads s r
     → toldReadAnswer (r .answer) ≡ refused n p
     ↔ ((longestInput < length s) × (n ≡ inputTooLong) × (p ≡ 0)) ⊎ ((length s ≤ longestInput) × LineHolds s n p)
+
+abbrev pub FileAccepted : Type 0
+FileAccepted =
+    (s : List ℕ) (r : BoardRead) (n : ℕ)
+    → Reads s r
+    → toldReadAnswer (r .answer) ≡ given n
+    → Reached s (at-part (r .board .counts) (partsOf (r .board))) n
+    × (length (partsOf (r .board)) ≡ r .board .counts .parts)
+    × Wound (r .board .counts .relays) (partsOf (r .board))

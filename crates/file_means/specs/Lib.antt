@@ -1,3 +1,4 @@
 -- The statements, in reading order.
 pub mod RoundTrip
+pub mod BytesAfter
 pub mod FileRefusals

@@ -5,13 +5,14 @@ use mathlib.Core.Path.{_≡_, refl, sym, ap, _∙_}
 use mathlib.Core.Logic.{_⊎_, ⊎-elim}
 use mathlib.Core.Bool.{true, false}
 use mathlib.Core.List.{List, [], _∷_}
+use mathlib.Core.Option.{Option, none, some}
 use lib.Dec.{eqb}
 use lib.ListN.{length, getD, take, drop}
 use borrow.Author.Tests.{eq-eqb, ne-eqb}
-use Rattle.bits.proofs.BoolLaws.{by-test}
-use Rattle.number.specs.Outcomes.{Outcome, given, refused}
+use Rattle.number.specs.Outcomes.{given, refused}
 use Rattle.number.specs.Refusals.{noSuchWinding}
 use Rattle.number.proofs.OutcomeLaws.{refused-never, given-injective}
+use Rattle.number.proofs.Told.{Told}
 use Rattle.kinds.specs.declared.Kind.{Kind}
 use Rattle.kinds.specs.Kinds.{kindNumber, nameOf}
 use Rattle.board.specs.declared.Part.{Part}
@@ -22,7 +23,7 @@ use Rattle.search.specs.declared.Winding.{Winding}
 use Rattle.judge.specs.declared.Which.{Which}
 use Rattle.judge.specs.declared.Sought.{Sought}
 use Rattle.judge.specs.declared.Sought.the-variants.{Between, Nowhere}
-use Rattle.judge.specs.RelayWindings.{isWinding, windingOf, toldSought}
+use Rattle.judge.specs.RelayWindings.{isWinding, windingOf, orNoSuchWinding, toldSought}
 
 -- ---- a kind that carries a relay, by its number n and its name m
 
@@ -40,7 +41,7 @@ abbrev pub endsOf : Part → Winding
 endsOf p = record { a = p .a; b = p .b }
 
 pub winding-here : (w : Which) (r : ℕ) (p : Part) (ps : List Part) → isWinding w r (p .kind) ≡ true
-    → windingOf w r (p ∷ ps) ≡ given (endsOf p)
+    → windingOf w r (p ∷ ps) ≡ some (endsOf p)
 unfolding windingOf
 winding-here w r p ps e = rw e refl
 
@@ -49,24 +50,24 @@ pub winding-past : (w : Which) (r : ℕ) (p : Part) (ps : List Part) → isWindi
 unfolding windingOf
 winding-past w r p ps e = rw e refl
 
-pub winding-none : (w : Which) (r : ℕ) → windingOf w r [] ≡ refused noSuchWinding 0
+pub winding-none : (w : Which) (r : ℕ) → windingOf w r [] ≡ none
 unfolding windingOf
 winding-none w r = refl
 
--- a winding that is not found is refused by 11
-pub winding-refused : (w : Which) (r : ℕ) (ps : List Part) (k q : ℕ) → windingOf w r ps ≡ refused k q
-    → windingOf w r ps ≡ refused noSuchWinding 0
-winding-refused w r [] k q e = winding-none w r
-winding-refused w r (p ∷ ps) k q e =
-    by-test (isWinding w r (p .kind))
-    (λ on. absurd (refused-never k q (endsOf p) (sym e ∙ winding-here w r p ps on)))
-    (λ off. winding-past w r p ps off ∙ winding-refused w r ps k q (sym (winding-past w r p ps off) ∙ e))
+-- a winding that is asked for is there where it is given, and is not where it is refused
+pub asked-given : (o : Option Winding) (e : Winding) → orNoSuchWinding o ≡ given e → o ≡ some e
+asked-given (some v) e is = ap some (given-injective v e is)
+asked-given none e is = absurd (refused-never noSuchWinding 0 e is)
+
+pub asked-refused : (o : Option Winding) (k p : ℕ) → orNoSuchWinding o ≡ refused k p → o ≡ none
+asked-refused (some v) k p is = absurd (refused-never k p v (sym is))
+asked-refused none k p is = refl
 
 -- at place i of the first n parts of l, `all` is the winding among the parts from there on
-module _ (w : Which) (r : ℕ) (l : List Part) (n i : ℕ) (all : Outcome Winding)
+module _ (w : Which) (r : ℕ) (l : List Part) (n i : ℕ) (all : Option Winding)
     (here : all ≡ windingOf w r (drop i (take n l))) where
   pub sought-here : i < n → i < length l → isWinding w r (getD l i blank .kind) ≡ true
-      → given (endsOf (getD l i blank)) ≡ all
+      → some (endsOf (getD l i blank)) ≡ all
   sought-here below there e =
       sym (here ∙ ap (windingOf w r) (taken-from blank l n i below there) ∙ winding-here w r (getD l i blank)
       (drop (i + 1) (take n l)) e)
@@ -77,21 +78,30 @@ module _ (w : Which) (r : ℕ) (l : List Part) (n i : ℕ) (all : Outcome Windin
       here ∙ ap (windingOf w r) (taken-from blank l n i below there) ∙ winding-past w r (getD l i blank)
       (drop (i + 1) (take n l)) e
 
-  pub sought-end : (n ≤ i) ⊎ (length l ≤ i) → refused noSuchWinding 0 ≡ all
+  pub sought-end : (n ≤ i) ⊎ (length l ≤ i) → none ≡ all
   sought-end past =
       sym (here ∙ ap (windingOf w r) (⊎-elim (taken-past blank l n i) (taken-full blank l n i) past) ∙ winding-none w r)
 
--- ---- two answers that say the same are one
+-- ---- answers and what they tell
 
-pub told-sought-injective : (x y : Sought) → toldSought x ≡ toldSought y → x ≡ y
-told-sought-injective (Between v) (Between w) e = ap Between (given-injective v w e)
-told-sought-injective (Between v) Nowhere e = absurd (refused-never noSuchWinding 0 v (sym e))
-told-sought-injective Nowhere (Between w) e = absurd (refused-never noSuchWinding 0 w e)
-told-sought-injective Nowhere Nowhere e = refl
+pub sought-told : Told toldSought
+sought-told = record { untold = untold; back = back; onto = onto }
+  where
+    untold : Option Winding → Sought
+    untold (some v) = Between v
+    untold none = Nowhere
+
+    back : (x : Sought) → untold (toldSought x) ≡ x
+    back (Between v) = refl
+    back Nowhere = refl
+
+    onto : (y : Option Winding) → toldSought (untold y) ≡ y
+    onto (some v) = refl
+    onto none = refl
 
 -- what an answer says of the winding
-pub told-between : (x : Sought) (v : Winding) (o : Outcome Winding) → x ≡ Between v → toldSought x ≡ o → o ≡ given v
+pub told-between : (x : Sought) (v : Winding) (o : Option Winding) → x ≡ Between v → toldSought x ≡ o → o ≡ some v
 told-between x v o e told = sym told ∙ ap toldSought e
 
-pub told-nowhere : (x : Sought) (o : Outcome Winding) → x ≡ Nowhere → toldSought x ≡ o → o ≡ refused noSuchWinding 0
+pub told-nowhere : (x : Sought) (o : Option Winding) → x ≡ Nowhere → toldSought x ≡ o → o ≡ none
 told-nowhere x o e told = sym told ∙ ap toldSought e

@@ -1,10 +1,9 @@
 // Judging a winding of a relay, on any board and state handed in: refusals 15, 14 and 11, then the search.
 ghost use mathlib.Core.Path.{_≡_};
-ghost use Rattle.board.specs.Parts.{partsOf};
 ghost use Rattle.board.specs.Sorts.{carries};
 ghost use Rattle.search.specs.Verdicts.{unanswered, toldVerdict};
-ghost use Rattle.judge.specs.RelayWindings.{isFirst, isWinding, windingOf, toldSought};
-ghost use Rattle.judge.specs.Judging.{judging};
+ghost use Rattle.judge.specs.RelayWindings.{isFirst, isWinding, SeeksWinding};
+ghost use Rattle.judge.specs.Judging.{Judges};
 use board::Board;
 use board::MOST_PARTS;
 use kinds::DRAWING_KIND;
@@ -64,9 +63,9 @@ fn is_winding(kind: Kind, relay: u32, which: Which) -> bool
     }
 }
 
-// The ends of that winding of this relay (11 where there is none).
+// The ends of that winding of this relay, or that there is none.
 pub fn winding(board: Board, relay: u32, which: Which) -> Sought
-    ensures { λ r. ⌜ toldSought r ≡ windingOf which relay (partsOf board) ⌝ }
+    ensures { λ r. ⌜ SeeksWinding board relay which r ⌝ }
 {
     let parts = board.parts;
     let count = board.counts.parts;
@@ -103,7 +102,7 @@ fn refuse(number: u32) -> Verdict
 
 // Judges that winding of this relay within the allowance.
 pub fn judge(board: Board, state: State, relay: u32, which: Which, allowance: u32) -> Verdict
-    ensures { λ r. ⌜ toldVerdict r ≡ judging board state relay which allowance ⌝ }
+    ensures { λ r. ⌜ Judges board state relay which allowance r ⌝ }
 {
     if !board::check(board) {
         return refuse(BROKEN_BOARD);

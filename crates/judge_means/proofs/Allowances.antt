@@ -20,9 +20,9 @@ use Rattle.search.specs.Verdicts as verdict
 use Rattle.search.specs.Verdicts.{firstShown, effort}
 use Rattle.search.proofs.VerdictLaws.{effort-some}
 use Rattle.judge.specs.declared.Which.{Which}
-use Rattle.judge.specs.Judging.{windingFor}
+use Rattle.judge.specs.Judging.{windingFor, Judges}
 use Rattle.judge.proofs.JudgeLaws.{judging-by}
-use Rattle.judge_means.specs.Exactness.{Judges}
+use Rattle.judge_means.specs.Exactness.{Judge, Keeps, effortOf}
 use Rattle.judge_means.specs.Allowances.{Settled, LargerAllowance, TurnsAtEffort, EffortSome}
 use Rattle.judge_means.proofs.Exactness.{liveVerdict, deadVerdict, FindingBy, live-by, dead-by, undecided-by}
 use Rattle.judge_means.proofs.Exactness.{verdict-finding}
@@ -78,6 +78,23 @@ module _ (t : List ℕ → Bool) (cs : List (List ℕ)) (x : ℕ) (u : Verdict)
       ⊎-elim (λ h. live-turns w v (subst (FindingBy t cs w v) h this))
       (λ h. dead-turns w v (subst (FindingBy t cs w v) h this))
 
+-- what is settled reports the effort
+settled-effort : (t : List ℕ → Bool) (cs : List (List ℕ)) (w : ℕ) (v : Verdict) → FindingBy t cs w v (v .finding)
+    → Settled v → effort t cs ≡ v .effort
+settled-effort t cs w v this =
+    ⊎-elim (λ h. live-effort (subst (FindingBy t cs w v) h this)) (λ h. dead-effort (subst (FindingBy t cs w v) h this))
+  where
+    live-effort : FindingBy t cs w v said.Live → effort t cs ≡ v .effort
+    live-effort (live-by c within first is) = sym (ap (λ (q : Verdict). q .effort) is)
+
+    dead-effort : FindingBy t cs w v said.Dead → effort t cs ≡ v .effort
+    dead-effort (dead-by within first is) = sym (ap (λ (q : Verdict). q .effort) is)
+
+-- plus alone is a chain
+winding-effort-some : (b : Board) (s : State) (e : Winding) → 1 ≤ effortOf b s e
+unfolding chains
+winding-effort-some b s e = effort-some (shows (e .a) (e .b)) _ _
+
 -- ---- over the call
 
 -- a refused call settles nothing
@@ -98,16 +115,25 @@ call-turns b s r n w x v u told also settled = by-call (windingFor b s r n) refl
         settled
     by-call (refused k p) off = absurd (refused-unsettled b s r n w v k p told off settled)
 
-pub larger-allowance : LargerAllowance
-larger-allowance b s r n w x v u told also more settled =
-    let turned = call-turns b s r n w x v u told also settled in
-    turned .1 .enough (omega (arith, more, turned .0))
+-- ---- the theorems, of a judge that keeps the promise
 
-pub turns-at-effort : TurnsAtEffort
-turns-at-effort b s r n w x v u told also settled =
-    let turned = call-turns b s r n w x v u told also settled in
-    (turned .1 .enough, turned .1 .short)
+module _ (J : Judge) (keeps : Keeps J) where
+  pub larger-allowance : LargerAllowance J
+  larger-allowance b s r n w x v u told also more settled =
+      let turned =
+      call-turns b s r n w x v u (keeps b s r n w v told) (keeps b s r n x u also) settled in
+      turned .1 .enough (omega (arith, more, turned .0))
 
-pub effort-some-always : EffortSome
-unfolding chains
-effort-some-always b s e = effort-some (shows (e .a) (e .b)) _ _
+  pub turns-at-effort : TurnsAtEffort J
+  turns-at-effort b s r n w x v u told also settled =
+      let turned =
+      call-turns b s r n w x v u (keeps b s r n w v told) (keeps b s r n x u also) settled in
+      (turned .1 .enough, turned .1 .short)
+
+  pub effort-some-always : EffortSome J
+  effort-some-always = (
+    winding-effort-some,
+    λ b s r n w e v told taken settled.
+        let comes = verdict-finding b s r n w e v (keeps b s r n w v told) taken in
+        subst (λ (k : ℕ). 1 ≤ k) (settled-effort _ _ w v comes settled) (winding-effort-some b s e),
+  )

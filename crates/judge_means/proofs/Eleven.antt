@@ -1,18 +1,19 @@
--- Refusal 11 is given exactly if its line holds, and the winding judged is that of the relay and the only one. Both go
--- by how many parts are that winding: 1 or 0.
+-- The call `judge` refuses by 11 exactly if its line holds and neither 15 nor 14 does, and the winding judged is that
+-- of the relay and the only one. Both go by how many parts are that winding: 1 or 0.
 use Prim.Native.Nat.{ℕ, _+_, _<_, _≤_}
 use native.Mathlib.Omega.{arith}
 use mathlib.Core.Path.{_≡_, refl, sym, ap, _∙_}
-use mathlib.Core.Logic.{_⊎_, inl, inr, ⊎-map, ⊎-elim}
+use mathlib.Core.Logic.{_⊎_, _↔_, inl, inr, ⊎-map, ⊎-elim}
 use mathlib.Core.Bool.{Bool, true, false}
 use mathlib.Core.List.{List, [], _∷_}
+use mathlib.Core.Option.{none, some, Option·none-ne-some, Option·some-injective}
 use lib.Dec.{eqb, ltb}
 use borrow.Author.Tests.{eqb-true, ne-eqb, ltb-true, ltb-false}
 use Rattle.lists.specs.Members.{_∈_}
 use Rattle.bits.proofs.BoolLaws.{both-true, by-test}
-use Rattle.number.specs.Outcomes.{given, refused}
+use Rattle.number.specs.Outcomes.{Outcome, given, refused}
 use Rattle.number.specs.Refusals.{noSuchWinding}
-use Rattle.number.proofs.OutcomeLaws.{refused-never, given-injective}
+use Rattle.number.proofs.OutcomeLaws.{refused-never}
 use Rattle.kinds.specs.declared.Kind.{Kind}
 use Rattle.kinds.specs.Kinds.{kindNumber, nameOf, buttonKind, regularKind, drawingKind, droppingKind}
 use Rattle.board.specs.declared.Part.{Part}
@@ -23,13 +24,20 @@ use Rattle.board.specs.Rules.{nameFine, partFits, boardFine}
 use Rattle.board.specs.Sorts.{carries, windingsOf, isRegular, isSteel, partsFit}
 use Rattle.board.proofs.WindingLaws.{part-named}
 use Rattle.board.proofs.FineLaws.{fine-parts-fit, fine-relays-wound}
+use Rattle.state.specs.declared.State.{State}
 use Rattle.search.specs.declared.Winding.{Winding}
+use Rattle.search.specs.declared.Verdict.{Verdict}
+use Rattle.search.specs.declared.Finding.{Finding}
+use Rattle.search.specs.declared.Finding.the-variants as said
+use Rattle.search.specs.Verdicts as verdict
 use Rattle.judge.specs.declared.Which.{Which}
 use Rattle.judge.specs.declared.Which.the-variants.{First, Second}
 use Rattle.judge.specs.RelayWindings.{isFirst, isWinding, windingOf}
+use Rattle.judge.specs.Judging.{windingFor, Judges}
 use Rattle.judge.proofs.SoughtLaws.{endsOf, winding-here, winding-past, winding-none}
-use Rattle.judge.proofs.JudgeLaws.{winding-for-sought, winding-for-given}
-use Rattle.judge_means.specs.Eleven.{ElevenExactly, TheWinding}
+use Rattle.judge.proofs.JudgeLaws.{winding-for-sought, winding-for-given, winding-for-eleven, judging-by}
+use Rattle.judge_means.specs.Eleven.{LineEleven, ElevenExactly, TheWinding}
+use Rattle.judge_means.proofs.Exactness.{FindingBy, live-by, dead-by, undecided-by, verdict-finding}
 use Rattle.lists.proofs.CountedLaws.{worth, counted, member-counted, counted-only}
 
 -- ---- how many parts are winding n of relay r
@@ -76,10 +84,10 @@ module _ (r : ℕ) (ps : List Part) where
 
   -- of the windings of a relay of one sort only the second of a regular one is missing
   sorted-none : (n : Which) → isRegular r ps ⊎ isSteel r ps → these n r ps ≡ 0 → (n ≡ Second) × isRegular r ps
-  sorted-none First (inl (x, y, z)) none = absurd (omega (arith, first-sum r ps))
-  sorted-none First (inr (x, y, z)) none = absurd (omega (arith, first-sum r ps))
-  sorted-none Second (inl regular) none = (refl, regular)
-  sorted-none Second (inr (x, y, z)) none = absurd (omega (arith, second-sum r ps))
+  sorted-none First (inl (x, y, z)) no-part = absurd (omega (arith, first-sum r ps))
+  sorted-none First (inr (x, y, z)) no-part = absurd (omega (arith, first-sum r ps))
+  sorted-none Second (inl regular) no-part = (refl, regular)
+  sorted-none Second (inr (x, y, z)) no-part = absurd (omega (arith, second-sum r ps))
 
   regular-second : (n : Which) → (n ≡ Second) × isRegular r ps → these n r ps ≡ 0
   regular-second n (second, regular) = ap (λ (m : Which). these m r ps) second ∙ second-sum r ps ∙ regular .2
@@ -124,15 +132,15 @@ module _ (n : Which) (r : ℕ) where
     part : Part
     among : part ∈ ps
     is-winding : its n r part ≡ true
-    found : windingOf n r ps ≡ given (endsOf part)
+    found : windingOf n r ps ≡ some (endsOf part)
 
   record Missing (ps : List Part) : Type 0 where
-    missing : windingOf n r ps ≡ refused noSuchWinding 0
-    none : these n r ps ≡ 0
+    missing : windingOf n r ps ≡ none
+    no-part : these n r ps ≡ 0
 
   -- among the parts the winding is found, or there is none
   sought : (ps : List Part) → Found ps ⊎ Missing ps
-  sought [] = inr (record { missing = winding-none n r; none = refl })
+  sought [] = inr (record { missing = winding-none n r; no-part = refl })
   sought (p ∷ ps) =
       by-test (its n r p)
       (λ on. inl (record { part = p; among = inl refl; is-winding = on; found = winding-here n r p ps on }))
@@ -146,26 +154,26 @@ module _ (n : Which) (r : ℕ) where
       })
       (λ (m : Missing ps). record {
         missing = winding-past n r p ps off ∙ m .missing;
-        none =
-            omega (arith, ap worth off, m .none);
+        no-part =
+            omega (arith, ap worth off, m .no-part);
       })
       (sought ps))
 
-  refused-none : (ps : List Part) → windingOf n r ps ≡ refused noSuchWinding 0 → these n r ps ≡ 0
-  refused-none ps refusal =
-      ⊎-elim (λ f. absurd (refused-never noSuchWinding 0 (endsOf (f .part)) (sym refusal ∙ f .found))) (λ m. m .none)
+  missing-counted : (ps : List Part) → windingOf n r ps ≡ none → these n r ps ≡ 0
+  missing-counted ps missing =
+      ⊎-elim (λ f. absurd (Option·none-ne-some (endsOf (f .part)) (sym missing ∙ f .found))) (λ m. m .no-part)
       (sought ps)
 
-  none-refused : (ps : List Part) → these n r ps ≡ 0 → windingOf n r ps ≡ refused noSuchWinding 0
-  none-refused ps none =
-      ⊎-elim (λ f. absurd (omega (arith, none, member-counted (its n r) ps (f .part) (f .among) (f .is-winding))))
+  counted-missing : (ps : List Part) → these n r ps ≡ 0 → windingOf n r ps ≡ none
+  counted-missing ps no-part =
+      ⊎-elim (λ f. absurd (omega (arith, no-part, member-counted (its n r) ps (f .part) (f .among) (f .is-winding))))
       (λ m. m .missing) (sought ps)
 
-  given-found : (ps : List Part) (e : Winding) → windingOf n r ps ≡ given e → Found ps
-  given-found ps e answer =
-      ⊎-elim (λ f. f) (λ m. absurd (refused-never noSuchWinding 0 e (sym (m .missing) ∙ answer))) (sought ps)
+  some-found : (ps : List Part) (e : Winding) → windingOf n r ps ≡ some e → Found ps
+  some-found ps e answer =
+      ⊎-elim (λ f. f) (λ m. absurd (Option·none-ne-some e (sym (m .missing) ∙ answer))) (sought ps)
 
--- ---- the theorems
+-- ---- of a board that breaks no rule
 
 module _ (b : Board) (r : ℕ) (n : Which) (fine : boardFine b ≡ true) where
   -- at most one part is that winding
@@ -180,30 +188,65 @@ module _ (b : Board) (r : ℕ) (n : Which) (fine : boardFine b ≡ true) where
       ))
 
   -- none of the parts is that winding exactly if the line of 11 holds
-  none-line : these n r (partsOf b) ≡ 0 → (b .counts .relays ≤ r) ⊎ ((n ≡ Second) × isRegular r (partsOf b))
-  none-line none =
+  none-line : these n r (partsOf b) ≡ 0 → LineEleven b r n
+  none-line no-part =
       by-test (ltb r (b .counts .relays))
       (λ below. inr (sorted-none r (partsOf b) n (fine-relays-wound b fine r (ltb-true r (b .counts .relays) below))
-      none))
+      no-part))
       (λ past. inl (ltb-false r (b .counts .relays) past))
 
-  line-none : (b .counts .relays ≤ r) ⊎ ((n ≡ Second) × isRegular r (partsOf b)) → these n r (partsOf b) ≡ 0
+  line-none : LineEleven b r n → these n r (partsOf b) ≡ 0
   line-none (inl past) = beyond-none (b .counts) n r (partsOf b) (fine-parts-fit b fine) past
   line-none (inr regular) = regular-second r (partsOf b) n regular
 
+  -- the winding is missing exactly if the line of 11 holds
+  pub missing-exactly : windingOf n r (partsOf b) ≡ none ↔ LineEleven b r n
+  missing-exactly = (
+    λ missing. none-line (missing-counted n r (partsOf b) missing),
+    λ line. counted-missing n r (partsOf b) (line-none line),
+  )
+
+-- ---- over the call
+
+-- a finding by the chains is no refusal
+finding-by-said : (t : List ℕ → Bool) (cs : List (List ℕ)) (w : ℕ) (v : Verdict) (f : Finding) (k p : ℕ)
+    → FindingBy t cs w v f → ¬ (verdict.toldFinding f ≡ refused k p)
+finding-by-said t cs w v said.Live k p (live-by c within first is) says = refused-never k p verdict.live (sym says)
+finding-by-said t cs w v said.Dead k p (dead-by within first is) says = refused-never k p verdict.dead (sym says)
+finding-by-said t cs w v said.Undecided k p (undecided-by short is) says =
+    refused-never k p verdict.undecided (sym says)
+
+-- what is judged is refused exactly as the call says
+module _ (b : Board) (s : State) (r : ℕ) (n : Which) (w : ℕ) (v : Verdict) (told : Judges b s r n w v) where
+  refused-said : (k p : ℕ) → windingFor b s r n ≡ refused k p → verdict.toldFinding (v .finding) ≡ refused k p
+  refused-said k p off =
+      ap (λ (j : verdict.Verdict). j .finding) (told ∙ sym (judging-by b s r n w (refused k p) off))
+
+  said-refused : (k p : ℕ) → verdict.toldFinding (v .finding) ≡ refused k p → windingFor b s r n ≡ refused k p
+  said-refused k p says = by-call (windingFor b s r n) refl
+    where
+      by-call : (o : Outcome Winding) → windingFor b s r n ≡ o → windingFor b s r n ≡ refused k p
+      by-call (given e) taken =
+          absurd (finding-by-said _ _ w v (v .finding) k p (verdict-finding b s r n w e v told taken) says)
+      by-call (refused m q) off = let same = sym (refused-said m q off) ∙ says in cc
+
+-- ---- the theorems
+
 pub eleven-exactly : ElevenExactly
-eleven-exactly b s r n fine fits =
-    let same = winding-for-sought b s r n fine fits in (
-      λ refusal. none-line b r n fine (refused-none n r (partsOf b) (sym same ∙ refusal)),
-      λ line. same
-          ∙ none-refused n r (partsOf b) (line-none b r n fine line),
-    )
+eleven-exactly b s r n w v told = (
+  λ says.
+      let last = winding-for-eleven b s r n (said-refused b s r n w v told noSuchWinding 0 says) in
+      (last .0, last .1, missing-exactly b r n (last .0) .0 (last .2)),
+  λ (fine, fits, line).
+      refused-said b s r n w v told noSuchWinding 0
+      (winding-for-sought b s r n none fine fits (missing-exactly b r n fine .1 line)),
+)
 
 pub the-winding : TheWinding
 the-winding b s r n e accepted =
     let answer = winding-for-given b s r n e accepted in
-    let f = given-found n r (partsOf b) e (answer .1) in
-    let same = given-injective (endsOf (f .part)) e (sym (f .found) ∙ answer .1) in
+    let f = some-found n r (partsOf b) e (answer .1) in
+    let same = Option·some-injective (endsOf (f .part)) e (sym (f .found) ∙ answer .1) in
     record {
       part = f .part;
       on-board = f .among;

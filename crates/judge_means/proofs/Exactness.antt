@@ -1,5 +1,5 @@
--- The theorems of specs/Exactness.antt: the list holds exactly the rule book's chains, and a verdict says of them
--- exactly what it should.
+-- The theorems of specs/Exactness.antt: the list holds exactly the rule book's chains, the effort is a number in it,
+-- and the verdict of a judge that keeps the promise says of the chains exactly what it should.
 use Prim.Native.Nat.{ℕ, _<_, _≤_}
 use native.Mathlib.Omega.{arith}
 use mathlib.Core.Path.{_≡_, refl, sym, ap, subst, _∙_}
@@ -12,7 +12,7 @@ use lib.ListN.{length}
 use borrow.Author.Tests.{leb-true, leb-false}
 use Rattle.bits.proofs.BoolLaws.{by-test}
 use Rattle.lists.specs.Members.{_∈_, All}
-use Rattle.lists.proofs.MemberLaws.{append-member, all-member}
+use Rattle.lists.proofs.MemberLaws.{append-member, all-member, all-map}
 use Rattle.number.specs.Outcomes.{given}
 use Rattle.board.specs.declared.Board.{Board}
 use Rattle.board.specs.Rules.{boardFine}
@@ -36,9 +36,11 @@ use Rattle.search.specs.Verdicts.{firstShown, effort, places, settled, weighed,
 use Rattle.search.proofs.VerdictLaws.{weighed-within, weighed-short, FirstAt, first-shown-at, first-shown-some}
 use Rattle.search.proofs.VerdictLaws.{first-shown-none, effort-none, told-verdict-injective}
 use Rattle.judge.specs.declared.Which.{Which}
+use Rattle.judge.specs.Judging.{Judges}
 use Rattle.judge.proofs.JudgeLaws.{winding-for-given, judging-by}
 use Rattle.judge_means.specs.Circuits.{WindingCarries}
-use Rattle.judge_means.specs.Exactness.{Judges, AcceptedWinding, chainsOf, ChainOf, IsLive, effortOf, TheChains}
+use Rattle.judge_means.specs.Exactness.{Judge, Keeps, AcceptedWinding, chainsOf, ChainOf, IsLive}
+use Rattle.judge_means.specs.Exactness.{effortOf, TheChains, FirstShowing, EffortNumbers, OfEveryVerdict}
 use Rattle.judge_means.specs.Exactness.{LiveExactly, DeadExactly, UndecidedExactly, FirstChain, LiveShows}
 use Rattle.judge_means.specs.Exactness.{ShowsNone, DeadCounts, UndecidedReports, AsPublished}
 
@@ -111,18 +113,53 @@ pub verdict-finding : (b : Board) (s : State) (r : ℕ) (n : Which) (w : ℕ) (e
 unfolding verdictBy
 verdict-finding b s r n w e v told taken = weighed-finding _ _ w v (told ∙ sym (judging-by b s r n w (given e) taken))
 
--- ---- live and listed are one
+-- ---- live and listed are one, and the effort is a number in the list
 
-listed-live : (b : Board) (s : State) (e : Winding) (c : List ℕ) → boardFine b ≡ true → c ∈ chainsOf b s
-    → shows (e .a) (e .b) c ≡ true → IsLive b s e
-listed-live b s e c fine m shown =
-    record { chain = c; is-chain = listed-chain b s c fine m; showing = shows-true (e .a) (e .b) c shown }
+module _ (b : Board) (s : State) (e : Winding) (fine : boardFine b ≡ true) where
+  abbrev test : List ℕ → Bool
+  test = shows (e .a) (e .b)
 
-live-unlisted : (b : Board) (s : State) (e : Winding) → boardFine b ≡ true
-    → ((c : List ℕ) → c ∈ chainsOf b s → shows (e .a) (e .b) c ≡ false) → ¬ (IsLive b s e)
-live-unlisted b s e fine off live =
-    false≢true (sym (off (live .chain) (chain-listed b s (live .chain) fine (live .is-chain)))
-    ∙ true-shows (e .a) (e .b) (live .chain) (live .showing))
+  listed-live : (c : List ℕ) → firstShown test (chainsOf b s) ≡ some c → IsLive b s e
+  listed-live c first =
+      let shown = first-shown-some test (chainsOf b s) c first in
+      record {
+        chain = c;
+        is-chain = listed-chain b s c fine (shown .0);
+        showing = shows-true (e .a) (e .b) c (shown .1);
+      }
+
+  unlisted-dead : firstShown test (chainsOf b s) ≡ none → ¬ (IsLive b s e)
+  unlisted-dead first live =
+      false≢true
+      (sym (first-shown-none test (chainsOf b s) first (live .chain) (chain-listed b s (live .chain) fine
+      (live .is-chain))) ∙ true-shows (e .a) (e .b) (live .chain) (live .showing))
+
+  first-numbered : (c : List ℕ) (k : ℕ) → k ≡ effortOf b s e → FirstAt test (chainsOf b s) c → FirstShowing b s e k
+  first-numbered c k is at =
+      record {
+        early = at .early;
+        chain = c;
+        late = at .late;
+        all = at .split;
+        showing = shows-true (e .a) (e .b) c (at .shown);
+        none-before = all-map (λ d. test d ≡ false) (λ d. ¬ (Shows (e .a) (e .b) d))
+            (λ d failed shown. false≢true (sym failed ∙ true-shows (e .a) (e .b) d shown)) (at .early) (at .failed);
+        number = is ∙ at .counted;
+      }
+
+  -- by the first chain shown, if one is
+  effort-numbered : (o : Option (List ℕ)) → firstShown test (chainsOf b s) ≡ o
+      → (IsLive b s e → FirstShowing b s e (effortOf b s e))
+      × (¬ (IsLive b s e) → effortOf b s e ≡ length (chainsOf b s))
+  effort-numbered (some c) first = (
+    λ live. first-numbered c (effortOf b s e) refl (first-shown-at test (chainsOf b s) c first),
+    λ dead. absurd (dead (listed-live c first)),
+  )
+  effort-numbered none first =
+      (λ live. absurd (unlisted-dead first live), λ dead. effort-none test (chainsOf b s) first)
+
+pub effort-numbers : EffortNumbers
+effort-numbers b s e fine = effort-numbered b s e fine (firstShown _ _) refl
 
 -- ---- what stands after a chain in the list comes after it
 
@@ -137,14 +174,6 @@ module _ (b : Board) (s : State) (r : ℕ) (n : Which) (w : ℕ) (e : Winding) (
   fine : boardFine b ≡ true
   fine = winding-for-given b s r n e taken .0
 
-  found : (c : List ℕ) → firstShown (shows (e .a) (e .b)) (chainsOf b s) ≡ some c → IsLive b s e
-  found c first =
-      let shown = first-shown-some (shows (e .a) (e .b)) (chainsOf b s) c first in
-      listed-live b s e c fine (shown .0) (shown .1)
-
-  not-found : firstShown (shows (e .a) (e .b)) (chainsOf b s) ≡ none → ¬ (IsLive b s e)
-  not-found first = live-unlisted b s e fine (first-shown-none (shows (e .a) (e .b)) (chainsOf b s) first)
-
   abbrev ComesTo : Finding → Type 0
   ComesTo f = FindingBy (shows (e .a) (e .b)) (chainsOf b s) w v f
 
@@ -158,21 +187,21 @@ module _ (b : Board) (s : State) (r : ℕ) (n : Which) (w : ℕ) (e : Winding) (
   its-live = (λ h. there (comes-to-this said.Live h), back (v .finding) comes-to)
     where
       there : ComesTo said.Live → IsLive b s e × (effortOf b s e ≤ w)
-      there (live-by c within first is) = (found c first, within)
+      there (live-by c within first is) = (listed-live b s e fine c first, within)
 
       back : (f : Finding) → ComesTo f → IsLive b s e × (effortOf b s e ≤ w) → f ≡ said.Live
       back said.Live (live-by c within first is) h = refl
-      back said.Dead (dead-by within first is) h = absurd (not-found first (h .0))
+      back said.Dead (dead-by within first is) h = absurd (unlisted-dead b s e fine first (h .0))
       back said.Undecided (undecided-by short is) h = absurd (omega (arith, short, h .1))
 
   its-dead : v .finding ≡ said.Dead ↔ ¬ (IsLive b s e) × (effortOf b s e ≤ w)
   its-dead = (λ h. there (comes-to-this said.Dead h), back (v .finding) comes-to)
     where
       there : ComesTo said.Dead → ¬ (IsLive b s e) × (effortOf b s e ≤ w)
-      there (dead-by within first is) = (not-found first, within)
+      there (dead-by within first is) = (unlisted-dead b s e fine first, within)
 
       back : (f : Finding) → ComesTo f → ¬ (IsLive b s e) × (effortOf b s e ≤ w) → f ≡ said.Dead
-      back said.Live (live-by c within first is) h = absurd (h .0 (found c first))
+      back said.Live (live-by c within first is) h = absurd (h .0 (listed-live b s e fine c first))
       back said.Dead (dead-by within first is) h = refl
       back said.Undecided (undecided-by short is) h = absurd (omega (arith, short, h .1))
 
@@ -209,23 +238,19 @@ module _ (b : Board) (s : State) (r : ℕ) (n : Which) (w : ℕ) (e : Winding) (
           (subst Sorted (at .split) (chains-sorted (joined (neighbours b s)) (b .counts .terminals)))) late)
 
   its-first-chain : v .finding ≡ said.Live → FirstChain b s e v
+  unfolding first-numbered
   its-first-chain h = shown-by (comes-to-this said.Live h)
     where
       shown-by : ComesTo said.Live → FirstChain b s e v
       shown-by (live-by c within first is) =
           let at = first-shown-at (shows (e .a) (e .b)) (chainsOf b s) c first in
-          let listed = first-shown-some (shows (e .a) (e .b)) (chainsOf b s) c first in
           record {
-            chain = c;
+            numbered = first-numbered b s e fine c (v .effort) (ap (λ (u : Verdict). u .effort) is) at;
             its-length = ap (λ (u : Verdict). u .length) is;
             its-places = ap (λ (u : Verdict). u .terminals) is;
-            is-chain = listed-chain b s c fine (listed .0);
-            showing = shows-true (e .a) (e .b) c (listed .1);
+            is-chain =
+                listed-chain b s c fine (first-shown-some (shows (e .a) (e .b)) (chainsOf b s) c first .0);
             first = λ d chain shown. shown-later c d at chain shown;
-            early = at .early;
-            late = at .late;
-            among = at .split;
-            counted = ap (λ (u : Verdict). u .effort) is ∙ at .counted;
           }
 
   its-count : v .finding ≡ said.Dead → (v .effort ≡ length (chainsOf b s)) × ShowsNone v
@@ -246,29 +271,48 @@ module _ (b : Board) (s : State) (r : ℕ) (n : Which) (w : ℕ) (e : Winding) (
         (ap (λ (u : Verdict). u .length) is, ap (λ (u : Verdict). u .terminals) is),
       )
 
-  as-circuits : (v .finding ≡ said.Live → WindingCarries b s (e .a) (e .b))
-      × (v .finding ≡ said.Dead → ¬ (WindingCarries b s (e .a) (e .b)))
-  as-circuits =
-      let agree = live-is-carrying b s (e .a) (e .b) fine in
-      (λ live. agree .0 (its-live .0 live .0), λ dead carries. its-dead .0 dead .0 (agree .1 carries))
+  -- live and dead by the published model's current
+  its-current : (v .finding ≡ said.Live ↔ WindingCarries b s (e .a) (e .b) × (effortOf b s e ≤ w))
+      × (v .finding ≡ said.Dead ↔ ¬ (WindingCarries b s (e .a) (e .b)) × (effortOf b s e ≤ w))
+  its-current =
+      let agree = live-is-carrying b s (e .a) (e .b) fine in (
+        (
+          λ live. let so = its-live .0 live in (agree .0 (so .0), so .1),
+          λ so. its-live .1 (agree .1 (so .0), so .1),
+        ),
+        (
+          λ dead. let so = its-dead .0 dead in (λ carries. so .0 (agree .1 carries), so .1),
+          λ so. its-dead .1 (λ live. so .0 (agree .0 live), so .1),
+        ),
+      )
 
-pub live-exactly : LiveExactly
-live-exactly = its-live
+-- ---- the theorems, of a judge that keeps the promise
 
-pub dead-exactly : DeadExactly
-dead-exactly = its-dead
+pub judges-keep : Keeps Judges
+judges-keep b s r n w v told = told
 
-pub undecided-exactly : UndecidedExactly
-undecided-exactly = its-undecided
+module _ (J : Judge) (keeps : Keeps J) where
+  -- what holds of the verdicts that the promise allows holds of its verdicts
+  kept : (P : Board → State → ℕ → Winding → Verdict → Type 0) → OfEveryVerdict Judges P → OfEveryVerdict J P
+  kept P all b s r n w e v told = all b s r n w e v (keeps b s r n w v told)
 
-pub live-shows : LiveShows
-live-shows = its-first-chain
+  pub live-exactly : LiveExactly J
+  live-exactly = kept _ its-live
 
-pub dead-counts : DeadCounts
-dead-counts = its-count
+  pub dead-exactly : DeadExactly J
+  dead-exactly = kept _ its-dead
 
-pub undecided-reports : UndecidedReports
-undecided-reports = its-report
+  pub undecided-exactly : UndecidedExactly J
+  undecided-exactly = kept _ its-undecided
 
-pub as-published : AsPublished
-as-published = as-circuits
+  pub live-shows : LiveShows J
+  live-shows = kept _ its-first-chain
+
+  pub dead-counts : DeadCounts J
+  dead-counts = kept _ its-count
+
+  pub undecided-reports : UndecidedReports J
+  undecided-reports = kept _ its-report
+
+  pub as-published : AsPublished J
+  as-published = kept _ its-current

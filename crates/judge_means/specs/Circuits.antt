@@ -6,13 +6,13 @@
 --     place p i                       p(i), from place 0 on
 --     actualConnections s p           the connections that part p makes in state s: (a, b) and (b, a) if it
 --                                     conducts, else none
---     AreConnected b s x y            "∃ cm : Component • cm ∈ components(n) ∧ (c1, c2) ∈ actualConnections(cm)"
---     Available b s p                 "len p ≥ 2 ∧ (∀ i ∈ {1 .. len p - 1} ⇒ areConnected(p(i), p(i + 1), n))
---                                     ∧ (∀ i, j ⊆ {1 .. len p} ⇒ (i ≠ j ⇒ p(i) ≠ p(j)))"
+--     AreConnected b s x y            "(∃ cm : Component • cm ∈ components(n) ∧ (c1, c2) ∈ actualConnections(cm))"
+--     Available b s p                 "len p ≥ 2 ∧ (∀ i : Nat • i ∈ {1 .. len p - 1} ⇒ areConnected(p(i), p(i+1), n))
+--                                     ∧ (∀ i, j : Nat • {i, j} ⊆ {1 .. len p} ⇒ (i ≠ j ⇒ p(i) ≠ p(j)))"
 --     AvailablePath b s from to p     p is in "availablePaths(from, to, n)":
---                                     "available(p, n) ∧ p(1) = from ∧ p(len p) = to"
---     PathContainsConnection p x y    "∃ i ∈ {1 .. len p - 1} ∧ (p(i), p(i + 1)) = (c1, c2)"
---     CurrentCarrying b s x y         "∃ p : Path • p ∈ availablePaths(pos, neg, n) ∧ PathContainsConnection(p, con)"
+--                                     "{p | p : Path • available(p, n) ∧ p(1) = from ∧ p(len p) = to}"
+--     PathContainsConnection p x y    "(∃ i : Nat • i ∈ {1 .. len p - 1} ∧ (p(i), p(i+1)) = (c1, c2))"
+--     CurrentCarrying b s x y         "(∃ p : Path • p ∈ availablePaths(pos, neg, n) ∧ PathContainsConnection(p, con))"
 --     WindingCarries b s x y          one of the connections of a winding between x and y is current carrying
 -- Agreement, of a board that breaks no rule (`proofs/Circuits.antt`):
 --     PathsAreChains    the available paths from pos to neg are exactly our chains that end at 1

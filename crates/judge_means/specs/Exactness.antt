@@ -1,8 +1,11 @@
--- What live, dead and undecided mean, stated over the call `judge::judge`: whatever it answers under its promise. Rule
--- book: "Live, with the first such chain shown, exactly if the winding is live and its effort is at most W. Dead
--- exactly if it is dead and its effort is at most W. Undecided otherwise."
---     Judges b s r n w v           `judge` was called on board b, state s, winding n of relay r and allowance w,
---                                  and answered v
+-- What live, dead and undecided mean, stated of any judge, and proved of each that keeps the promise of the call
+-- `judge::judge`. Demand 3: "Number the chains from plus in the order of our rule book. A winding is called live
+-- exactly when the first chain that shows it lies within the allowance, dead exactly when there is none and all chains
+-- lie within it, otherwise undecided." Rule book: "Live, with the first such chain shown, exactly if the winding is
+-- live and its effort is at most W. Dead exactly if it is dead and its effort is at most W. Undecided otherwise."
+--     Judge                        which verdicts a judge can answer on a board, a state, a winding of a relay and an
+--                                  allowance
+--     Keeps J                      the judge J answers nothing that the promise of `judge` does not allow
 --     AcceptedWinding b s r n e    the call is not refused, and e is the winding judged
 --     chainsOf b s                 the list of all chains of board b in state s
 --     ChainOf b s c                c is a chain of board b in state s
@@ -11,23 +14,29 @@
 --     IsLive b s e                 "A winding between a and b is live if some chain ends at 1 and has a and b side by
 --                                  side, in either order"
 --     effortOf b s e               its effort
---     OfEveryVerdict P             P holds of every verdict v, within the allowance w, on a winding e that is judged
---     LiveExactly, DeadExactly     "Live .. exactly if", "Dead exactly if"
---     UndecidedExactly             "Undecided otherwise"
---     FirstChain b s e v           v shows the first chain that shows winding e, and its effort is the number of
---                                  chains up to and including it
---     LiveShows                    so it is of a live verdict
+--     FirstShowing b s e k         number k, counted from 1, is that of the first chain that shows winding e
+--     EffortNumbers                the effort in the demand's words: of a live winding the number of the first chain
+--                                  that shows it, of any other the number of all chains
+--     OfEveryVerdict J P           P holds of every verdict v of J, within the allowance w, on a winding e that is
+--                                  judged
+--     LiveExactly J                "Live .. exactly if"
+--     DeadExactly J                "Dead exactly if"
+--     UndecidedExactly J           "Undecided otherwise"
+--     FirstChain b s e v           v shows the first chain that shows winding e, before every other one in the rule
+--                                  book's order, and its effort is that chain's number
+--     LiveShows J                  so it is of a live verdict
 --     ShowsNone v                  v shows no chain
---     DeadCounts                   dead reports the number of all chains, and no chain
---     UndecidedReports             undecided reports W, and no chain
---     AsPublished                  live is what document 000 calls current carrying, dead that it is not
+--     DeadCounts J                 dead reports the number of all chains, and no chain
+--     UndecidedReports J           undecided reports W, and no chain
+--     AsPublished J                live is exactly what document 000 calls current carrying, dead exactly that it is
+--                                  not, where the effort is within the allowance
 use Prim.Native.Nat.{ℕ, _+_, _<_, _≤_}
 use mathlib.Core.Path.{_≡_}
 use mathlib.Core.Logic.{_⊎_, _↔_}
 use mathlib.Core.Bool.{true}
 use mathlib.Core.List.{List, [], _∷_, _++_}
 use lib.ListN.{length}
-use Rattle.lists.specs.Members.{_∈_, Once}
+use Rattle.lists.specs.Members.{_∈_, All, Once}
 use Rattle.number.specs.Outcomes.{given}
 use Rattle.board.specs.declared.Board.{Board}
 use Rattle.board.specs.Rules.{boardFine}
@@ -39,12 +48,15 @@ use Rattle.judge_means.specs.Circuits.{WindingCarries}
 use Rattle.search.specs.declared.Winding.{Winding}
 use Rattle.search.specs.declared.Verdict.{Verdict}
 use Rattle.search.specs.declared.Finding.the-variants as said
-use Rattle.search.specs.Verdicts.{effort, places, toldVerdict}
+use Rattle.search.specs.Verdicts.{effort, places}
 use Rattle.judge.specs.declared.Which.{Which}
-use Rattle.judge.specs.Judging.{windingFor, judging}
+use Rattle.judge.specs.Judging.{windingFor, Judges}
 
-abbrev pub Judges : Board → State → ℕ → Which → ℕ → Verdict → Type 0
-Judges b s r n w v = toldVerdict v ≡ judging b s r n w
+abbrev pub Judge : Type 1
+Judge = Board → State → ℕ → Which → ℕ → Verdict → Type 0
+
+abbrev pub Keeps : Judge → Type 0
+Keeps J = (b : Board) (s : State) (r : ℕ) (n : Which) (w : ℕ) (v : Verdict) → J b s r n w v → Judges b s r n w v
 
 abbrev pub AcceptedWinding : Board → State → ℕ → Which → Winding → Type 0
 AcceptedWinding b s r n e = windingFor b s r n ≡ given e
@@ -69,49 +81,60 @@ pub record AllChains (b : Board) (s : State) : Type 0 where
 abbrev pub TheChains : Type 0
 TheChains = (b : Board) (s : State) → boardFine b ≡ true → AllChains b s
 
-abbrev pub OfEveryVerdict : (Board → State → ℕ → Winding → Verdict → Type 0) → Type 0
-OfEveryVerdict P =
+pub record FirstShowing (b : Board) (s : State) (e : Winding) (k : ℕ) : Type 0 where
+  pub early : List (List ℕ)
+  pub chain : List ℕ
+  pub late : List (List ℕ)
+  pub all : chainsOf b s ≡ early ++ (chain ∷ late)
+  pub showing : Shows (e .a) (e .b) chain
+  pub none-before : All (λ (c : List ℕ). ¬ (Shows (e .a) (e .b) c)) early
+  pub number : k ≡ length early + 1
+
+abbrev pub EffortNumbers : Type 0
+EffortNumbers =
+    (b : Board) (s : State) (e : Winding)
+    → boardFine b ≡ true
+    → (IsLive b s e → FirstShowing b s e (effortOf b s e))
+    × (¬ (IsLive b s e) → effortOf b s e ≡ length (chainsOf b s))
+
+abbrev pub OfEveryVerdict : Judge → (Board → State → ℕ → Winding → Verdict → Type 0) → Type 0
+OfEveryVerdict J P =
     (b : Board) (s : State) (r : ℕ) (n : Which) (w : ℕ) (e : Winding) (v : Verdict)
-    → Judges b s r n w v
+    → J b s r n w v
     → AcceptedWinding b s r n e
     → P b s w e v
 
-abbrev pub LiveExactly : Type 0
-LiveExactly = OfEveryVerdict λ b s w e v. v .finding ≡ said.Live ↔ IsLive b s e × (effortOf b s e ≤ w)
+abbrev pub LiveExactly : Judge → Type 0
+LiveExactly J = OfEveryVerdict J λ b s w e v. v .finding ≡ said.Live ↔ IsLive b s e × (effortOf b s e ≤ w)
 
-abbrev pub DeadExactly : Type 0
-DeadExactly = OfEveryVerdict λ b s w e v. v .finding ≡ said.Dead ↔ ¬ (IsLive b s e) × (effortOf b s e ≤ w)
+abbrev pub DeadExactly : Judge → Type 0
+DeadExactly J = OfEveryVerdict J λ b s w e v. v .finding ≡ said.Dead ↔ ¬ (IsLive b s e) × (effortOf b s e ≤ w)
 
-abbrev pub UndecidedExactly : Type 0
-UndecidedExactly = OfEveryVerdict λ b s w e v. v .finding ≡ said.Undecided ↔ w < effortOf b s e
+abbrev pub UndecidedExactly : Judge → Type 0
+UndecidedExactly J = OfEveryVerdict J λ b s w e v. v .finding ≡ said.Undecided ↔ w < effortOf b s e
 
 pub record FirstChain (b : Board) (s : State) (e : Winding) (v : Verdict) : Type 0 where
-  pub chain : List ℕ
-  pub its-length : v .length ≡ length chain
-  pub its-places : v .terminals ≡ places chain
-  pub is-chain : ChainOf b s chain
-  pub showing : Shows (e .a) (e .b) chain
-  pub first : (d : List ℕ) → ChainOf b s d → Shows (e .a) (e .b) d → (d ≡ chain) ⊎ Before chain d
-  pub early : List (List ℕ)
-  pub late : List (List ℕ)
-  pub among : chainsOf b s ≡ early ++ (chain ∷ late)
-  pub counted : v .effort ≡ length early + 1
+  pub numbered : FirstShowing b s e (v .effort)
+  pub its-length : v .length ≡ length (numbered .chain)
+  pub its-places : v .terminals ≡ places (numbered .chain)
+  pub is-chain : ChainOf b s (numbered .chain)
+  pub first : (d : List ℕ) → ChainOf b s d → Shows (e .a) (e .b) d → (d ≡ numbered .chain) ⊎ Before (numbered .chain) d
 
-abbrev pub LiveShows : Type 0
-LiveShows = OfEveryVerdict λ b s w e v. v .finding ≡ said.Live → FirstChain b s e v
+abbrev pub LiveShows : Judge → Type 0
+LiveShows J = OfEveryVerdict J λ b s w e v. v .finding ≡ said.Live → FirstChain b s e v
 
 abbrev pub ShowsNone : Verdict → Type 0
 ShowsNone v = (v .length ≡ 0) × (v .terminals ≡ places [])
 
-abbrev pub DeadCounts : Type 0
-DeadCounts =
-    OfEveryVerdict λ b s w e v. v .finding ≡ said.Dead → (v .effort ≡ length (chainsOf b s)) × ShowsNone v
+abbrev pub DeadCounts : Judge → Type 0
+DeadCounts J =
+    OfEveryVerdict J λ b s w e v. v .finding ≡ said.Dead → (v .effort ≡ length (chainsOf b s)) × ShowsNone v
 
-abbrev pub UndecidedReports : Type 0
-UndecidedReports = OfEveryVerdict λ b s w e v. v .finding ≡ said.Undecided → (v .effort ≡ w) × ShowsNone v
+abbrev pub UndecidedReports : Judge → Type 0
+UndecidedReports J = OfEveryVerdict J λ b s w e v. v .finding ≡ said.Undecided → (v .effort ≡ w) × ShowsNone v
 
-abbrev pub AsPublished : Type 0
-AsPublished =
-    OfEveryVerdict λ b s w e v.
-    (v .finding ≡ said.Live → WindingCarries b s (e .a) (e .b))
-    × (v .finding ≡ said.Dead → ¬ (WindingCarries b s (e .a) (e .b)))
+abbrev pub AsPublished : Judge → Type 0
+AsPublished J =
+    OfEveryVerdict J λ b s w e v.
+    (v .finding ≡ said.Live ↔ WindingCarries b s (e .a) (e .b) × (effortOf b s e ≤ w))
+    × (v .finding ≡ said.Dead ↔ ¬ (WindingCarries b s (e .a) (e .b)) × (effortOf b s e ≤ w))

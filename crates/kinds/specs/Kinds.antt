@@ -1,14 +1,18 @@
 -- What a kind of part is. Rule book, "Parts of a board": the table of kinds.
---     buttonKind      the number of the kind that carries a button
---     regularKind     the number of a regular relay's winding
---     drawingKind     the number of a steel-core relay's drawing winding
---     droppingKind    the number of a steel-core relay's dropping winding
---     lastKind        the highest kind number
---     kindNumber k    the number of a kind in the rule book's table
---     nameOf k        the relay or button that a kind carries; 0 for a wire, which carries none
---     kindOf k n      the kind of number k that carries n; above the last kind there is none (4), and it is taken for
---                     a dropping winding
+--     buttonKind        the number of the kind that carries a button
+--     regularKind       the number of a regular relay's winding
+--     drawingKind       the number of a steel-core relay's drawing winding
+--     droppingKind      the number of a steel-core relay's dropping winding
+--     lastKind          the highest kind number
+--     kindNumber k      the number of a kind in the rule book's table
+--     nameOf k          the relay or button that a kind carries; 0 for a wire, which carries none
+--     kindOf k n        the kind of number k that carries n; above the last kind there is none (4), and it is taken for
+--                       a dropping winding
+--     KindOf k n r      promise: `Kind::of` the number k and the name n answers r
+--     KindNumber k r    promise: `number` of kind k answers r
+--     KindName k r      promise: `name` of kind k answers r
 use Prim.Native.Nat.{ℕ}
+use mathlib.Core.Path.{_≡_}
 use mathlib.Core.Bool.{cond}
 use lib.Dec.{eqb}
 use Rattle.kinds.specs.declared.Kind.{Kind}
@@ -56,3 +60,12 @@ kindOf k n =
     (cond (eqb k regularKind) (Regular n)
     (cond (eqb k drawingKind) (Drawing n)
     (Dropping n))))))
+
+abbrev pub KindOf : ℕ → ℕ → Kind → Type 0
+KindOf k n r = r ≡ kindOf k n
+
+abbrev pub KindNumber : Kind → ℕ → Type 0
+KindNumber k r = r ≡ kindNumber k
+
+abbrev pub KindName : Kind → ℕ → Type 0
+KindName k r = r ≡ nameOf k

@@ -1,6 +1,5 @@
 // What a kind of part is, with its number and the relay or button that it carries.
-ghost use mathlib.Core.Path.{_≡_};
-ghost use Rattle.kinds.specs.Kinds.{kindNumber, nameOf, kindOf};
+ghost use Rattle.kinds.specs.Kinds.{KindOf, KindNumber, KindName};
 
 // The kinds of part in the order of the rule book's table, each with its relay or button.
 pub enum Kind {
@@ -27,7 +26,7 @@ pub const LAST_KIND: u32 = 6;
 impl Kind {
     // The kind of this number, up to 6, that carries a relay or button.
     pub fn of(number: u32, name: u8) -> Self
-        ensures { λ r. ⌜ r ≡ kindOf number name ⌝ }
+        ensures { λ r. ⌜ KindOf number name r ⌝ }
     {
         match number {
             0 => Kind::Wire,
@@ -42,7 +41,7 @@ impl Kind {
 
     // The kind's number in the rule book's table.
     pub fn number(self) -> u32
-        ensures { λ r. ⌜ r ≡ kindNumber self ⌝ }
+        ensures { λ r. ⌜ KindNumber self r ⌝ }
     {
         match self {
             Kind::Wire => 0,
@@ -57,7 +56,7 @@ impl Kind {
 
     // The relay or button that the kind carries; 0 for a wire, which carries none.
     pub fn name(self) -> u8
-        ensures { λ r. ⌜ r ≡ nameOf self ⌝ }
+        ensures { λ r. ⌜ KindName self r ⌝ }
     {
         match self {
             Kind::Wire => 0,

@@ -1,26 +1,41 @@
--- Lines and answers that are told alike are alike: their cases are told apart.
-use mathlib.Core.Path.{_≡_, ap}
+-- Lines, answers, and what they tell: each can be had from the other.
 use Prim.Native.Nat.{ℕ}
-use Rattle.number.proofs.OutcomeLaws.{refusal-equal}
-use Rattle.runs.specs.declared.Ending.{Ending}
-use Rattle.runs.proofs.RunningLaws.{told-ending-injective}
-use Rattle.lines.specs.declared.Line.{Line}
+use mathlib.Core.Path.{_≡_, refl}
+use Rattle.number.specs.Outcomes.{Outcome, given, refused}
+use Rattle.number.proofs.Told.{Told}
+use Rattle.runs.proofs.RunningLaws.{ending-told}
+use Rattle.lines.specs.declared.Line as code
 use Rattle.lines.specs.declared.Line.the-variants.{Event, Closing}
 use Rattle.lines.specs.declared.LineWritten.{LineWritten}
 use Rattle.lines.specs.declared.LineWritten.the-variants.{Length, Refused}
-use Rattle.lines.specs.Lines.{toldLine, toldLineWritten}
+use Rattle.lines.specs.Lines.{Line, event, closing, toldLine, toldLineWritten}
 
-event-equal : {e f m n d g : ℕ} {v w : Ending} → e ≡ f → v ≡ w → m ≡ n → d ≡ g → Event e v m d ≡ Event f w n g
-event-equal number word moves drawn = λ i. Event (number i) (word i) (moves i) (drawn i)
+pub line-told : Told toldLine
+line-told = record { untold = untold; back = back; onto = onto }
+  where
+    untold : Line → code.Line
+    untold (event e o m d) = Event e (ending-told .untold o) m d
+    untold (closing n p) = Closing (record { number = n; place = p })
 
-pub told-line-injective : (x y : Line) → toldLine x ≡ toldLine y → x ≡ y
-told-line-injective (Event e v m d) (Event f w n g) p = event-equal (cc) (told-ending-injective v w (cc)) (cc) (cc)
-told-line-injective (Event e v m d) (Closing q) p = cc
-told-line-injective (Closing r) (Event f w n g) p = cc
-told-line-injective (Closing r) (Closing q) p = ap Closing (refusal-equal r q (cc) (cc))
+    back : (x : code.Line) → untold (toldLine x) ≡ x
+    back (Event e w m d) = λ i. Event e (ending-told .back w i) m d
+    back (Closing r) = refl
 
-pub told-line-written-injective : (x y : LineWritten) → toldLineWritten x ≡ toldLineWritten y → x ≡ y
-told-line-written-injective (Length m) (Length n) e = cc
-told-line-written-injective (Length m) (Refused q) e = cc
-told-line-written-injective (Refused r) (Length n) e = cc
-told-line-written-injective (Refused r) (Refused q) e = ap Refused (refusal-equal r q (cc) (cc))
+    onto : (y : Line) → toldLine (untold y) ≡ y
+    onto (event e o m d) = λ i. event e (ending-told .onto o i) m d
+    onto (closing n p) = refl
+
+pub line-written-told : Told toldLineWritten
+line-written-told = record { untold = untold; back = back; onto = onto }
+  where
+    untold : Outcome ℕ → LineWritten
+    untold (given n) = Length n
+    untold (refused n p) = Refused (record { number = n; place = p })
+
+    back : (x : LineWritten) → untold (toldLineWritten x) ≡ x
+    back (Length n) = refl
+    back (Refused r) = refl
+
+    onto : (y : Outcome ℕ) → toldLineWritten (untold y) ≡ y
+    onto (given n) = refl
+    onto (refused n p) = refl

@@ -10,7 +10,10 @@
 --     lineWriting l out            what writing the line l into the buffer `out` answers, and the buffer afterwards:
 --                                  "Written bytes begin the buffer; the rest stays"
 --     toldLine, toldLineWritten    a line and an answer in the rule book's words and numbers
+--     WritesLine l out r out′      promise: `write_line` of the line l into the buffer `out` answers r, and leaves the
+--                                  buffer out′
 use Prim.Native.Nat.{ℕ}
+use mathlib.Core.Path.{_≡_}
 use mathlib.Core.Bool.{cond}
 use mathlib.Core.List.{List, _++_}
 use lib.Dec.{leb}
@@ -51,3 +54,6 @@ toldLine (Closing r) = closing (r .number) (r .place)
 abbrev pub toldLineWritten : LineWritten → Outcome ℕ
 toldLineWritten (Length n) = given n
 toldLineWritten (Refused r) = refused (r .number) (r .place)
+
+abbrev pub WritesLine : code.Line → List ℕ → LineWritten → List ℕ → Type 0
+WritesLine l out r out′ = _≡_ {A = Outcome ℕ × List ℕ} (toldLineWritten r, out′) (lineWriting (toldLine l) out)

@@ -1,9 +1,5 @@
 // The lines that a session prints, as text in a lent buffer.
-ghost use mathlib.Core.Path.{_≡_};
-ghost use mathlib.Core.List.{List};
-ghost use Prim.Native.Nat.{ℕ};
-ghost use Rattle.number.specs.Outcomes.{Outcome};
-ghost use Rattle.lines.specs.Lines.{toldLine, lineWriting, toldLineWritten};
+ghost use Rattle.lines.specs.Lines.{WritesLine};
 use number::BUFFER_TOO_SHORT;
 use number::Refusal;
 use runs::Ending;
@@ -27,8 +23,7 @@ pub enum LineWritten {
 
 // Writes a line at the start of a buffer: 16 if the longest line has no room there.
 pub fn write_line(line: Line, out: &mut [u8]) -> LineWritten
-    ensures { λ r. ⌜ _≡_ {A = Outcome ℕ × List ℕ} (toldLineWritten r, now (out .exit))
-        (lineWriting (toldLine line) (now (out .entry))) ⌝ }
+    ensures { λ r. ⌜ WritesLine line (now (out .entry)) r (now (out .exit)) ⌝ }
 {
     if out.len() < LONGEST_LINE {
         return LineWritten::Refused(Refusal {

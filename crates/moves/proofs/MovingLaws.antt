@@ -7,7 +7,8 @@ use lib.Dec.{ltb}
 use borrow.Author.Tests.{lt-ltb, le-ltb, ltb-true}
 use Rattle.number.specs.Outcomes.{Outcome, given, refused}
 use Rattle.number.specs.Refusals.{noSuchWinding}
-use Rattle.number.proofs.OutcomeLaws.{inverse-injective, both-given, asked}
+use Rattle.number.proofs.OutcomeLaws.{both-given, asked}
+use Rattle.number.proofs.Told.{Told}
 use Rattle.board.specs.declared.Board.{Board}
 use Rattle.board.specs.Rules.{boardFine}
 use Rattle.state.specs.declared.State.{State}
@@ -52,36 +53,55 @@ module _ (b : Board) (s : State) (r : ℕ) where
   unfolding moving left
   moving-moved w m t e is leaves = rw (e, leaves, is) refl
 
--- ---- the answer's cases are told apart
+-- ---- answers and what they tell
 
-abbrev untoldMove : Move → code-move.Move
-untoldMove drew = Drew
-untoldMove dropped = Dropped
-untoldMove rests = Rests
-untoldMove undecided = Undecided
-untoldMove conflict = Conflict
+pub move-told : Told toldMove
+move-told = record { untold = untold; back = back; onto = onto }
+  where
+    untold : Move → code-move.Move
+    untold drew = Drew
+    untold dropped = Dropped
+    untold rests = Rests
+    untold undecided = Undecided
+    untold conflict = Conflict
 
-move-told-back : (x : code-move.Move) → untoldMove (toldMove x) ≡ x
-move-told-back Drew = refl
-move-told-back Dropped = refl
-move-told-back Rests = refl
-move-told-back Undecided = refl
-move-told-back Conflict = refl
+    back : (x : code-move.Move) → untold (toldMove x) ≡ x
+    back Drew = refl
+    back Dropped = refl
+    back Rests = refl
+    back Undecided = refl
+    back Conflict = refl
 
-pub told-move-injective : (x y : code-move.Move) → toldMove x ≡ toldMove y → x ≡ y
-told-move-injective = inverse-injective toldMove untoldMove move-told-back
+    onto : (y : Move) → toldMove (untold y) ≡ y
+    onto drew = refl
+    onto dropped = refl
+    onto rests = refl
+    onto undecided = refl
+    onto conflict = refl
 
-told-move-answer-injective : (x y : MoveAnswer) → toldMoveAnswer x ≡ toldMoveAnswer y → x ≡ y
-told-move-answer-injective = inverse-injective toldMoveAnswer untold back
+move-answer-told : Told toldMoveAnswer
+move-answer-told = record { untold = untold; back = back; onto = onto }
   where
     untold : Outcome Move → MoveAnswer
-    untold (given m) = Says (untoldMove m)
+    untold (given m) = Says (move-told .untold m)
     untold (refused n p) = Refused (record { number = n; place = p })
 
     back : (x : MoveAnswer) → untold (toldMoveAnswer x) ≡ x
-    back (Says m) = ap Says (move-told-back m)
+    back (Says m) = ap Says (move-told .back m)
     back (Refused r) = refl
 
-pub told-moved-injective : (x y : Moved) → toldMoved x ≡ toldMoved y → x ≡ y
-told-moved-injective x y e =
-    λ i. record { state = e i .0; answer = told-move-answer-injective (x .answer) (y .answer) (λ j. e j .1) i }
+    onto : (y : Outcome Move) → toldMoveAnswer (untold y) ≡ y
+    onto (given m) = λ i. given (move-told .onto m i)
+    onto (refused n p) = refl
+
+pub moved-told : Told toldMoved
+moved-told = record { untold = untold; back = back; onto = onto }
+  where
+    untold : State × Outcome Move → Moved
+    untold (s, o) = record { state = s; answer = move-answer-told .untold o }
+
+    back : (x : Moved) → untold (toldMoved x) ≡ x
+    back x = λ i. record { state = x .state; answer = move-answer-told .back (x .answer) i }
+
+    onto : (y : State × Outcome Move) → toldMoved (untold y) ≡ y
+    onto (s, o) = λ i. (s, move-answer-told .onto o i)

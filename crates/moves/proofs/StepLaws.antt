@@ -5,7 +5,9 @@ use mathlib.Core.Path.{_≡_, refl, sym, ap, _∙_}
 use mathlib.Core.Logic.{_⊎_, inl, inr, ⊎-elim}
 use mathlib.Core.Bool.{Bool, true}
 use mathlib.Core.List.{List}
+use mathlib.Core.Option.{Option, none, some}
 use Rattle.number.specs.Outcomes.{Outcome, given, refused}
+use Rattle.number.specs.Refusals.{noSuchWinding}
 use Rattle.board.specs.declared.Counts.{Counts}
 use Rattle.board.specs.declared.Board.{Board}
 use Rattle.board.specs.Parts.{partsOf}
@@ -30,11 +32,11 @@ use Rattle.moves.proofs.MoveLaws.{move-larger}
 
 -- the finding on the winding, where it is known which winding that is
 module _ (near : List ℕ) (b : Board) (r : ℕ) (n : Which) (w : ℕ) where
-  pub finding-missing : (k p : ℕ) → windingOf n r (partsOf b) ≡ refused k p → findingOn near b r n w ≡ refused k p
+  pub finding-missing : windingOf n r (partsOf b) ≡ none → findingOn near b r n w ≡ refused noSuchWinding 0
   unfolding findingOn
-  finding-missing k p e = rw e refl
+  finding-missing e = rw e refl
 
-  pub finding-verdict : (v : Winding) → windingOf n r (partsOf b) ≡ given v
+  pub finding-verdict : (v : Winding) → windingOf n r (partsOf b) ≡ some v
       → findingOn near b r n w ≡ verdict.verdictBy near (verdict.inSets (b .counts .terminals)) v w .finding
   unfolding findingOn
   finding-verdict v e = rw e refl
@@ -44,24 +46,24 @@ pub finding-judging : (b : Board) (s : State) (r : ℕ) (n : Which) (w : ℕ) �
     → stateFine (b .counts) s ≡ true → findingOn (neighbours b s) b r n w ≡ judging b s r n w .finding
 finding-judging b s r n w fine fits = by-sought (windingOf n r (partsOf b)) refl
   where
-    by-sought : (o : Outcome Winding) → windingOf n r (partsOf b) ≡ o → findingOn (neighbours b s) b r n w ≡ judging
+    by-sought : (o : Option Winding) → windingOf n r (partsOf b) ≡ o → findingOn (neighbours b s) b r n w ≡ judging
         b s r n w .finding
-    by-sought (given v) e =
+    by-sought (some v) e =
         finding-verdict (neighbours b s) b r n w v e ∙ ap (λ (j : verdict.Verdict). j .finding)
         (judging-verdict b s r n w v (neighbours b s) fine fits e refl)
-    by-sought (refused k p) e =
-        finding-missing (neighbours b s) b r n w k p e ∙ ap (λ (j : verdict.Verdict). j .finding)
-        (judging-by b s r n w (refused k p) (winding-for-sought b s r n fine fits ∙ e))
+    by-sought none e =
+        finding-missing (neighbours b s) b r n w e ∙ ap (λ (j : verdict.Verdict). j .finding)
+        (judging-by b s r n w (refused noSuchWinding 0) (winding-for-sought b s r n none fine fits e))
 
 -- a larger allowance x changes no finding but undecided
 pub finding-larger : (near : List ℕ) (b : Board) (r : ℕ) (n : Which) (w x : ℕ) → w ≤ x
     → (findingOn near b r n w ≡ given verdict.undecided) ⊎ (findingOn near b r n x ≡ findingOn near b r n w)
 finding-larger near b r n w x more = by-sought (windingOf n r (partsOf b)) refl
   where
-    by-sought : (o : Outcome Winding) → windingOf n r (partsOf b) ≡ o
+    by-sought : (o : Option Winding) → windingOf n r (partsOf b) ≡ o
         → (findingOn near b r n w ≡ given verdict.undecided) ⊎ (findingOn near b r n x ≡ findingOn near b r n w)
-    by-sought (refused k p) e = inr (finding-missing near b r n x k p e ∙ sym (finding-missing near b r n w k p e))
-    by-sought (given v) e =
+    by-sought none e = inr (finding-missing near b r n x e ∙ sym (finding-missing near b r n w e))
+    by-sought (some v) e =
         rw (finding-verdict near b r n w v e, finding-verdict near b r n x v e)
         (⊎-elim inl (λ same. inr (ap (λ (j : verdict.Verdict). j .finding) same))
         (verdict-by-larger near _ v w x more))

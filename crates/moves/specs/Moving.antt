@@ -4,7 +4,10 @@
 --     movable b s r                what stands against moving relay r of board b in state s: refusals 15, 14, 11
 --     moving b s r w               the call
 --     toldMoveAnswer, toldMoved    the answer's cases in the rule book's words and numbers
+--     Moves b s r w a              promise: `move_relay` of relay r of board b in state s, within the allowance w,
+--                                  answers a
 use Prim.Native.Nat.{ℕ}
+use mathlib.Core.Path.{_≡_}
 use lib.Dec.{ltb}
 use Rattle.number.specs.Outcomes.{Outcome, given, refused, _>>_, unless}
 use Rattle.number.specs.Refusals.{noSuchWinding}
@@ -30,3 +33,6 @@ toldMoveAnswer (Refused r) = refused (r .number) (r .place)
 
 abbrev pub toldMoved : Moved → State × Outcome Move
 toldMoved r = (r .state, toldMoveAnswer (r .answer))
+
+abbrev pub Moves : Board → State → ℕ → ℕ → Moved → Type 0
+Moves b s r w a = toldMoved a ≡ moving b s r w

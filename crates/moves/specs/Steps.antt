@@ -11,15 +11,19 @@
 --                               winding as y
 --     moveBy d x y              a relay by its first and its second winding: with a second one it is steel, else
 --                               regular; what the board lacks rests
---     findingOn near b r n w    winding n of relay r of board b, judged by the sets of neighbours `near` within
---                               the allowance w
+--     findingOn near b r n w    winding n of relay r of board b, judged by the sets of neighbours `near` within the
+--                               allowance w; refused by 11 where there is none
 --     stepBy near b d r w       what relay r does, drawn if d
---     stepOf b s r w            what relay r of board b does in state s, within the allowance w. Runs know it by
---                               its laws alone
+--     stepOf b s r w            what relay r of board b does in state s, within the allowance w. Runs know it by its
+--                               laws alone
 --     stepper b w               the steps of board b within the allowance w, of every relay in every state
 --     made s r m                the state after relay r came to m: "A move changes that relay and nothing else"
 --     toldMove                  the answer's cases in the rule book's words
+--     Steps near b s r w m      promise: `step` of relay r of board b in state s, by the sets `near` and within the
+--                               allowance w, answers m
+--     After s r m t             promise: `after` relay r came to m in state s answers t
 use Prim.Native.Nat.{ℕ}
+use mathlib.Core.Path.{_≡_}
 use mathlib.Core.Bool.{Bool, true, false, not, cond, _&&_, _||_}
 use mathlib.Core.List.{List}
 use Rattle.number.specs.Outcomes.{Outcome, given, refused, _>>=_}
@@ -31,7 +35,7 @@ use Rattle.neighbours.specs.Neighbours.{neighbours}
 use Rattle.search.specs.Verdicts as verdict
 use Rattle.judge.specs.declared.Which.{Which}
 use Rattle.judge.specs.declared.Which.the-variants.{First, Second}
-use Rattle.judge.specs.RelayWindings.{windingOf}
+use Rattle.judge.specs.RelayWindings.{windingOf, orNoSuchWinding}
 use Rattle.moves.specs.declared.Move as code-move
 use Rattle.moves.specs.declared.Move.the-variants as said
 
@@ -74,7 +78,8 @@ moveBy d x y = cond (isMissing x) rests (cond (isMissing y) (regularMove d x) (s
 
 unfoldable pub findingOn : List ℕ → Board → ℕ → Which → ℕ → Outcome verdict.Finding
 findingOn near b r n w =
-    windingOf n r (partsOf b) >>= λ v. verdict.verdictBy near (verdict.inSets (b .counts .terminals)) v w .finding
+    orNoSuchWinding (windingOf n r (partsOf b))
+    >>= λ v. verdict.verdictBy near (verdict.inSets (b .counts .terminals)) v w .finding
 
 unfoldable pub stepBy : List ℕ → Board → Bool → ℕ → ℕ → Move
 stepBy near b d r w = moveBy d (findingOn near b r First w) (findingOn near b r Second w)
@@ -98,3 +103,9 @@ toldMove said.Dropped = dropped
 toldMove said.Rests = rests
 toldMove said.Undecided = undecided
 toldMove said.Conflict = conflict
+
+abbrev pub Steps : List ℕ → Board → State → ℕ → ℕ → code-move.Move → Type 0
+Steps near b s r w m = toldMove m ≡ stepBy near b (isDrawn s r) r w
+
+abbrev pub After : State → ℕ → code-move.Move → State → Type 0
+After s r m t = t ≡ made s r (toldMove m)

@@ -2,11 +2,10 @@
 ghost use mathlib.Core.Path.{_≡_};
 ghost use mathlib.Core.Bool.{_&&_, _||_, cond};
 ghost use Rattle.number.specs.Outcomes.{refused};
-ghost use Rattle.state.specs.States.{isDrawn};
 ghost use Rattle.search.specs.Verdicts.{toldFinding};
-ghost use Rattle.moves.specs.Steps.{drew, dropped, rests, isLive, isUndecided, isMissing, toldMove};
-ghost use Rattle.moves.specs.Steps.{regularMove, steelMove, moveBy, findingOn, stepBy, made};
-ghost use Rattle.moves.specs.Moving.{moving, toldMoved};
+ghost use Rattle.moves.specs.Steps.{drew, dropped, rests, isLive, isUndecided, isMissing, toldMove, regularMove};
+ghost use Rattle.moves.specs.Steps.{steelMove, moveBy, findingOn, Steps, After};
+ghost use Rattle.moves.specs.Moving.{toldMoved, Moves};
 use board::Board;
 use judge::Sought;
 use judge::Which;
@@ -172,7 +171,7 @@ fn finding_on(near: &[u64; 64], board: Board, relay: u32, which: Which, allowanc
 
 // What a relay comes to in this state, by the sets of neighbours within the allowance.
 pub fn step(near: &[u64; 64], board: Board, state: State, relay: u32, allowance: u32) -> Move
-    ensures { λ r. ⌜ toldMove r ≡ stepBy (now (near .entry)) board (isDrawn state relay) relay allowance ⌝ }
+    ensures { λ r. ⌜ Steps (now (near .entry)) board state relay allowance r ⌝ }
 {
     let drawn = bits::has(state.drawn, relay);
     let first = finding_on(near, board, relay, Which::First, allowance);
@@ -182,7 +181,7 @@ pub fn step(near: &[u64; 64], board: Board, state: State, relay: u32, allowance:
 
 // The state after a relay came to this: drawn, dropped, or as it was.
 pub fn after(state: State, relay: u32, motion: Move) -> State
-    ensures { λ r. ⌜ r ≡ made state relay (toldMove motion) ⌝ }
+    ensures { λ r. ⌜ After state relay motion r ⌝ }
 {
     match motion {
         Move::Drew => state.draw(relay),
@@ -205,7 +204,7 @@ fn refuse(state: State, number: u32) -> Moved
 
 // Moves a named relay, if it can move.
 pub fn move_relay(board: Board, state: State, relay: u32, allowance: u32) -> Moved
-    ensures { λ r. ⌜ toldMoved r ≡ moving board state relay allowance ⌝ }
+    ensures { λ r. ⌜ Moves board state relay allowance r ⌝ }
 {
     if !board::check(board) {
         return refuse(state, BROKEN_BOARD);

@@ -5,11 +5,10 @@ use native.Mathlib.Omega.{arith}
 use mathlib.Core.Path.{_≡_, sym, subst, _∙_}
 use mathlib.Core.Logic.{_⊎_, _↔_, inl, inr}
 use mathlib.Core.Bool.{true}
+use mathlib.Core.Option.{some, Option·some-injective}
 use lib.Dec.{leb}
 use borrow.Author.Tests.{leb-true, leb-false}
 use Rattle.bits.proofs.BoolLaws.{by-test}
-use Rattle.number.specs.Outcomes.{given}
-use Rattle.number.proofs.OutcomeLaws.{given-injective}
 use Rattle.board.specs.declared.Board.{Board}
 use Rattle.board.specs.Parts.{partsOf}
 use Rattle.board.specs.Rules.{boardFine}
@@ -42,10 +41,10 @@ module _ (b : Board) (w : ℕ) (s : State) (r : ℕ) (fine : boardFine b ≡ tru
     (below : r < b .counts .relays) where
   -- ---- winding n of relay r is e
 
-  module _ (n : Which) (e : Winding) (found : windingOf n r (partsOf b) ≡ given e) where
+  module _ (n : Which) (e : Winding) (found : windingOf n r (partsOf b) ≡ some e) where
     live-current : IsLive b s e ↔ CurrentThrough b s r n
     live-current =
-        let its = the-winding b s r n e (winding-for-sought b s r n fine fits ∙ found) in
+        let its = the-winding b s r n e (winding-for-sought b s r n (some e) fine fits found) in
         let agree = live-is-carrying b s (e .a) (e .b) fine in (
           λ live. carries-through b s r n e its (agree .0 live),
           λ current. agree .1 (through-carries b s r n e its current),
@@ -54,9 +53,9 @@ module _ (b : Board) (w : ℕ) (s : State) (r : ℕ) (fine : boardFine b ≡ tru
     undecided-needs : Undecided b s e w → NeedsMore b s r w
     undecided-needs more = record { which = n; winding = e; its-winding = found; more = more }
 
-    needs-undecided : (f : Winding) → windingOf n r (partsOf b) ≡ given f → Undecided b s f w → Undecided b s e w
+    needs-undecided : (f : Winding) → windingOf n r (partsOf b) ≡ some f → Undecided b s f w → Undecided b s e w
     needs-undecided f also more =
-        subst (λ (v : Winding). Undecided b s v w) (given-injective f e (sym also ∙ found)) more
+        subst (λ (v : Winding). Undecided b s v w) (Option·some-injective f e (sym also ∙ found)) more
 
     enough-decided : ¬ (NeedsMore b s r w) → Decided b s e w
     enough-decided enough =
@@ -64,11 +63,11 @@ module _ (b : Board) (w : ℕ) (s : State) (r : ℕ) (fine : boardFine b ≡ tru
 
   -- ---- a regular relay
 
-  module _ (regular : isRegular r (partsOf b)) (e : Winding) (found : windingOf First r (partsOf b) ≡ given e) where
+  module _ (regular : isRegular r (partsOf b)) (e : Winding) (found : windingOf First r (partsOf b) ≡ some e) where
     regular-undecided : NeedsMore b s r w → Undecided b s e w
     regular-undecided needs = by-which (needs .which) (needs .its-winding)
       where
-        by-which : (n : Which) → windingOf n r (partsOf b) ≡ given (needs .winding) → Undecided b s e w
+        by-which : (n : Which) → windingOf n r (partsOf b) ≡ some (needs .winding) → Undecided b s e w
         by-which First is = needs-undecided First e found (needs .winding) is (needs .more)
         by-which Second is =
             absurd (omega (arith, needs .more, second-missing b w s r fine fits regular .1 (needs .winding) is))
@@ -121,12 +120,12 @@ module _ (b : Board) (w : ℕ) (s : State) (r : ℕ) (fine : boardFine b ≡ tru
 
   -- ---- a steel relay
 
-  module _ (steel : isSteel r (partsOf b)) (e f : Winding) (first : windingOf First r (partsOf b) ≡ given e)
-      (second : windingOf Second r (partsOf b) ≡ given f) where
+  module _ (steel : isSteel r (partsOf b)) (e f : Winding) (first : windingOf First r (partsOf b) ≡ some e)
+      (second : windingOf Second r (partsOf b) ≡ some f) where
     steel-undecided : NeedsMore b s r w → Undecided b s e w ⊎ Undecided b s f w
     steel-undecided needs = by-which (needs .which) (needs .its-winding)
       where
-        by-which : (n : Which) → windingOf n r (partsOf b) ≡ given (needs .winding) → Undecided b s e w
+        by-which : (n : Which) → windingOf n r (partsOf b) ≡ some (needs .winding) → Undecided b s e w
             ⊎ Undecided b s f w
         by-which First is = inl (needs-undecided First e first (needs .winding) is (needs .more))
         by-which Second is = inr (needs-undecided Second f second (needs .winding) is (needs .more))

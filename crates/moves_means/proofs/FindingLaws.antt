@@ -6,16 +6,15 @@
 use Prim.Native.Nat.{ℕ, _<_, _≤_}
 use native.Mathlib.Omega.{arith}
 use mathlib.Core.Path.{_≡_, refl, sym, ap, subst, _∙_}
-use mathlib.Core.Logic.{_⊎_, inl, inr}
+use mathlib.Core.Logic.{inl, inr}
 use mathlib.Core.Bool.{true}
 use mathlib.Core.List.{List}
-use mathlib.Core.Option.{Option, none, some}
+use mathlib.Core.Option.{Option, none, some, Option·none-ne-some, Option·some-injective}
 use lib.Dec.{leb}
 use borrow.Author.Tests.{leb-true, leb-false}
 use Rattle.bits.proofs.BoolLaws.{by-test}
-use Rattle.number.specs.Outcomes.{Outcome, given, refused}
+use Rattle.number.specs.Outcomes.{given, refused}
 use Rattle.number.specs.Refusals.{noSuchWinding}
-use Rattle.number.proofs.OutcomeLaws.{refused-never, given-injective}
 use Rattle.board.specs.declared.Board.{Board}
 use Rattle.board.specs.Parts.{partsOf}
 use Rattle.board.specs.Rules.{boardFine}
@@ -29,18 +28,18 @@ use Rattle.search.proofs.VerdictLaws.{weighed-within, weighed-short}
 use Rattle.judge.specs.declared.Which.{Which}
 use Rattle.judge.specs.declared.Which.the-variants.{First, Second}
 use Rattle.judge.specs.RelayWindings.{windingOf}
-use Rattle.judge.specs.Judging.{windingFor, judging}
-use Rattle.judge.proofs.SoughtLaws.{winding-refused}
+use Rattle.judge.specs.Judging.{judging, Judges}
 use Rattle.judge.proofs.JudgeLaws.{winding-for-sought, judging-by}
-use Rattle.judge_means.specs.Exactness.{Judges, AcceptedWinding, chainsOf, effortOf}
-use Rattle.judge_means.proofs.Exactness.{liveVerdict, deadVerdict, as-published}
-use Rattle.judge_means.proofs.Eleven.{eleven-exactly, the-winding}
+use Rattle.judge_means.specs.Exactness.{AcceptedWinding, chainsOf, effortOf}
+use Rattle.judge_means.specs.Eleven.{LineEleven}
+use Rattle.judge_means.proofs.Exactness.{liveVerdict, deadVerdict, judges-keep, as-published}
+use Rattle.judge_means.proofs.Eleven.{missing-exactly, the-winding}
 use Rattle.moves_means.specs.Guards.{CurrentThrough}
 use Rattle.moves_means.specs.SingleMoves.{NeedsMore}
 use Rattle.moves_means.proofs.CurrentLaws.{through-carries, carries-through}
 
 abbrev pub Within : Board → State → ℕ → Which → ℕ → Type 0
-Within b s r n w = (e : Winding) → windingOf n r (partsOf b) ≡ given e → effortOf b s e ≤ w
+Within b s r n w = (e : Winding) → windingOf n r (partsOf b) ≡ some e → effortOf b s e ≤ w
 
 abbrev pub FindingSays : Board → State → ℕ → Which → Finding → ℕ → Type 0
 FindingSays b s r n live w = Within b s r n w × CurrentThrough b s r n
@@ -55,10 +54,10 @@ pub record HasFinding (b : Board) (s : State) (r : ℕ) (n : Which) (w : ℕ) : 
 -- ---- winding n of relay r is found, and is e
 
 module _ (b : Board) (w : ℕ) (s : State) (r : ℕ) (n : Which) (e : Winding)
-    (found : windingOf n r (partsOf b) ≡ given e) where
+    (found : windingOf n r (partsOf b) ≡ some e) where
   found-within : effortOf b s e ≤ w → Within b s r n w
   found-within enough f also =
-      subst (λ (x : Winding). effortOf b s x ≤ w) (given-injective e f (sym found ∙ also)) enough
+      subst (λ (x : Winding). effortOf b s x ≤ w) (Option·some-injective e f (sym found ∙ also)) enough
 
   -- the call weighs all chains of the board in the state
   accepted-weighed : AcceptedWinding b s r n e → weighed (shows (e .a) (e .b)) (chainsOf b s) w ≡ judging b s r n w
@@ -78,7 +77,7 @@ module _ (b : Board) (w : ℕ) (s : State) (r : ℕ) (n : Which) (e : Winding)
       })
     where
       taken : AcceptedWinding b s r n e
-      taken = winding-for-sought b s r n fine fits ∙ found
+      taken = winding-for-sought b s r n (some e) fine fits found
 
       weighs : weighed (shows (e .a) (e .b)) (chainsOf b s) w ≡ judging b s r n w
       weighs = accepted-weighed taken
@@ -99,7 +98,7 @@ module _ (b : Board) (w : ℕ) (s : State) (r : ℕ) (n : Which) (e : Winding)
             says = (
               found-within enough,
               carries-through b s r n e (the-winding b s r n e taken)
-                  (as-published b s r n w e (liveVerdict (effortOf b s e) c) told taken .0 refl),
+                  (as-published _ judges-keep b s r n w e (liveVerdict (effortOf b s e) c) told taken .0 .0 refl .0),
             );
           }
       by-first none first enough =
@@ -109,8 +108,8 @@ module _ (b : Board) (w : ℕ) (s : State) (r : ℕ) (n : Which) (e : Winding)
             judged = ap (λ (j : Verdict). j .finding) (sym told);
             says = (
               found-within enough,
-              λ current. as-published b s r n w e (deadVerdict (effortOf b s e)) told
-                  taken .1 refl (through-carries b s r n e (the-winding b s r n e taken) current),
+              λ current. as-published _ judges-keep b s r n w e (deadVerdict (effortOf b s e)) told
+                  taken .1 .0 refl .0 (through-carries b s r n e (the-winding b s r n e taken) current),
             );
           }
 
@@ -123,17 +122,13 @@ module _ (b : Board) (w : ℕ) (s : State) (r : ℕ) (fine : boardFine b ≡ tru
         → HasFinding b s r n w
     winding-finding n below there = by-sought (windingOf n r (partsOf b)) refl
       where
-        eleven : (b .counts .relays ≤ r) ⊎ ((n ≡ Second) × isRegular r (partsOf b)) → ⊥
+        eleven : ¬ (LineEleven b r n)
         eleven (inl past) = omega (arith, below, past)
         eleven (inr regular) = there regular
 
-        by-sought : (o : Outcome Winding) → windingOf n r (partsOf b) ≡ o → HasFinding b s r n w
-        by-sought (given e) found = found-finding b w s r n e found fine fits
-        by-sought (refused k p) missing =
-            absurd
-            (eleven
-            (eleven-exactly b s r n fine fits .0 (winding-for-sought b s r n fine fits
-            ∙ winding-refused n r (partsOf b) k p missing)))
+        by-sought : (o : Option Winding) → windingOf n r (partsOf b) ≡ o → HasFinding b s r n w
+        by-sought (some e) found = found-finding b w s r n e found fine fits
+        by-sought none missing = absurd (eleven (missing-exactly b r n fine .0 missing))
 
     pub first-finding : r < b .counts .relays → HasFinding b s r First w
     first-finding below = winding-finding First below (λ x. let z : _≡_ {A = ℕ} 0 1 = cc (x .0) in omega arith)
@@ -145,9 +140,9 @@ module _ (b : Board) (w : ℕ) (s : State) (r : ℕ) (fine : boardFine b ≡ tru
     pub second-missing : isRegular r (partsOf b) → (judging b s r Second w .finding ≡ refused noSuchWinding 0)
         × Within b s r Second w
     second-missing regular =
-        let missing : windingFor b s r Second ≡ refused noSuchWinding 0 =
-        eleven-exactly b s r Second fine fits .1 (inr (refl, regular)) in (
-          ap (λ (j : Verdict). j .finding) (sym (judging-by b s r Second w (refused noSuchWinding 0) missing)),
-          λ e found. absurd
-              (refused-never noSuchWinding 0 e (sym missing ∙ winding-for-sought b s r Second fine fits ∙ found)),
+        let missing = missing-exactly b r Second fine .1 (inr (refl, regular)) in (
+          ap (λ (j : Verdict). j .finding)
+              (sym (judging-by b s r Second w (refused noSuchWinding 0) (winding-for-sought b s r Second none fine
+              fits missing))),
+          λ e found. absurd (Option·none-ne-some e (sym missing ∙ found)),
         )

@@ -4,3 +4,4 @@ pub mod FindingLaws
 pub mod ComesLaws
 pub mod SingleMoves
 pub mod ByChains
+pub mod OneRelay

@@ -1,12 +1,16 @@
 -- The theorems of specs/SingleMoves.antt: of what a relay comes to `Comes` holds, by the relay's sort, and it holds of
--- no two words; so each word is said exactly then, by a step and by the call.
-use Prim.Native.Nat.{ℕ, _<_}
+-- no two words; so each word is said exactly then, by a step and by the call. And 11 is given exactly if its line
+-- holds.
+use Prim.Native.Nat.{ℕ, _<_, _≤_}
+use native.Mathlib.Omega.{arith}
 use mathlib.Core.Path.{_≡_, refl, sym, ap, subst, _∙_}
 use mathlib.Core.Logic.{⊎-elim}
-use mathlib.Core.Bool.{true}
-use Rattle.number.specs.Outcomes.{Outcome, given, refused}
+use mathlib.Core.Bool.{Bool, true, false}
+use lib.Dec.{ltb}
+use borrow.Author.Tests.{ltb-false}
+use Rattle.number.specs.Outcomes.{Outcome, given, refused, unless}
 use Rattle.number.specs.Refusals.{noSuchWinding}
-use Rattle.number.proofs.OutcomeLaws.{given-injective}
+use Rattle.number.proofs.OutcomeLaws.{refused-never, given-injective}
 use Rattle.board.specs.declared.Board.{Board}
 use Rattle.board.specs.Parts.{partsOf}
 use Rattle.board.specs.Rules.{boardFine}
@@ -14,14 +18,16 @@ use Rattle.board.specs.Sorts.{isRegular, isSteel}
 use Rattle.board.proofs.FineLaws.{fine-relays-wound}
 use Rattle.state.specs.declared.State.{State}
 use Rattle.state.specs.States.{isDrawn, stateFine}
+use Rattle.state.proofs.StateLaws.{usable-fine, usable-next}
 use Rattle.search.specs.Verdicts.{Finding}
 use Rattle.judge.specs.declared.Which.the-variants.{First, Second}
 use Rattle.judge.specs.Judging.{judging}
 use Rattle.moves.specs.Steps.{Move, moveBy, stepOf, made}
-use Rattle.moves.specs.Moving.{toldMoveAnswer, toldMoved}
+use Rattle.moves.specs.declared.Moved.{Moved}
+use Rattle.moves.specs.Moving.{movable, toldMoveAnswer, toldMoved, Moves}
 use Rattle.moves.proofs.StepLaws.{step-judging}
-use Rattle.moves.proofs.MovingLaws.{movable-given, moving-moved}
-use Rattle.moves_means.specs.SingleMoves.{Comes, StepExactly, MoveExactly}
+use Rattle.moves.proofs.MovingLaws.{movable-given, movable-lacking, moving-refused, moving-moved}
+use Rattle.moves_means.specs.SingleMoves.{Comes, StepExactly, MoveExactly, MoveElevenExactly}
 use Rattle.moves_means.proofs.FindingLaws.{first-finding, second-finding, second-missing}
 use Rattle.moves_means.proofs.ComesLaws.{regular-comes, steel-comes, comes-exclusive}
 
@@ -60,6 +66,40 @@ step-means b w s r fine fits below =
     ⊎-elim (regular-means b w s r fine fits below) (steel-means b w s r fine fits below)
     (fine-relays-wound b fine r below)
 
+-- ---- over the call
+
+-- what it tells, where it is known whether the relay is moved
+module _ (b : Board) (s : State) (r w : ℕ) (a : Moved) (moves : Moves b s r w a) where
+  call-moved : movable b s r ≡ given tt → toldMoved a ≡ (made s r (stepOf b s r w), given (stepOf b s r w))
+  call-moved taken =
+      moves ∙ sym (moving-moved b s r w (stepOf b s r w) (made s r (stepOf b s r w)) taken refl refl)
+
+  call-refused : (k p : ℕ) → movable b s r ≡ refused k p → toldMoved a ≡ (s, refused k p)
+  call-refused k p off = moves ∙ sym (moving-refused b s r w k p off)
+
+  refused-call : (k p : ℕ) → toldMoveAnswer (a .answer) ≡ refused k p → movable b s r ≡ refused k p
+  refused-call k p says = by-call (movable b s r) refl
+    where
+      by-call : (o : Outcome (Unit {0})) → movable b s r ≡ o → movable b s r ≡ refused k p
+      by-call (given tt) taken = absurd (refused-never k p (stepOf b s r w) (sym says ∙ λ i. call-moved taken i .1))
+      by-call (refused m q) off =
+          let same = sym (ap (λ (x : State × Outcome Move). x .1) (call-refused m q off)) ∙ says in
+          cc
+
+-- where 11 is given, neither 15 nor 14 holds, and the relay is not there
+movable-eleven : (b : Board) (s : State) (r : ℕ) → movable b s r ≡ refused noSuchWinding 0 → (boardFine b ≡ true)
+    × (stateFine (b .counts) s ≡ true) × (b .counts .relays ≤ r)
+unfolding movable
+movable-eleven b s r is =
+    let next = usable-next b s (unless (ltb r (b .counts .relays)) noSuchWinding 0) noSuchWinding 0 (λ e. omega arith)
+    (λ e. omega arith) is in
+    (next .0, next .1, past (ltb r (b .counts .relays)) refl (next .2))
+  where
+    past : (t : Bool) → ltb r (b .counts .relays) ≡ t → unless t noSuchWinding 0 ≡ refused noSuchWinding 0
+        → b .counts .relays ≤ r
+    past true below refusal = absurd (refused-never noSuchWinding 0 tt (sym refusal))
+    past false beyond refusal = ltb-false r (b .counts .relays) beyond
+
 -- ---- the theorems
 
 pub step-exactly : StepExactly
@@ -73,8 +113,7 @@ pub move-exactly : MoveExactly
 move-exactly b s r w a m moves taken =
     let fit = movable-given b s r taken in
     let exactly = step-exactly b w s r m (fit .0) (fit .1) (fit .2) in
-    let told : toldMoved a ≡ (made s r (stepOf b s r w), given (stepOf b s r w)) =
-    moves ∙ sym (moving-moved b s r w (stepOf b s r w) (made s r (stepOf b s r w)) taken refl refl) in
+    let told = call-moved b s r w a moves taken in
     let answers : toldMoveAnswer (a .answer) ≡ given (stepOf b s r w) = λ i. told i .1 in
     let leaves : a .state ≡ made s r (stepOf b s r w) = λ i. told i .0 in
     let same : toldMoveAnswer (a .answer) ≡ given m → stepOf b s r w ≡ m =
@@ -82,3 +121,10 @@ move-exactly b s r w a m moves taken =
       (λ says. exactly .0 (same says), λ comes. answers ∙ ap given (exactly .1 comes)),
       λ says. leaves ∙ ap (made s r) (same says),
     )
+
+pub move-eleven-exactly : MoveElevenExactly
+move-eleven-exactly b s r w a moves = (
+  λ says. movable-eleven b s r (refused-call b s r w a moves noSuchWinding 0 says),
+  λ (fine, fits, past) i.
+      call-refused b s r w a moves noSuchWinding 0 (movable-lacking b s r (usable-fine b s fine fits) past) i .1,
+)

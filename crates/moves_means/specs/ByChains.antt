@@ -14,6 +14,7 @@ use Prim.Native.Nat.{ℕ, _<_, _≤_}
 use mathlib.Core.Path.{_≡_}
 use mathlib.Core.Logic.{_⊎_, _↔_}
 use mathlib.Core.Bool.{true, false}
+use mathlib.Core.Option.{some}
 use Rattle.number.specs.Outcomes.{given}
 use Rattle.board.specs.declared.Board.{Board}
 use Rattle.board.specs.Parts.{partsOf}
@@ -26,8 +27,7 @@ use Rattle.judge.specs.RelayWindings.{windingOf}
 use Rattle.judge_means.specs.Exactness.{IsLive, effortOf}
 use Rattle.moves.specs.declared.Moved.{Moved}
 use Rattle.moves.specs.Steps.{Move, drew, dropped, rests, undecided, conflict}
-use Rattle.moves.specs.Moving.{movable, toldMoveAnswer}
-use Rattle.moves_means.specs.SingleMoves.{Moves}
+use Rattle.moves.specs.Moving.{movable, toldMoveAnswer, Moves}
 
 abbrev pub Undecided : Board → State → Winding → ℕ → Type 0
 Undecided b s e w = w < effortOf b s e
@@ -60,7 +60,7 @@ RegularByChains =
     → Moves b s r w a
     → movable b s r ≡ given tt
     → isRegular r (partsOf b)
-    → windingOf First r (partsOf b) ≡ given e
+    → windingOf First r (partsOf b) ≡ some e
     → toldMoveAnswer (a .answer) ≡ given m ↔ RegularComes b s r e m w
 
 abbrev pub SteelByChains : Type 0
@@ -69,6 +69,6 @@ SteelByChains =
     → Moves b s r w a
     → movable b s r ≡ given tt
     → isSteel r (partsOf b)
-    → windingOf First r (partsOf b) ≡ given e
-    → windingOf Second r (partsOf b) ≡ given f
+    → windingOf First r (partsOf b) ≡ some e
+    → windingOf Second r (partsOf b) ≡ some f
     → toldMoveAnswer (a .answer) ≡ given m ↔ SteelComes b s r e f m w

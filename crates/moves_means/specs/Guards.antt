@@ -7,11 +7,11 @@
 --     CurrentThrough b s r k    "∃ cn : Connection • cn ∈ actualConnections(r) ∧ currentCarrying(cn, n)", of winding k
 --                               of relay r: its first winding, regular or drawing, or its second, the dropping one
 --     CanDrawRegular b s r      000: can_draw, "~ drawn(r) ∧ (∃ cn : Connection • …)"; 002: canDrawRegularRelay,
---                               "neg(literal(id)), currentThroughRegularRelay(id, d)"
+--                               "T.neg(T.literal(id)), currentThroughRegularRelay(id, d)"
 --     CanDropRegular b s r      000: can_drop, "drawn(r) ∧ ~ (∃ cn : Connection • …)"; 002: canDropRegularRelay,
---                               "literal(id), noCurrentThroughRegularRelay(id, d)"
---     CanDrawSteel b s r        002: canDrawSteelRelay, "neg(literal(id)), drawingCurrentThroughSteelRelay(id, d)"
---     CanDropSteel b s r        002: canDropSteelRelay, "literal(id), droppingCurrentThroughSteelRelay(id, d)"
+--                               "T.literal(id), noCurrentThroughRegularRelay(id, d)"
+--     CanDrawSteel b s r        002: canDrawSteelRelay, "T.neg(T.literal(id)), drawingCurrentThroughSteelRelay(id, d)"
+--     CanDropSteel b s r        002: canDropSteelRelay, "T.literal(id), droppingCurrentThroughSteelRelay(id, d)"
 --     CanDraw, CanDrop b s r    relay r can be drawn, dropped: "rid ∈ dom relays(n)", and the guard of its sort holds
 --     Stable b s                000: is_stable, "∀ rid : RelayId • rid ∈ dom relays(n) ⇒ (~ can_draw(rid, n))
 --                               ∧ (~ can_drop(rid, n))", with the guards of both sorts

@@ -2,3 +2,4 @@
 pub mod Guards
 pub mod SingleMoves
 pub mod ByChains
+pub mod OneRelay

@@ -4,14 +4,17 @@
 --     Comes b s r m w      what the word m says of relay r in state s within the allowance w
 --     StepExactly          of a relay of a board and a state that are not refused: it comes to m exactly if `Comes`
 --                          holds of m
---     Moves b s r w a      `move_relay` was called on board b, state s, relay r and allowance w, and answered a
 --     MoveExactly          the call's word is m exactly if `Comes` holds of m, and the state is changed by drew and
 --                          dropped alone, and only in that relay
-use Prim.Native.Nat.{ℕ, _<_}
+--     MoveElevenExactly    the call refuses by 11, "no such relay", exactly if neither 15 nor 14 holds and the board
+--                          has no relay r
+use Prim.Native.Nat.{ℕ, _<_, _≤_}
 use mathlib.Core.Path.{_≡_}
 use mathlib.Core.Logic.{_↔_}
 use mathlib.Core.Bool.{true}
-use Rattle.number.specs.Outcomes.{given}
+use mathlib.Core.Option.{some}
+use Rattle.number.specs.Outcomes.{given, refused}
+use Rattle.number.specs.Refusals.{noSuchWinding}
 use Rattle.board.specs.declared.Board.{Board}
 use Rattle.board.specs.Parts.{partsOf}
 use Rattle.board.specs.Rules.{boardFine}
@@ -23,13 +26,13 @@ use Rattle.judge.specs.RelayWindings.{windingOf}
 use Rattle.judge_means.specs.Exactness.{effortOf}
 use Rattle.moves.specs.declared.Moved.{Moved}
 use Rattle.moves.specs.Steps.{Move, drew, dropped, rests, undecided, conflict, stepOf, made}
-use Rattle.moves.specs.Moving.{movable, moving, toldMoveAnswer, toldMoved}
+use Rattle.moves.specs.Moving.{movable, toldMoveAnswer, Moves}
 use Rattle.moves_means.specs.Guards.{CanDraw, CanDrop, BothCurrents}
 
 pub record NeedsMore (b : Board) (s : State) (r w : ℕ) : Type 0 where
   pub which : Which
   pub winding : Winding
-  pub its-winding : windingOf which r (partsOf b) ≡ given winding
+  pub its-winding : windingOf which r (partsOf b) ≡ some winding
   pub more : w < effortOf b s winding
 
 abbrev pub Comes : Board → State → ℕ → Move → ℕ → Type 0
@@ -47,9 +50,6 @@ StepExactly =
     → r < b .counts .relays
     → stepOf b s r w ≡ m ↔ Comes b s r m w
 
-abbrev pub Moves : Board → State → ℕ → ℕ → Moved → Type 0
-Moves b s r w a = toldMoved a ≡ moving b s r w
-
 abbrev pub MoveExactly : Type 0
 MoveExactly =
     (b : Board) (s : State) (r w : ℕ) (a : Moved) (m : Move)
@@ -57,3 +57,10 @@ MoveExactly =
     → movable b s r ≡ given tt
     → (toldMoveAnswer (a .answer) ≡ given m ↔ Comes b s r m w)
     × (toldMoveAnswer (a .answer) ≡ given m → a .state ≡ made s r m)
+
+abbrev pub MoveElevenExactly : Type 0
+MoveElevenExactly =
+    (b : Board) (s : State) (r w : ℕ) (a : Moved)
+    → Moves b s r w a
+    → toldMoveAnswer (a .answer) ≡ refused noSuchWinding 0
+    ↔ (boardFine b ≡ true) × (stateFine (b .counts) s ≡ true) × (b .counts .relays ≤ r)

@@ -1,6 +1,8 @@
 -- What conducts. Rule book, "Parts of a board", the table's last column, a line for each kind in its order.
---     conducts s k    a part of kind k conducts in state s
+--     conducts s k      a part of kind k conducts in state s
+--     Conducts k s r    promise: `conducts` of kind k in state s answers r
 -- A contact has no state of its own: it follows its relay (document 002).
+use mathlib.Core.Path.{_≡_}
 use mathlib.Core.Bool.{Bool, true, not}
 use Rattle.kinds.specs.declared.Kind.{Kind}
 use Rattle.kinds.specs.declared.Kind.the-variants.{Wire, Upper, Lower, Button, Regular, Drawing, Dropping}
@@ -15,3 +17,6 @@ conducts s (Button button) = isPushed s button
 conducts s (Regular relay) = true
 conducts s (Drawing relay) = true
 conducts s (Dropping relay) = true
+
+abbrev pub Conducts : Kind → State → Bool → Type 0
+Conducts k s r = r ≡ conducts s k

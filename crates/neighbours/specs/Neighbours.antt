@@ -8,6 +8,7 @@
 --     joining near x y      the sets `near` with y joined to x besides
 --     bridged s near p      the sets `near` with the ends of part p joined besides, in both directions, if p conducts
 --     gathered s near ps    the sets `near` with the ends of each of ps joined besides
+--     Neighbours b s r      promise: `neighbours` of board b in state s answers r
 -- `proofs/JoinedLaws.antt` shows of a board that breaks no rule: y is in the set of x exactly if `Joined` says so.
 use Prim.Native.Nat.{ℕ}
 use mathlib.Core.Path.{_≡_}
@@ -51,3 +52,6 @@ gathered s near (p ∷ ps) = gathered s (bridged s near p) ps
 
 unfoldable pub neighbours : Board → State → List ℕ
 neighbours b s = gathered s alone (partsOf b)
+
+abbrev pub Neighbours : Board → State → List ℕ → Type 0
+Neighbours b s r = r ≡ neighbours b s

@@ -1,7 +1,7 @@
 // Which parts of a board conduct in a state, and which terminals they join.
 ghost use mathlib.Core.Path.{_≡_};
-ghost use Rattle.neighbours.specs.Conduction.{conducts};
-ghost use Rattle.neighbours.specs.Neighbours.{joining, bridged, neighbours};
+ghost use Rattle.neighbours.specs.Conduction.{Conducts};
+ghost use Rattle.neighbours.specs.Neighbours.{joining, bridged, Neighbours};
 use board::Board;
 use board::MOST_PARTS;
 use board::MOST_TERMINALS;
@@ -11,7 +11,7 @@ use state::State;
 
 // Whether a part of this kind conducts: a line for each line of the rule book's table. A contact follows its relay.
 pub fn conducts(kind: Kind, state: State) -> bool
-    ensures { λ r. ⌜ r ≡ conducts state kind ⌝ }
+    ensures { λ r. ⌜ Conducts kind state r ⌝ }
 {
     match kind {
         Kind::Wire => true,
@@ -51,7 +51,7 @@ fn bridge(near: [u64; 64], part: Part, state: State) -> [u64; 64]
 
 // For each terminal the set of terminals that a conducting part joins to it.
 pub fn neighbours(board: Board, state: State) -> [u64; 64]
-    ensures { λ r. ⌜ r ≡ neighbours board state ⌝ }
+    ensures { λ r. ⌜ Neighbours board state r ⌝ }
 {
     let parts = board.parts;
     let count = board.counts.parts;

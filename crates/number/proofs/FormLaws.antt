@@ -26,6 +26,11 @@ pub encode-more : (k v : ℕ) → 128 ≤ v → encode (suc k) v ≡ (128 + v % 
 unfolding encode
 encode-more k v h = rw (le-ltb v 128 h)
 
+-- a byte too many is bad at once, even where the input ends there: 80 80 80 is 2 and not 1
+pub form-too-long : (s : List ℕ) → form zero s ≡ Bad
+unfolding form
+form-too-long s = refl
+
 pub form-last : (k b : ℕ) (s : List ℕ) → b < 128 → form (suc k) (b ∷ s) ≡ Got b 1
 unfolding form
 form-last k b s h = rw (lt-ltb b 128 h)
@@ -128,7 +133,7 @@ read-more k b s v n w m r f =
 
 pub form-read : (k : ℕ) (s : List ℕ) (v n : ℕ) → Bytes s → form k s ≡ Got v n → FormRead k s v n
 unfolding form
-form-read zero s v n h e = absurd (never-bad v n e)
+form-read zero s v n h e = absurd (never-bad v n (sym (form-too-long s) ∙ e))
 form-read (suc k) [] v n h e = absurd (never-ends v n e)
 form-read (suc k) (b ∷ s) v n h e =
     by-less b 128
@@ -150,7 +155,7 @@ within-more k b s n m e w = omega arith
 
 pub form-within : (k : ℕ) (s : List ℕ) (v n : ℕ) → form k s ≡ Got v n → FormWithin k s n
 unfolding form
-form-within zero s v n e = absurd (never-bad v n e)
+form-within zero s v n e = absurd (never-bad v n (sym (form-too-long s) ∙ e))
 form-within (suc k) [] v n e = absurd (never-ends v n e)
 form-within (suc k) (b ∷ s) v n e =
     by-less b 128
@@ -174,7 +179,7 @@ took-none b n s h e = omega (arith, simp length-take at (ap length e))
 -- two inputs that begin with the same n bytes have the same form there, if it takes n bytes
 pub form-no-further : (k : ℕ) (s t : List ℕ) (v n : ℕ) → take n s ≡ take n t → form k s ≡ Got v n → form k t ≡ Got v n
 unfolding form
-form-no-further zero s t v n p e = e
+form-no-further zero s t v n p e = absurd (never-bad v n (sym (form-too-long s) ∙ e))
 form-no-further (suc k) [] t v n p e = absurd (never-ends v n e)
 form-no-further (suc k) (b ∷ s) [] v n p e =
     absurd (took-none b n s (form-within (suc k) (b ∷ s) v n e .some) p)

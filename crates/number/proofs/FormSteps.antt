@@ -18,12 +18,12 @@ use Rattle.number.proofs.Form.{the-type}
 use Rattle.number.specs.Numbers.{below, form, encode}
 use Rattle.number.proofs.FormLaws.{FormWithin, Bytes-slice, Bytes-drop, below-got, form-last}
 use Rattle.number.proofs.FormLaws.{form-more, form-read, form-within, encode-some, encode-last, encode-more}
+use Rattle.number.proofs.FormLaws.{form-too-long}
 
 -- ---- reading
 
 pub form-none : (left : ℕ) (s : List ℕ) → left ≡ 0 → Bad ≡ form left s
-unfolding form
-form-none zero s e = refl
+form-none zero s e = sym (form-too-long s)
 form-none (suc k) s e = absurd (omega arith)
 
 pub form-ends : (left at : ℕ) (s : List ℕ) → (left ≡ 0 → ⊥) → length s ≤ at → Ends ≡ form left (drop at s)

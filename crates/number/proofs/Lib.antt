@@ -4,3 +4,4 @@ pub mod FormLaws
 pub mod FormSteps
 pub mod NumberLaws
 pub mod OutcomeLaws
+pub mod Told

@@ -23,7 +23,8 @@ use Rattle.number.specs.Outcomes.{Outcome, given, refused, Found, found}
 use Rattle.number.specs.Refusals.{inputEnds, badForm, bufferTooShort}
 use Rattle.number.specs.Numbers.{Bytes, form, placed, numberAt, encode, numberBytes, numberWriting, toldNumber}
 use Rattle.number.specs.Numbers.{toldNumberWritten, longest, largest}
-use Rattle.number.proofs.OutcomeLaws.{refused-never, given-injective, refusal-equal}
+use Rattle.number.proofs.OutcomeLaws.{refused-never, given-injective}
+use Rattle.number.proofs.Told.{Told}
 use Rattle.number.proofs.FormLaws.{FormRead, Bytes-slice, Bytes-drop, form-written, form-read, form-within}
 use Rattle.number.proofs.FormLaws.{form-no-further}
 use Rattle.number.proofs.Buffers.{take-drop}
@@ -220,17 +221,34 @@ pub number-stored : (v : ℕ) (out out′ : List ℕ) (at bytes : ℕ) → v ≤
 unfolding numberBytes
 number-stored v out out′ at bytes h a r e w = rw (e, w) (sym (number-written v out at h (omega arith)))
 
--- ---- an answer is known by what it tells
+-- ---- answers and what they tell
 
-pub told-number-injective : (x y : Number) → toldNumber x ≡ toldNumber y → x ≡ y
-told-number-injective (Read v n) (Read w m) e = cc (found-value v w n m e, found-next v w n m e)
-told-number-injective (Read v n) (Refused q) e = cc
-told-number-injective (Refused r) (Read w m) e = cc
-told-number-injective (Refused r) (Refused q) e = ap Refused (refusal-equal r q (cc) (cc))
+pub number-told : Told toldNumber
+number-told = record { untold = untold; back = back; onto = onto }
+  where
+    untold : Outcome (Found ℕ) → Number
+    untold (given f) = Read (f .value) (f .next)
+    untold (refused n p) = Refused (record { number = n; place = p })
 
-pub told-number-written-injective : (x y : NumberWritten) → toldNumberWritten x ≡ toldNumberWritten y → x ≡ y
-told-number-written-injective (Next n) (Next m) e = cc
-told-number-written-injective (Next n) (NumberWritten.Refused q) e = cc
-told-number-written-injective (NumberWritten.Refused r) (Next m) e = cc
-told-number-written-injective (NumberWritten.Refused r) (NumberWritten.Refused q) e =
-    ap NumberWritten.Refused (refusal-equal r q (cc) (cc))
+    back : (x : Number) → untold (toldNumber x) ≡ x
+    back (Read v n) = refl
+    back (Refused r) = refl
+
+    onto : (y : Outcome (Found ℕ)) → toldNumber (untold y) ≡ y
+    onto (given f) = refl
+    onto (refused n p) = refl
+
+pub number-written-told : Told toldNumberWritten
+number-written-told = record { untold = untold; back = back; onto = onto }
+  where
+    untold : Outcome ℕ → NumberWritten
+    untold (given n) = Next n
+    untold (refused n p) = NumberWritten.Refused (record { number = n; place = p })
+
+    back : (x : NumberWritten) → untold (toldNumberWritten x) ≡ x
+    back (Next n) = refl
+    back (NumberWritten.Refused r) = refl
+
+    onto : (y : Outcome ℕ) → toldNumberWritten (untold y) ≡ y
+    onto (given n) = refl
+    onto (refused n p) = refl

@@ -1,10 +1,9 @@
 -- Laws of outcomes one after the other: where a row of them gives something, each of them did. They take a `do` block
--- of the definitions apart. Also, when two refusals are one.
+-- of the definitions apart.
 use Prim.Native.Nat.{ℕ}
 use native.Mathlib.Omega.{arith}
 use mathlib.Core.Path.{_≡_, refl, sym, ap, _∙_}
 use mathlib.Core.Bool.{Bool, true, false}
-use Rattle.number.specs.declared.Refusal.{Refusal}
 use Rattle.number.specs.Outcomes.{Outcome, given, refused, _>>=_, _>>_, unless}
 
 pub refused-never : {A : Type 0} (k p : ℕ) (a : A) → refused k p ≡ given a → ⊥
@@ -12,14 +11,6 @@ refused-never k p a h = let z : _≡_ {A = ℕ} 0 1 = cc in omega arith
 
 pub given-injective : {A : Type 0} (a b : A) → given a ≡ given b → a ≡ b
 given-injective a b h = cc
-
-pub refusal-equal : (r q : Refusal) → r .number ≡ q .number → r .place ≡ q .place → r ≡ q
-refusal-equal r q e f = λ i. record { number = e i; place = f i }
-
--- what can be told back is known by what it tells
-pub inverse-injective : {A B : Type 0} (told : A → B) (untold : B → A) → ((x : A) → untold (told x) ≡ x)
-    → (x y : A) → told x ≡ told y → x ≡ y
-inverse-injective told untold back x y e = sym (back x) ∙ ap untold e ∙ back y
 
 -- what was handed on, that it was given, and what came of it
 pub record HandedOn {A B : Type 0} (o : Outcome A) (f : A → Outcome B) (b : B) : Type 0 where

@@ -1,19 +1,27 @@
 -- The file's numbers. Rule book, "The board file": "A number is in groups of seven bits, lowest group first, one byte a
 -- group; the top bit is set on every byte but the last. At most three bytes (2,097,151). Only the shortest form is
 -- allowed: the last byte is 0 only if it is the only byte."
---     longest, largest          the longest form, in bytes, and the largest value
---     Bytes s                   every element of s is a byte
---     below g f                 the group g below the rest of a number, whose form is f
---     form k s                  the number of at most k bytes that the bytes s begin with: got its value and length;
---                               ends, if s ends inside or before it; bad, if it is longer or not shortest
---     placed len at f           the form f at place `at` of an input of len bytes, as the rule book answers it
---     numberAt s at             the number at place `at` of the input s: its value and the next place, or 1 or 2
---     encode k v                the shortest form of v, in at most k bytes
---     numberBytes v             the bytes that v is written as
---     numberWriting v out at    what writing v into the buffer `out` at a place answers, and the buffer afterwards
---     toldNumber r              an answer to reading in the rule book's numbers
---     toldNumberWritten r       an answer to writing in the rule book's numbers
+--     longest, largest                the longest form, in bytes, and the largest value
+--     Bytes s                         every element of s is a byte
+--     below g f                       the group g below the rest of a number, whose form is f
+--     form k s                        the number of at most k bytes that the bytes s begin with: got its value and
+--                                     length; ends, if s ends inside or before it; bad, if it is longer or not shortest
+--     placed len at f                 the form f at place `at` of an input of len bytes, as the rule book answers it
+--     numberAt s at                   the number at place `at` of the input s: its value and the next place, or 1 or 2
+--     encode k v                      the shortest form of v, where it has at most k bytes; else the k lowest groups of
+--                                     v, each with its top bit set
+--     numberBytes v                   the bytes that v is written as: its shortest form; three bytes that are no number
+--                                     where v is above the largest, which is not written
+--     numberWriting v out at          what writing v into the buffer `out` at a place answers, and the buffer
+--                                     afterwards
+--     toldNumber r                    an answer to reading in the rule book's numbers
+--     toldNumberWritten r             an answer to writing in the rule book's numbers
+--     ReadsNumber s at r              promise: `read_number` at place `at` of the bytes s answers r
+--     NumberLength v r                promise: `number_length` of v answers r
+--     WritesNumber v out at r out′    promise: `write_number` of v into the buffer `out` at a place answers r, and
+--                                     leaves the buffer out′
 use Prim.Native.Nat.{ℕ, zero, suc, _+_, _-_, _*_, _/_, _%_, _<_}
+use mathlib.Core.Path.{_≡_}
 use mathlib.Core.Bool.{cond}
 use mathlib.Core.List.{List, [], _∷_}
 use lib.Dec.{ltb, leb}
@@ -82,3 +90,12 @@ toldNumber (Refused r) = refused (r .number) (r .place)
 abbrev pub toldNumberWritten : NumberWritten → Outcome ℕ
 toldNumberWritten (Next n) = given n
 toldNumberWritten (NumberWritten.Refused r) = refused (r .number) (r .place)
+
+abbrev pub ReadsNumber : List ℕ → ℕ → Number → Type 0
+ReadsNumber s at r = toldNumber r ≡ numberAt s at
+
+abbrev pub NumberLength : ℕ → ℕ → Type 0
+NumberLength v r = r ≡ length (numberBytes v)
+
+abbrev pub WritesNumber : ℕ → List ℕ → ℕ → NumberWritten → List ℕ → Type 0
+WritesNumber v out at r out′ = _≡_ {A = Outcome ℕ × List ℕ} (toldNumberWritten r, out′) (numberWriting v out at)

@@ -1,13 +1,10 @@
 // The file's numbers: groups of seven bits, lowest group first, one byte a group, in the shortest form only. Also the
 // numbers for no, which every crate above answers with.
 ghost use mathlib.Core.Path.{_≡_};
-ghost use mathlib.Core.List.{List};
-ghost use Prim.Native.Nat.{ℕ, _+_, _≤_, _<_, _^_};
+ghost use Prim.Native.Nat.{_+_, _≤_, _<_, _^_};
 ghost use lib.ListN.{length, drop};
 ghost use lib.Seq.{sets};
-ghost use Rattle.number.specs.Outcomes.{Outcome};
-ghost use Rattle.number.specs.Numbers.{longest, form, encode, numberAt, numberBytes, numberWriting};
-ghost use Rattle.number.specs.Numbers.{toldNumber, toldNumberWritten};
+ghost use Rattle.number.specs.Numbers.{longest, form, encode, ReadsNumber, NumberLength, WritesNumber};
 
 // The rule book's numbers for no, one for each line of its table.
 pub const INPUT_ENDS: u32 = 1;
@@ -99,7 +96,7 @@ fn read_form(s: &[u8], at: usize, left: usize) -> Form
 
 // The number at a place of a slice, or refusal 1 or 2.
 pub fn read_number(s: &[u8], at: usize) -> Number
-    ensures { λ r. ⌜ toldNumber r ≡ numberAt (now (s .entry)) at ⌝ }
+    ensures { λ r. ⌜ ReadsNumber (now (s .entry)) at r ⌝ }
 {
     match read_form(s, at, LONGEST) {
         Form::Got(value, bytes) => Number::Read(value, at + bytes),
@@ -114,9 +111,9 @@ pub fn read_number(s: &[u8], at: usize) -> Number
     }
 }
 
-// How many bytes a number takes.
+// How many bytes a number's shortest form has. What is above the largest number has none, and 3 is answered.
 pub fn number_length(value: u32) -> usize
-    ensures { λ r. ⌜ r ≡ length (numberBytes value) ⌝ }
+    ensures { λ r. ⌜ NumberLength value r ⌝ }
 {
     if value < 128 {
         1
@@ -142,8 +139,7 @@ fn write_groups(value: u32, left: usize, out: &mut [u8], at: usize)
 
 // Writes a number in its shortest form at a place: 2 if it is too large for a number, then 16 if it has no room there.
 pub fn write_number(value: u32, out: &mut [u8], at: usize) -> NumberWritten
-    ensures { λ r. ⌜ _≡_ {A = Outcome ℕ × List ℕ} (toldNumberWritten r, now (out .exit))
-        (numberWriting value (now (out .entry)) at) ⌝ }
+    ensures { λ r. ⌜ WritesNumber value (now (out .entry)) at r (now (out .exit)) ⌝ }
 {
     if LARGEST < value {
         return NumberWritten::Refused(Refusal {

@@ -7,7 +7,7 @@ use lib.Dec.{ltb}
 use Rattle.number.specs.declared.Refusal.{Refusal}
 use Rattle.number.specs.Outcomes.{Outcome, given, refused, unless, _>>_}
 use Rattle.number.specs.Refusals.{noSuchName, alreadySo, stateBeyondBoard, brokenBoard}
-use Rattle.number.proofs.OutcomeLaws.{refusal-equal}
+use Rattle.number.proofs.Told.{Told}
 use Rattle.board.specs.declared.Board.{Board}
 use Rattle.board.specs.Rules.{boardFine}
 use Rattle.state.specs.declared.State.{State}
@@ -63,15 +63,32 @@ release-refused b s t n m p = left-refused s _ t _ m p (pressable-place b s n _ 
 
 -- ---- the answer's cases are told apart
 
-told-press-injective : (x y : Press) → toldPress x ≡ toldPress y → x ≡ y
-told-press-injective Done Done e = refl
-told-press-injective Done (Refused q) e = cc
-told-press-injective (Refused r) Done e = cc
-told-press-injective (Refused r) (Refused q) e = ap Refused (refusal-equal r q (cc) (cc))
+press-told : Told toldPress
+press-told = record { untold = untold; back = back; onto = onto }
+  where
+    untold : Outcome (Unit {0}) → Press
+    untold (given u) = Done
+    untold (refused n p) = Refused (record { number = n; place = p })
 
-pub told-pressed-injective : (x y : Pressed) → toldPressed x ≡ toldPressed y → x ≡ y
-told-pressed-injective x y e =
-    λ i. record { state = e i .0; answer = told-press-injective (x .answer) (y .answer) (λ j. e j .1) i }
+    back : (x : Press) → untold (toldPress x) ≡ x
+    back Done = refl
+    back (Refused r) = refl
+
+    onto : (y : Outcome (Unit {0})) → toldPress (untold y) ≡ y
+    onto (given u) = refl
+    onto (refused n p) = refl
+
+pub pressed-told : Told toldPressed
+pressed-told = record { untold = untold; back = back; onto = onto }
+  where
+    untold : State × Outcome (Unit {0}) → Pressed
+    untold (s, o) = record { state = s; answer = press-told .untold o }
+
+    back : (x : Pressed) → untold (toldPressed x) ≡ x
+    back x = λ i. record { state = x .state; answer = press-told .back (x .answer) i }
+
+    onto : (y : State × Outcome (Unit {0})) → toldPressed (untold y) ≡ y
+    onto (s, o) = λ i. (s, press-told .onto o i)
 
 -- ---- one law for each way out of `leave`, and one for `push` and `release`
 

@@ -1,10 +1,13 @@
 -- Pushing and releasing a button. Rule book, calls: "15, 14, 13, 11, 7, 12, 16, those that apply"; "a refused call
 -- returns the number, place 0 and the state it was given".
---     pressable b s n already     what stands against setting button n of board b in state s, where `already` says
---                                 that it is so: refusals 15, 14, 7, 12
+--     pressable b s n already     what stands against setting button n of board b in state s, where `already` says that
+--                                 it is so: refusals 15, 14, 7, 12
 --     pushing, releasing b s n    the two calls
 --     toldPress, toldPressed      the answer's cases in the rule book's numbers
+--     Pushes b s n r              promise: `push` of button n of board b in state s answers r
+--     Releases b s n r            promise: `release`, likewise
 use Prim.Native.Nat.{ℕ}
+use mathlib.Core.Path.{_≡_}
 use mathlib.Core.Bool.{Bool, not}
 use lib.Dec.{ltb}
 use Rattle.number.specs.Outcomes.{Outcome, given, refused, _>>=_, _>>_, unless}
@@ -34,3 +37,9 @@ toldPress (Refused r) = refused (r .number) (r .place)
 
 abbrev pub toldPressed : Pressed → State × Outcome (Unit {0})
 toldPressed r = (r .state, toldPress (r .answer))
+
+abbrev pub Pushes : Board → State → ℕ → Pressed → Type 0
+Pushes b s n r = toldPressed r ≡ pushing b s n
+
+abbrev pub Releases : Board → State → ℕ → Pressed → Type 0
+Releases b s n r = toldPressed r ≡ releasing b s n

@@ -2,7 +2,7 @@
 ghost use mathlib.Core.Path.{_≡_};
 ghost use Rattle.number.specs.Outcomes.{refused};
 ghost use Rattle.state.specs.States.{left};
-ghost use Rattle.presses.specs.Presses.{pushing, releasing, pressable, toldPress, toldPressed};
+ghost use Rattle.presses.specs.Presses.{pressable, toldPress, toldPressed, Pushes, Releases};
 use board::Board;
 use number::ALREADY_SO;
 use number::BROKEN_BOARD;
@@ -66,7 +66,7 @@ fn leave(state: State, next: State, answer: Press) -> Pressed
 
 // Pushes a button.
 pub fn push(board: Board, state: State, button: u32) -> Pressed
-    ensures { λ r. ⌜ toldPressed r ≡ pushing board state button ⌝ }
+    ensures { λ r. ⌜ Pushes board state button r ⌝ }
 {
     let answer = pressable(board, state, button, bits::has(state.pushed, button));
     let next = state.push(button);
@@ -75,7 +75,7 @@ pub fn push(board: Board, state: State, button: u32) -> Pressed
 
 // Releases a button.
 pub fn release(board: Board, state: State, button: u32) -> Pressed
-    ensures { λ r. ⌜ toldPressed r ≡ releasing board state button ⌝ }
+    ensures { λ r. ⌜ Releases board state button r ⌝ }
 {
     let answer = pressable(board, state, button, !bits::has(state.pushed, button));
     let next = state.release(button);

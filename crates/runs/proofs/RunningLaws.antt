@@ -8,7 +8,8 @@ use lib.ListN.{length}
 use borrow.Author.Tests.{le-leb, lt-leb}
 use Rattle.number.specs.Outcomes.{Outcome, given, refused}
 use Rattle.number.specs.Refusals.{logTooLong}
-use Rattle.number.proofs.OutcomeLaws.{inverse-injective, both-given}
+use Rattle.number.proofs.OutcomeLaws.{both-given}
+use Rattle.number.proofs.Told.{Told, ToldLent}
 use Rattle.board.specs.declared.Board.{Board}
 use Rattle.board.specs.Rules.{boardFine}
 use Rattle.state.specs.declared.State.{State}
@@ -55,10 +56,10 @@ module _ (b : Board) (s : State) (log : List ℕ) where
       → x ≡ running b s log w
   running-ran w x is taken = is ∙ running-by w (given tt) taken
 
--- ---- the answer's cases are told apart
+-- ---- answers and what they tell
 
-pub told-ending-injective : (x y : code-ending.Ending) → toldEnding x ≡ toldEnding y → x ≡ y
-told-ending-injective = inverse-injective toldEnding untold back
+pub ending-told : Told toldEnding
+ending-told = record { untold = untold; back = back; onto = onto }
   where
     untold : Outcome Ending → code-ending.Ending
     untold (given idle) = Idle
@@ -74,14 +75,45 @@ told-ending-injective = inverse-injective toldEnding untold back
     back Conflict = refl
     back (Refused r) = refl
 
+    onto : (y : Outcome Ending) → toldEnding (untold y) ≡ y
+    onto (given idle) = refl
+    onto (given spent) = refl
+    onto (given undecided) = refl
+    onto (given conflict) = refl
+    onto (refused n p) = refl
+
 -- the answer and the log afterwards
-pub told-ran-injective : (x y : Ran) (k l : List ℕ) → toldRan x k ≡ toldRan y l → (x ≡ y) × (k ≡ l)
-told-ran-injective x y k l e = (
-  λ i. record {
-    word = told-ending-injective (x .word) (y .word) (λ j. e j .word) i;
-    moves = e i .moves;
-    state = e i .state;
-    relay = e i .relay;
-  },
-  λ i. e i .log,
-)
+pub ran-told : ToldLent toldRan
+ran-told = record { untold = untold; back = back; onto = onto }
+  where
+    untold : told.Ran → Ran × List ℕ
+    untold a = (
+      record {
+        word = ending-told .untold (a .word);
+        moves = a .moves;
+        state = a .state;
+        relay = a .relay;
+      },
+      a .log,
+    )
+
+    back : (x : Ran × List ℕ) → untold (toldRan (x .0) (x .1)) ≡ x
+    back (a, l) = λ i. (
+      record {
+        word = ending-told .back (a .word) i;
+        moves = a .moves;
+        state = a .state;
+        relay = a .relay;
+      },
+      l,
+    )
+
+    onto : (y : told.Ran) → toldRan (untold y .0) (untold y .1) ≡ y
+    onto y =
+        λ i. record {
+          word = ending-told .onto (y .word) i;
+          moves = y .moves;
+          state = y .state;
+          relay = y .relay;
+          log = y .log;
+        }

@@ -12,7 +12,10 @@
 --     ranOn b s log o w      what is told, by what stands against the run
 --     running b s log w      the call
 --     toldEnding, toldRan    the answer's cases in the rule book's words and numbers
+--     Runs b s log w a l     promise: `run` of board b from state s over the lent log, within the allowance w, answers
+--                            a and leaves the log as l
 use Prim.Native.Nat.{ℕ}
+use mathlib.Core.Path.{_≡_}
 use mathlib.Core.List.{List, _++_}
 use lib.Dec.{leb}
 use lib.ListN.{length, drop}
@@ -76,3 +79,6 @@ toldEnding (said.Refused r) = refused (r .number) (r .place)
 -- the answer r, with the log l afterwards
 abbrev pub toldRan : code-ran.Ran → List ℕ → Ran
 toldRan r l = record { word = toldEnding (r .word); moves = r .moves; state = r .state; relay = r .relay; log = l }
+
+abbrev pub Runs : Board → State → List ℕ → ℕ → code-ran.Ran → List ℕ → Type 0
+Runs b s log w a l = toldRan a l ≡ running b s log w

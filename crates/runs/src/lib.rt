@@ -2,7 +2,7 @@
 // until all rest, one is undecided or in conflict, or a move finds the log full.
 ghost use mathlib.Core.Path.{_≡_};
 ghost use mathlib.Core.List.{[]};
-ghost use Rattle.runs.specs.Running.{unrun, running, toldRan};
+ghost use Rattle.runs.specs.Running.{unrun, toldRan, Runs};
 use board::Board;
 use number::BROKEN_BOARD;
 use number::LOG_TOO_LONG;
@@ -49,7 +49,7 @@ fn refuse(state: State, number: u32) -> Ran
 
 // Runs a board from this state, each winding within the allowance, and logs each move.
 pub fn run(board: Board, state: State, log: &mut [u8], allowance: u32) -> Ran
-    ensures { λ r. ⌜ toldRan r (now (log .exit)) ≡ running board state (now (log .entry)) allowance ⌝ }
+    ensures { λ r. ⌜ Runs board state (now (log .entry)) allowance r (now (log .exit)) ⌝ }
 {
     if !board::check(board) {
         return refuse(state, BROKEN_BOARD);

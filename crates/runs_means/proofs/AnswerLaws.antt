@@ -9,9 +9,10 @@ use Rattle.board.specs.declared.Board.{Board}
 use Rattle.state.specs.declared.State.{State}
 use Rattle.runs.specs.declared.Ran.{Ran}
 use Rattle.runs.specs.Runs.{Run}
-use Rattle.runs.specs.Running.{ran, runOn, toldEnding, toldRan}
-use Rattle.runs.proofs.RunningLaws.{running-by, told-ran-injective}
-use Rattle.runs_means.specs.LongerRuns.{Runs, AcceptedRun, movesOf}
+use Rattle.runs.specs.Running.{ran, runOn, toldEnding, toldRan, Runs}
+use Rattle.number.proofs.Told.{told-lent-injective}
+use Rattle.runs.proofs.RunningLaws.{running-by, ran-told}
+use Rattle.runs_means.specs.LongerRuns.{AcceptedRun, movesOf}
 
 -- a call that is not refused tells of the run
 pub accepted-ran : (b : Board) (s : State) (w : ℕ) (log : List ℕ) (a : Ran) (l : List ℕ) → Runs b s log w a l
@@ -49,7 +50,7 @@ module _ (a : Ran) (l : List ℕ) (x : Run) (log : List ℕ) (told : toldRan a l
 pub answer-unique : (a c : Ran) (l k : List ℕ) (x : Run) (log long : List ℕ) → toldRan a l ≡ ran x log
     → toldRan c k ≡ ran x long → a ≡ c
 answer-unique a c l k x log long told also =
-    told-ran-injective a c [] [] (λ i. record {
+    told-lent-injective toldRan ran-told a c [] [] (λ i. record {
       word = (answer-word a l x log told ∙ sym (answer-word c k x long also)) i;
       moves = (answer-moves a l x log told ∙ sym (answer-moves c k x long also)) i;
       state = (answer-state a l x log told ∙ sym (answer-state c k x long also)) i;

@@ -29,8 +29,8 @@ use Rattle.moves_means.specs.SingleMoves.{Comes}
 use Rattle.runs.specs.declared.Ran.{Ran}
 use Rattle.runs.specs.Looks.{drawMark, Ending, idle, spent, undecided, conflict}
 use Rattle.runs.specs.Runs.{noRelay}
-use Rattle.runs.specs.Running.{toldEnding}
-use Rattle.runs_means.specs.LongerRuns.{Runs, AcceptedRun, movesOf}
+use Rattle.runs.specs.Running.{toldEnding, Runs}
+use Rattle.runs_means.specs.LongerRuns.{AcceptedRun, movesOf}
 
 abbrev pub Resting : Board → State → ℕ → ℕ → Type 0
 Resting b s k w = (q : ℕ) → q < k → Comes b s q step.rests w

@@ -1,8 +1,6 @@
 -- Demand 3, second half, over the call `runs::run`, whatever it answers under its promise: "of two runs from one board
 -- and state the more generous one starts with every move of the other". Where the other ended idle or in conflict, it
 -- ends with that word, in that same state, after the same moves.
---     Runs b s log w a l     `run` was called on board b, state s, the lent log `log` and allowance w, answered a and
---                            left the log as l
 --     AcceptedRun b s log    the call is not refused
 --     movesOf a l            the moves made: the log's bytes up to their number
 --     IsStart xs ys          ys starts with xs
@@ -20,10 +18,7 @@ use Rattle.board.specs.declared.Board.{Board}
 use Rattle.state.specs.declared.State.{State}
 use Rattle.runs.specs.declared.Ran.{Ran}
 use Rattle.runs.specs.declared.Ending.the-variants.{Idle, Conflict}
-use Rattle.runs.specs.Running.{runnable, running, toldRan}
-
-abbrev pub Runs : Board → State → List ℕ → ℕ → Ran → List ℕ → Type 0
-Runs b s log w a l = toldRan a l ≡ running b s log w
+use Rattle.runs.specs.Running.{runnable, Runs}
 
 abbrev pub AcceptedRun : Board → State → List ℕ → Type 0
 AcceptedRun b s log = runnable b s log ≡ given tt

@@ -14,7 +14,7 @@ use Rattle.bits.proofs.BoolLaws.{by-test}
 use Rattle.lists.specs.Members.{_∈_, All}
 use Rattle.lists.proofs.MemberLaws.{all-member, member-append-right}
 use Rattle.number.specs.Outcomes.{Outcome, given, refused}
-use Rattle.number.proofs.OutcomeLaws.{inverse-injective}
+use Rattle.number.proofs.Told.{Told, told-injective}
 use Rattle.board.specs.Rules.{mostTerminals}
 use Rattle.search.specs.declared.Winding.{Winding}
 use Rattle.search.specs.declared.Finding as code-finding
@@ -132,28 +132,59 @@ pub effort-some : (s : List ℕ → Bool) (c : List ℕ) (cs : List (List ℕ)) 
 unfolding effort
 effort-some s c cs = omega arith
 
--- ---- the answer's cases are told apart
+-- ---- answers and what they tell
 
--- the answer that tells a finding
-abbrev untold : Outcome Finding → code-finding.Finding
-untold (given live) = Live
-untold (given dead) = Dead
-untold (given undecided) = Undecided
-untold (refused n p) = Refused (record { number = n; place = p })
+finding-told : Told toldFinding
+finding-told = record { untold = untold; back = back; onto = onto }
+  where
+    untold : Outcome Finding → code-finding.Finding
+    untold (given live) = Live
+    untold (given dead) = Dead
+    untold (given undecided) = Undecided
+    untold (refused n p) = Refused (record { number = n; place = p })
 
-untold-told : (f : code-finding.Finding) → untold (toldFinding f) ≡ f
-untold-told Live = refl
-untold-told Dead = refl
-untold-told Undecided = refl
-untold-told (Refused r) = refl
+    back : (x : code-finding.Finding) → untold (toldFinding x) ≡ x
+    back Live = refl
+    back Dead = refl
+    back Undecided = refl
+    back (Refused r) = refl
+
+    onto : (y : Outcome Finding) → toldFinding (untold y) ≡ y
+    onto (given live) = refl
+    onto (given dead) = refl
+    onto (given undecided) = refl
+    onto (refused n p) = refl
+
+pub verdict-told : Told toldVerdict
+verdict-told = record { untold = untold; back = back; onto = onto }
+  where
+    untold : Verdict → code-verdict.Verdict
+    untold v =
+        record {
+          finding = finding-told .untold (v .finding);
+          effort = v .effort;
+          length = v .length;
+          terminals = v .places;
+        }
+
+    back : (x : code-verdict.Verdict) → untold (toldVerdict x) ≡ x
+    back x = λ i. record {
+      finding = finding-told .back (x .finding) i;
+      effort = x .effort;
+      length = x .length;
+      terminals = x .terminals;
+    }
+
+    onto : (y : Verdict) → toldVerdict (untold y) ≡ y
+    onto y = λ i. record {
+      finding = finding-told .onto (y .finding) i;
+      effort = y .effort;
+      length = y .length;
+      places = y .places;
+    }
 
 pub told-verdict-injective : (x y : code-verdict.Verdict) → toldVerdict x ≡ toldVerdict y → x ≡ y
-told-verdict-injective x y e = λ i. record {
-  finding = inverse-injective toldFinding untold untold-told (x .finding) (y .finding) (λ j. e j .finding) i;
-  effort = e i .effort;
-  length = e i .length;
-  terminals = e i .places;
-}
+told-verdict-injective = told-injective toldVerdict verdict-told
 
 -- ---- at most 64 terminals are looked at
 

@@ -9,13 +9,16 @@
 --     settled e f                 live with effort e and the chain shown, or dead with effort e
 --     unsettled w                 undecided: "undecided reports W"
 --     weighed s cs w              the verdict by the chains cs within the allowance w
---     verdictBy near t v w        the verdict on winding v within the allowance w, by all chains of t terminals
---                                 that `near` joins
+--     verdictBy near t v w        the verdict on winding v within the allowance w, by all chains of t terminals that
+--                                 `near` joins
 --     inSets t                    how many of t terminals the sets have: they are of 64, and of more terminals only
 --                                 those are looked at
 --     unanswered n p              "a refused judgement no verdict, effort 0 and length 0"
 --     toldFinding, toldVerdict    the answer's cases in the rule book's words and numbers
+--     Searches near t v w r       promise: `search` for winding v by the sets `near` of t terminals, within the
+--                                 allowance w, answers r
 use Prim.Native.Nat.{ℕ, suc, _-_}
+use mathlib.Core.Path.{_≡_}
 use mathlib.Core.Bool.{Bool, cond}
 use mathlib.Core.List.{List, [], _∷_, _++_}
 use mathlib.Core.Option.{Option, none, some}
@@ -78,3 +81,6 @@ toldFinding (Refused r) = refused (r .number) (r .place)
 abbrev pub toldVerdict : code-verdict.Verdict → Verdict
 toldVerdict v =
     record { finding = toldFinding (v .finding); effort = v .effort; length = v .length; places = v .terminals }
+
+abbrev pub Searches : List ℕ → ℕ → Winding → ℕ → code-verdict.Verdict → Type 0
+Searches near t v w r = toldVerdict r ≡ verdictBy near (inSets t) v w

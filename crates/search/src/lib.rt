@@ -1,7 +1,6 @@
 // Judging a winding by the sets of neighbours: the search goes through the chains in dictionary order until one shows
 // the winding, none is left, or the allowance is spent.
-ghost use mathlib.Core.Path.{_≡_};
-ghost use Rattle.search.specs.Verdicts.{verdictBy, inSets, toldVerdict};
+ghost use Rattle.search.specs.Verdicts.{Searches};
 use board::MOST_TERMINALS;
 use number::Refusal;
 
@@ -36,7 +35,7 @@ pub struct Verdict {
 // Judges the winding on a board of so many terminals, joined as these sets say. The sets are of 64 terminals: of more,
 // only those are looked at.
 pub fn search(near: &[u64; 64], terminals: u8, winding: Winding, allowance: u32) -> Verdict
-    ensures { λ r. ⌜ toldVerdict r ≡ verdictBy (now (near .entry)) (inSets terminals) winding allowance ⌝ }
+    ensures { λ r. ⌜ Searches (now (near .entry)) terminals winding allowance r ⌝ }
 {
     if MOST_TERMINALS < terminals {
         walk::from_plus(near, MOST_TERMINALS, winding, allowance)

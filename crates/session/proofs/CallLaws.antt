@@ -23,7 +23,8 @@ use Rattle.session.specs.HandingOut.{toldHanded}
 use Rattle.session.proofs.ToCome.{Advances}
 use Rattle.session.proofs.AheadLaws.{next-less}
 use Rattle.session.proofs.NextLineLaws.{next-line-short, next-line-room}
-use Rattle.session.proofs.ToldLaws.{told-hand-out-injective}
+use Rattle.number.proofs.Told.{told-injective}
+use Rattle.session.proofs.ToldLaws.{hand-out-told}
 
 pub over-never : (n : ℕ) → said.Over ≡ said.Written n → ⊥
 over-never n e = let z : _≡_ {A = ℕ} 0 1 = cc in omega arith
@@ -49,14 +50,16 @@ module _ (z : code-session.Session) (s out out′ : List ℕ) (r : code-handed.H
 
     pub call-over : nextOf (toldSession z) s ≡ (y, no-line) → r .answer ≡ said.Over
     unfolding handedBy
-    call-over is = told-hand-out-injective (r .answer) said.Over (ap (λ (h : Handed). h .answer) (next-by no-line is))
+    call-over is =
+        told-injective toldHandOut hand-out-told (r .answer) said.Over
+        (ap (λ (h : Handed). h .answer) (next-by no-line is))
 
     pub call-line : (l : Line) → nextOf (toldSession z) s ≡ (y, line l)
         → (r .answer ≡ said.Written (length (lineText l))) × (take (length (lineText l)) out′ ≡ lineText l)
     unfolding handedBy
     call-line l is =
         let told = next-by (line l) is in (
-          told-hand-out-injective (r .answer) (said.Written (length (lineText l)))
+          told-injective toldHandOut hand-out-told (r .answer) (said.Written (length (lineText l)))
               (ap (λ (h : Handed). h .answer) told),
           ap (λ (h : Handed). take (length (lineText l)) (h .out)) told ∙ take-append-seam (lineText l)
               (drop (length (lineText l)) out),

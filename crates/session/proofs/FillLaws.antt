@@ -27,7 +27,8 @@ use Rattle.session.specs.HandingOut.{toldHanded}
 use Rattle.session.specs.Filling.{fitsOn, fitting, filledBy, nextLines, behind, summed}
 use Rattle.session.proofs.NextLineLaws.{next-line-short, next-line-room}
 use Rattle.session.proofs.HandOut.{the-type}
-use Rattle.session.proofs.ToldLaws.{told-hand-out-injective}
+use Rattle.number.proofs.Told.{told-injective}
+use Rattle.session.proofs.ToldLaws.{hand-out-told}
 use Rattle.session.proofs.CallLaws.{over-never}
 use Rattle.session.proofs.FitLaws.{bytesOf, bytes-append, bytes-one, fitting-short, fitting-next}
 
@@ -302,7 +303,7 @@ module _ (z₀ : Session) (s out₀ : List ℕ) (z : Session) (out : List ℕ) (
         (came-to _ e)
     ends-by never (one-line y l room next e) =
         absurd (never (length (lineText l))
-        (told-hand-out-injective (r .answer) (said.Written (length (lineText l)))
+        (told-injective toldHandOut hand-out-told (r .answer) (said.Written (length (lineText l)))
         (ap (λ (h : Handed). h .answer) (came-to _ e))))
 
     pub line-ends : ((n : ℕ) → r .answer ≡ said.Written n → ⊥) → (a : code-handout.HandOut)

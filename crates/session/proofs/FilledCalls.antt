@@ -18,15 +18,16 @@ use Rattle.session.specs.declared.Handed as code-handed
 use Rattle.session.specs.declared.HandOut.the-variants as said
 use Rattle.session.specs.Carried.{Session, Coming, line, no-line, nextOf, toldSession}
 use Rattle.session.specs.HandingOut.{HandOut, written, nothing, Handed, toldHandOut, toldHanded}
-use Rattle.session.specs.Filling.{fitting, filledBy, Filled}
+use Rattle.session.specs.Filling.{fitting, filledBy, NextLines}
 use Rattle.session.proofs.ToCome.{Advances}
 use Rattle.session.proofs.AheadLaws.{line-never, none-same}
-use Rattle.session.proofs.ToldLaws.{told-hand-out-injective}
+use Rattle.number.proofs.Told.{told-injective}
+use Rattle.session.proofs.ToldLaws.{hand-out-told}
 use Rattle.session.proofs.FitLaws.{bytesOf, fitting-next, fitting-within}
 use Rattle.session.proofs.FillLaws.{line-is, line-not-nothing, lines-short, lines-room}
 
 module _ (z : code-session.Session) (s out out′ : List ℕ) (r : code-handed.Handed)
-    (called : Filled z s out r out′) where
+    (called : NextLines z s out r out′) where
   told-answer : (h : Handed) → toldHanded r out′ ≡ h → toldHandOut (r .answer) ≡ h .answer
   told-answer h is = ap (λ (x : Handed). x .answer) is
 
@@ -56,9 +57,12 @@ module _ (z : code-session.Session) (s out out′ : List ℕ) (r : code-handed.H
       → (r .answer ≡ said.Over) ⊎ ((n : ℕ) × (r .answer ≡ said.Written n))
   unfolding filledBy
   answers-by room (y, []) fits =
-      inl (told-hand-out-injective (r .answer) said.Over (told-answer _ (room-by room _ fits)))
+      inl (told-injective toldHandOut hand-out-told (r .answer) said.Over (told-answer _ (room-by room _ fits)))
   answers-by room (y, l ∷ ls) fits =
-      inr (_, told-hand-out-injective (r .answer) (said.Written _) (told-answer _ (room-by room _ fits)))
+      inr (
+        _,
+        told-injective toldHandOut hand-out-told (r .answer) (said.Written _) (told-answer _ (room-by room _ fits)),
+      )
 
   pub filled-answers : longestLine ≤ length out → (r .answer ≡ said.Over) ⊎ ((n : ℕ) × (r .answer ≡ said.Written n))
   filled-answers room = answers-by room (fitting (length out) (toldSession z) s (length out)) refl

@@ -1,9 +1,9 @@
--- Sessions and answers that are told alike are alike: each can be told back.
+-- Sessions, answers, and what they tell: each can be had from the other.
+use Prim.Native.Nat.{ℕ}
 use mathlib.Core.Path.{_≡_, refl}
 use mathlib.Core.List.{List}
-use Prim.Native.Nat.{ℕ}
 use Rattle.number.specs.Outcomes.{Outcome, given, refused}
-use Rattle.number.proofs.OutcomeLaws.{inverse-injective}
+use Rattle.number.proofs.Told.{Told, ToldLent}
 use Rattle.session.specs.declared.Stage.{Stage}
 use Rattle.session.specs.declared.Stage.the-variants as stage
 use Rattle.session.specs.declared.Session.{Session}
@@ -15,51 +15,101 @@ use Rattle.session.specs.Carried.{first, events, over, refusing, toldSta
 use Rattle.session.specs.HandingOut as handing-out
 use Rattle.session.specs.HandingOut.{written, nothing, toldHandOut, toldHanded}
 
-abbrev untoldStage : carried.Stage → Stage
-untoldStage first = stage.First
-untoldStage events = stage.Events
-untoldStage over = stage.Over
-untoldStage (refusing n p) = stage.Refused (record { number = n; place = p })
-
-told-stage-injective : (x y : Stage) → toldStage x ≡ toldStage y → x ≡ y
-told-stage-injective = inverse-injective toldStage untoldStage back
+stage-told : Told toldStage
+stage-told = record { untold = untold; back = back; onto = onto }
   where
-    back : (x : Stage) → untoldStage (toldStage x) ≡ x
+    untold : carried.Stage → Stage
+    untold first = stage.First
+    untold events = stage.Events
+    untold over = stage.Over
+    untold (refusing n p) = stage.Refused (record { number = n; place = p })
+
+    back : (x : Stage) → untold (toldStage x) ≡ x
     back stage.First = refl
     back stage.Events = refl
     back stage.Over = refl
     back (stage.Refused r) = refl
 
-pub told-session-injective : (x y : Session) → toldSession x ≡ toldSession y → x ≡ y
-told-session-injective x y e =
-    λ i. record {
-      board = e i .board;
-      allowance = e i .allowance;
-      state = e i .state;
-      event = e i .event;
-      place = e i .place;
-      stage = told-stage-injective (x .stage) (y .stage) (λ j. e j .stage) i;
-    }
+    onto : (y : carried.Stage) → toldStage (untold y) ≡ y
+    onto first = refl
+    onto events = refl
+    onto over = refl
+    onto (refusing n p) = refl
 
-abbrev untoldHandOut : Outcome handing-out.HandOut → HandOut
-untoldHandOut (given (written n)) = said.Written n
-untoldHandOut (given nothing) = said.Over
-untoldHandOut (refused n p) = said.Refused (record { number = n; place = p })
-
-pub told-hand-out-injective : (x y : HandOut) → toldHandOut x ≡ toldHandOut y → x ≡ y
-told-hand-out-injective = inverse-injective toldHandOut untoldHandOut back
+pub session-told : Told toldSession
+session-told = record { untold = untold; back = back; onto = onto }
   where
-    back : (x : HandOut) → untoldHandOut (toldHandOut x) ≡ x
+    untold : carried.Session → Session
+    untold z =
+        record {
+          board = z .board;
+          allowance = z .allowance;
+          state = z .state;
+          event = z .event;
+          place = z .place;
+          stage = stage-told .untold (z .stage);
+        }
+
+    back : (x : Session) → untold (toldSession x) ≡ x
+    back x =
+        λ i. record {
+          board = x .board;
+          allowance = x .allowance;
+          state = x .state;
+          event = x .event;
+          place = x .place;
+          stage = stage-told .back (x .stage) i;
+        }
+
+    onto : (y : carried.Session) → toldSession (untold y) ≡ y
+    onto y =
+        λ i. record {
+          board = y .board;
+          allowance = y .allowance;
+          state = y .state;
+          event = y .event;
+          place = y .place;
+          stage = stage-told .onto (y .stage) i;
+        }
+
+pub hand-out-told : Told toldHandOut
+hand-out-told = record { untold = untold; back = back; onto = onto }
+  where
+    untold : Outcome handing-out.HandOut → HandOut
+    untold (given (written n)) = said.Written n
+    untold (given nothing) = said.Over
+    untold (refused n p) = said.Refused (record { number = n; place = p })
+
+    back : (x : HandOut) → untold (toldHandOut x) ≡ x
     back (said.Written n) = refl
     back said.Over = refl
     back (said.Refused r) = refl
 
+    onto : (y : Outcome handing-out.HandOut) → toldHandOut (untold y) ≡ y
+    onto (given (written n)) = refl
+    onto (given nothing) = refl
+    onto (refused n p) = refl
+
 -- the answer and the buffer afterwards
-pub told-handed-injective : (x y : Handed) (o p : List ℕ) → toldHanded x o ≡ toldHanded y p → (x ≡ y) × (o ≡ p)
-told-handed-injective x y o p e = (
-  λ i. record {
-    session = told-session-injective (x .session) (y .session) (λ j. e j .session) i;
-    answer = told-hand-out-injective (x .answer) (y .answer) (λ j. e j .answer) i;
-  },
-  λ i. e i .out,
-)
+pub handed-told : ToldLent toldHanded
+handed-told = record { untold = untold; back = back; onto = onto }
+  where
+    untold : handing-out.Handed → Handed × List ℕ
+    untold h = (
+      record { session = session-told .untold (h .session); answer = hand-out-told .untold (h .answer) },
+      h .out,
+    )
+
+    back : (x : Handed × List ℕ) → untold (toldHanded (x .0) (x .1)) ≡ x
+    back (h, o) = λ i. (
+      record { session = session-told .back (h .session) i; answer = hand-out-told .back (h .answer) i },
+      o,
+    )
+
+    onto : (y : handing-out.Handed) → toldHanded (untold y .0) (untold y .1) ≡ y
+    onto y =
+        λ i. record {
+          session = session-told .onto (y .session) i;
+          answer = hand-out-told .onto (y .answer) i;
+          out = y .out;
+        }

@@ -1,22 +1,24 @@
 -- What a session carries from line to line, and its next line.
 --     Stage                       what the next line is: first, that of the first run; events, that of an event;
 --                                 refusing n p, that of the refusal n at p; over, none
---     Session                     the board and allowance, the state, the number and place of the next event, and
---                                 the stage
+--     Session                     the board and allowance, the state, the number and place of the next event, and the
+--                                 stage
 --     begunFrom o, beginning s    the session that begins with the head o; with the head of the input s
 --     Coming                      the next line, or none
 --     following e                 the number after e. It stands still past the longest input, where no session comes:
 --                                 each event takes a byte
 --     goesOn z x at               z tells x, and goes on with the event at a place
 --     closes z n p                z tells the refusal n at p, and is over
---     eventOf z o                 z makes the event o and tells of it; where its number is refused, z tells that and
---                                 is over
+--     eventOf z o                 z makes the event o and tells of it; where its number is refused, z tells that and is
+--                                 over
 --     nextEvent z s               z tells of the event at its place of the input s; at the input's end nothing comes
 --     nextAt k z s                the next line of z at the stage k
 --     nextOf z s                  the next line of z on the input s, and the session after it
 --     toldStage, toldSession      the code's session in these words
 --     toldComing, toldNext        the code's next line, and the session after it
+--     Begins s z                  promise: `begin` on the input s answers z
 use Prim.Native.Nat.{ℕ, suc}
+use mathlib.Core.Path.{_≡_}
 use mathlib.Core.Bool.{cond}
 use mathlib.Core.List.{List}
 use lib.Dec.{leb}
@@ -137,3 +139,6 @@ toldComing comes.Over = no-line
 
 abbrev pub toldNext : Next → Session × Coming
 toldNext r = (toldSession (r .session), toldComing (r .coming))
+
+abbrev pub Begins : List ℕ → code-session.Session → Type 0
+Begins s z = toldSession z ≡ beginning s

@@ -8,8 +8,8 @@
 --     filledBy x out            what is handed out where x are the lines that fit: their texts one after the other
 --     nextLines z s out         the call: 16 if the longest line has no room in the buffer, and then the session as
 --                               given. A line has at least one byte, so there are no more lines than bytes
---     Filled z s out r out′     the promise of `next_lines`: called on session z, input s and the lent buffer `out`, it
---                               answers r and leaves the buffer out′
+--     NextLines z s out r out′  promise: `next_lines` of session z on the input s, into the buffer `out`, answers r and
+--                               leaves the buffer out′
 --     behind x h                what is handed out behind the bytes x; only for the inner function `line_at`
 --     summed n o                the answer after lines of n bytes, where the next call came to o; only for the inner
 --                               function `sum_up`
@@ -49,8 +49,8 @@ nextLines z s out =
     (filledBy (fitting (length out) z s (length out)) out)
     (record { session = z; answer = refused bufferTooShort 0; out = out })
 
-abbrev pub Filled : code-session.Session → List ℕ → List ℕ → code-handed.Handed → List ℕ → Type 0
-Filled z s out r out′ = toldHanded r out′ ≡ nextLines (toldSession z) s out
+abbrev pub NextLines : code-session.Session → List ℕ → List ℕ → code-handed.Handed → List ℕ → Type 0
+NextLines z s out r out′ = toldHanded r out′ ≡ nextLines (toldSession z) s out
 
 abbrev pub behind : List ℕ → Handed → Handed
 behind x h = record { session = h .session; answer = h .answer; out = x ++ h .out }

@@ -4,10 +4,13 @@
 --     Handed                     the session to carry on, the answer, and the buffer afterwards
 --     writtenAnswer o            the answer where writing the line came to o; only for the inner function `answer_of`
 --     handedBy x out             what is handed out where x comes next
---     nextLine z s out           the call: 16 if the longest line has no room in the buffer, and then the session
---                                as given
+--     nextLine z s out           the call: 16 if the longest line has no room in the buffer, and then the session as
+--                                given
 --     toldHandOut, toldHanded    the answer's cases in these words and the rule book's numbers
+--     NextLine z s out r out′    promise: `next_line` of session z on the input s, into the buffer `out`, answers r and
+--                                leaves the buffer out′
 use Prim.Native.Nat.{ℕ}
+use mathlib.Core.Path.{_≡_}
 use mathlib.Core.Bool.{cond}
 use mathlib.Core.List.{List, _++_}
 use lib.Dec.{leb}
@@ -15,6 +18,7 @@ use lib.ListN.{length, drop}
 use Rattle.number.specs.Outcomes.{Outcome, given, refused}
 use Rattle.number.specs.Refusals.{bufferTooShort}
 use Rattle.lines.specs.Lines.{longestLine, lineText}
+use Rattle.session.specs.declared.Session as code-session
 use Rattle.session.specs.declared.HandOut as code-handout
 use Rattle.session.specs.declared.HandOut.the-variants as said
 use Rattle.session.specs.declared.Handed as code-handed
@@ -56,3 +60,6 @@ toldHandOut (said.Refused r) = refused (r .number) (r .place)
 -- the answer r, with the buffer o afterwards
 abbrev pub toldHanded : code-handed.Handed → List ℕ → Handed
 toldHanded r o = record { session = toldSession (r .session); answer = toldHandOut (r .answer); out = o }
+
+abbrev pub NextLine : code-session.Session → List ℕ → List ℕ → code-handed.Handed → List ℕ → Type 0
+NextLine z s out r out′ = toldHanded r out′ ≡ nextLine (toldSession z) s out

@@ -1,10 +1,10 @@
 // A session: a board, the allowance and events. `begin` reads what stands before the events, each `next_line` hands out
 // one line of the session into a lent buffer, and each `next_lines` as many as fit.
 ghost use mathlib.Core.Path.{_≡_};
-ghost use Rattle.session.specs.Carried.{beginning, toldSession};
+ghost use Rattle.session.specs.Carried.{Begins};
 ghost use Rattle.lines.specs.Lines.{toldLineWritten};
-ghost use Rattle.session.specs.HandingOut.{nextLine, writtenAnswer, toldHandOut, toldHanded};
-ghost use Rattle.session.specs.Filling.{Filled};
+ghost use Rattle.session.specs.HandingOut.{writtenAnswer, toldHandOut, NextLine};
+ghost use Rattle.session.specs.Filling.{NextLines};
 use board::Board;
 use board_reader::ReadAnswer;
 use lines::LONGEST_LINE;
@@ -52,7 +52,7 @@ pub struct Handed {
 
 // Reads the board and the allowance, and begins the session in a fresh state.
 pub fn begin(s: &[u8]) -> Session
-    ensures { λ r. ⌜ toldSession r ≡ beginning (now (s .entry)) ⌝ }
+    ensures { λ r. ⌜ Begins (now (s .entry)) r ⌝ }
 {
     let read = board_reader::read(s);
     let answer = read.answer;
@@ -77,8 +77,7 @@ fn answer_of(written: LineWritten) -> HandOut
 
 // Hands out the session's next line into a buffer: 16 if the longest line has no room there.
 pub fn next_line(session: Session, s: &[u8], out: &mut [u8]) -> Handed
-    ensures { λ r. ⌜ toldHanded r (now (out .exit))
-        ≡ nextLine (toldSession session) (now (s .entry)) (now (out .entry)) ⌝ }
+    ensures { λ r. ⌜ NextLine session (now (s .entry)) (now (out .entry)) r (now (out .exit)) ⌝ }
 {
     if out.len() < LONGEST_LINE {
         return Handed {
@@ -108,7 +107,7 @@ pub fn next_line(session: Session, s: &[u8], out: &mut [u8]) -> Handed
 // Hands out the session's next lines into a buffer, one after the other, as many as fit: a line comes as long as the
 // longest line has room in what is left. 16 if it has no room in the whole buffer.
 pub fn next_lines(session: Session, s: &[u8], out: &mut [u8]) -> Handed
-    ensures { λ r. ⌜ Filled session (now (s .entry)) (now (out .entry)) r (now (out .exit)) ⌝ }
+    ensures { λ r. ⌜ NextLines session (now (s .entry)) (now (out .entry)) r (now (out .exit)) ⌝ }
 {
     let mut session = session;
     let mut used = 0;

@@ -11,12 +11,12 @@ use Rattle.session.specs.declared.Session as code-session
 use Rattle.session.specs.declared.Handed as code-handed
 use Rattle.session.specs.declared.HandOut.the-variants.{Written, Over}
 use Rattle.session.specs.Sessions.{sessionLines, sessionText, lineTexts, printed}
-use Rattle.session.specs.Carried.{Session, Coming, line, no-line, nextOf, toldSession}
-use Rattle.session.specs.Filling.{fitting, Filled}
+use Rattle.session.specs.Carried.{Session, Coming, line, no-line, nextOf, toldSession, Begins}
+use Rattle.session.specs.Filling.{fitting, NextLines}
 use Rattle.session.proofs.AheadLaws.{line-never}
 use Rattle.session.proofs.FitLaws.{bytesOf, bytes-append, fitting-holds}
 use Rattle.session.proofs.FilledCalls.{came-lines, filled-answers, filled-over}
-use Rattle.session_means.specs.HandedLines.{Begun, Hands, HandsOut}
+use Rattle.session_means.specs.HandedLines.{Hands, HandsOut}
 use Rattle.session_means.specs.FilledBuffers.{HandsSome, BuffersFilled, AllFilled}
 use Rattle.session_means.proofs.StillLaws.{still, Numbered, still-next, numbered-next}
 use Rattle.session_means.proofs.BeginningLaws.{beginning-still, beginning-numbered}
@@ -38,8 +38,8 @@ module _ (s : List ℕ) where
       fitting-holds s (λ z n x. Numbered z s → First s z (x .1) (x .0)) (λ z n numbered. (refl, numbered))
       (λ z y l n x is room rest numbered. first-line z y (x .0) l (x .1) numbered is rest)
 
-  came-first : (z : code-session.Session) (out out′ : List ℕ) (r : code-handed.Handed) (called : Filled z s out r out′)
-      (n : ℕ) (is : r .answer ≡ Written n) → Numbered (toldSession z) s
+  came-first : (z : code-session.Session) (out out′ : List ℕ) (r : code-handed.Handed)
+      (called : NextLines z s out r out′) (n : ℕ) (is : r .answer ≡ Written n) → Numbered (toldSession z) s
       → First s (toldSession z) (came-lines z s out out′ r called n is .lines-told) (toldSession (r .session))
   came-first z out out′ r called n is numbered =
       rw (came-lines z s out out′ r called n is .lines-fit) at
@@ -51,7 +51,7 @@ module _ (s : List ℕ) where
     first : First s (toldSession z) lines (toldSession y)
     text : t ≡ bytesOf lines
 
-  hands-told : (z y : code-session.Session) (t : List ℕ) → Numbered (toldSession z) s → Hands Filled s z t y
+  hands-told : (z y : code-session.Session) (t : List ℕ) → Numbered (toldSession z) s → Hands NextLines s z t y
       → Told z t y
   hands-told z y t numbered h =
       let c = came-lines z s (h .out) (h .out′) (h .answer) (h .called) (h .bytes) (h .line) in
@@ -63,8 +63,8 @@ module _ (s : List ℕ) where
         text = sym (h .text) ∙ c .lines-text;
       }
 
-  told-on : (ts : List (List ℕ)) (z z′ : code-session.Session) → Numbered (toldSession z) s → HandsOut Filled s z ts z′
-      → Told z (printed ts) z′
+  told-on : (ts : List (List ℕ)) (z z′ : code-session.Session) → Numbered (toldSession z) s
+      → HandsOut NextLines s z ts z′ → Told z (printed ts) z′
   unfolding lineTexts printed
   told-on [] z z′ numbered same =
       record {
@@ -90,7 +90,7 @@ module _ (s : List ℕ) where
 
   -- ---- the next buffer
 
-  module _ (z : code-session.Session) (out out′ : List ℕ) (r : code-handed.Handed) (called : Filled z s out r out′)
+  module _ (z : code-session.Session) (out out′ : List ℕ) (r : code-handed.Handed) (called : NextLines z s out r out′)
       (numbered : Numbered (toldSession z) s) where
     -- where nothing comes, nothing is left
     none-by : (c : Session × Coming) → c .1 ≡ no-line → nextOf (toldSession z) s ≡ c → still (toldSession z) s ≡ []
@@ -115,8 +115,8 @@ module _ (s : List ℕ) where
 
 -- ---- from the beginning on
 
-module _ (s : List ℕ) (z z′ : code-session.Session) (ts : List (List ℕ)) (begun : Begun s z)
-    (handed : HandsOut Filled s z ts z′) where
+module _ (s : List ℕ) (z z′ : code-session.Session) (ts : List (List ℕ)) (begun : Begins s z)
+    (handed : HandsOut NextLines s z ts z′) where
   from-begin : Told s z (printed ts) z′
   from-begin =
       told-on s ts z z′ (subst (λ (x : Session). Numbered x s) (sym begun) (beginning-numbered s)) handed

@@ -14,8 +14,9 @@ use Rattle.session.specs.declared.Session.{Session}
 use Rattle.session.specs.declared.Handed.{Handed}
 use Rattle.session.specs.declared.HandOut.the-variants.{Written, Over}
 use Rattle.session.specs.Sessions.{sessionLines, lineTexts, printed, sessionText}
-use Rattle.session.specs.Filling.{Filled}
-use Rattle.session_means.specs.HandedLines.{Begun, HandsOut}
+use Rattle.session.specs.Carried.{Begins}
+use Rattle.session.specs.Filling.{NextLines}
+use Rattle.session_means.specs.HandedLines.{HandsOut}
 
 pub record SomeLines (l : Line) (ls : List Line) (r : Handed) (out′ : List ℕ) : Type 0 where
   pub more : List Line
@@ -34,20 +35,21 @@ pub record FilledSoFar (s : List ℕ) (z : Session) (t : List ℕ) : Type 0 wher
   pub rest : List Line
   pub all : sessionLines s ≡ told ++ rest
   pub text : t ≡ printed (lineTexts told)
-  pub next : (out out′ : List ℕ) (r : Handed) → longestLine ≤ length out → Filled z s out r out′ → HandsSome rest r out′
+  pub next : (out out′ : List ℕ) (r : Handed) → longestLine ≤ length out → NextLines z s out r out′
+      → HandsSome rest r out′
 
 abbrev pub BuffersFilled : Type 0
 BuffersFilled =
     (s : List ℕ) (z z′ : Session) (ts : List (List ℕ))
-    → Begun s z
-    → HandsOut Filled s z ts z′
+    → Begins s z
+    → HandsOut NextLines s z ts z′
     → FilledSoFar s z′ (printed ts)
 
 abbrev pub AllFilled : Type 0
 AllFilled =
     (s : List ℕ) (z z′ : Session) (ts : List (List ℕ)) (out out′ : List ℕ) (r : Handed)
-    → Begun s z
-    → HandsOut Filled s z ts z′
-    → Filled z′ s out r out′
+    → Begins s z
+    → HandsOut NextLines s z ts z′
+    → NextLines z′ s out r out′
     → r .answer ≡ Over
     → printed ts ≡ sessionText s

@@ -1,7 +1,4 @@
 -- The lines that are handed out one after the other are the session's lines, for every input.
---     Begun s z                z is what `begin` answers on the input s
---     Called z s out r out′    `next_line` was called on session z, input s and the lent buffer `out`, answered r and
---                              left the buffer out′
 --     Call                     what a call on a session, an input and a lent buffer promises of its answer and of the
 --                              buffer afterwards
 --     Hands C s z t y          a call that promises C hands out the text t on z, and leaves the session y to carry on
@@ -21,14 +18,8 @@ use Rattle.session.specs.declared.Session.{Session}
 use Rattle.session.specs.declared.Handed.{Handed}
 use Rattle.session.specs.declared.HandOut.the-variants.{Written, Over}
 use Rattle.session.specs.Sessions.{sessionLines, lineTexts}
-use Rattle.session.specs.Carried.{beginning, toldSession}
-use Rattle.session.specs.HandingOut.{nextLine, toldHanded}
-
-abbrev pub Begun : List ℕ → Session → Type 0
-Begun s z = toldSession z ≡ beginning s
-
-abbrev pub Called : Session → List ℕ → List ℕ → Handed → List ℕ → Type 0
-Called z s out r out′ = toldHanded r out′ ≡ nextLine (toldSession z) s out
+use Rattle.session.specs.Carried.{Begins}
+use Rattle.session.specs.HandingOut.{NextLine}
 
 abbrev pub Call : Type 1
 Call = Session → List ℕ → List ℕ → Handed → List ℕ → Type 0
@@ -54,17 +45,17 @@ Tells (t ∷ ts) r out′ = (r .answer ≡ Written (length t)) × (take (length 
 pub record SoFar (s : List ℕ) (z : Session) (ts : List (List ℕ)) : Type 0 where
   pub rest : List (List ℕ)
   pub all : lineTexts (sessionLines s) ≡ ts ++ rest
-  pub next : (out out′ : List ℕ) (r : Handed) → longestLine ≤ length out → Called z s out r out′ → Tells rest r out′
+  pub next : (out out′ : List ℕ) (r : Handed) → longestLine ≤ length out → NextLine z s out r out′ → Tells rest r out′
 
 abbrev pub LinesHandedOut : Type 0
 LinesHandedOut =
-    (s : List ℕ) (z z′ : Session) (ts : List (List ℕ)) → Begun s z → HandsOut Called s z ts z′ → SoFar s z′ ts
+    (s : List ℕ) (z z′ : Session) (ts : List (List ℕ)) → Begins s z → HandsOut NextLine s z ts z′ → SoFar s z′ ts
 
 abbrev pub AllHandedOut : Type 0
 AllHandedOut =
     (s : List ℕ) (z z′ : Session) (ts : List (List ℕ)) (out out′ : List ℕ) (r : Handed)
-    → Begun s z
-    → HandsOut Called s z ts z′
-    → Called z′ s out r out′
+    → Begins s z
+    → HandsOut NextLine s z ts z′
+    → NextLine z′ s out r out′
     → r .answer ≡ Over
     → ts ≡ lineTexts (sessionLines s)

@@ -3,13 +3,13 @@
 -- The crates above cite these, and nothing of the definitions' text. The last section is for the proof of `fits`.
 use Prim.Native.Nat.{ℕ, _<_}
 use mathlib.Core.Path.{_≡_, refl}
-use mathlib.Core.Bool.{true, false}
+use mathlib.Core.Bool.{Bool, true, false}
 use Rattle.bits.specs.Sets.{room, within}
 use Rattle.bits.proofs.SetLaws.{member-including-same, member-including-other, member-excluding-same}
 use Rattle.bits.proofs.SetLaws.{member-excluding-other, within-member, member-within, within-none, within-including}
 use Rattle.bits.proofs.SetLaws.{within-excluding}
 use Rattle.number.proofs.OutcomeLaws.{passed, asked}
-use Rattle.number.specs.Outcomes.{given, refused}
+use Rattle.number.specs.Outcomes.{Outcome, given, refused, _>>_, unless}
 use Rattle.number.specs.Refusals.{stateBeyondBoard, brokenBoard}
 use Rattle.board.specs.declared.Counts.{Counts}
 use Rattle.board.specs.declared.Board.{Board}
@@ -133,6 +133,19 @@ module _ (b : Board) (s : State) where
   usable-given taken =
       let board = passed (boardFine b) brokenBoard 0 _ tt taken in
       (board .0, asked (stateFine (b .counts) s) stateBeyondBoard 0 (board .1))
+
+  -- what is refused, and neither by 15 nor by 14, is refused by what is asked next
+  pub usable-next : {A : Type 0} (o : Outcome A) (k p : ℕ) → ¬ (brokenBoard ≡ k) → ¬ (stateBeyondBoard ≡ k)
+      → (usable b s >> o) ≡ refused k p
+      → (boardFine b ≡ true) × (stateFine (b .counts) s ≡ true) × (o ≡ refused k p)
+  unfolding usable
+  usable-next {A} o k p not-broken not-beyond is = by-tests (boardFine b) (stateFine (b .counts) s) is
+    where
+      by-tests : (t u : Bool) → (unless t brokenBoard 0 >> unless u stateBeyondBoard 0 >> o) ≡ refused k p
+          → (t ≡ true) × (u ≡ true) × (o ≡ refused k p)
+      by-tests false u e = absurd (not-broken cc)
+      by-tests true false e = absurd (not-beyond cc)
+      by-tests true true e = (refl, refl, e)
 
 -- ---- what the code's tests say, for the proof of `fits`
 

@@ -8,7 +8,14 @@
 --     usable b s                      what every call on a board and a state asks first: refusals 15, 14
 --     left s f o                      the state that a call leaves beside what it came to: f a where it gives a; "a
 --                                     refused call returns the number, place 0 and the state it was given"
+--     StateFresh r                    promise: `fresh` answers r
+--     StateDraws s n r                promise: `draw` of relay n in state s answers r
+--     StateDrops s n r                promise: `drop`, likewise
+--     StatePushes s n r               promise: `push` of button n in state s answers r
+--     StateReleases s n r             promise: `release`, likewise
+--     StateFits s c r                 promise: `fits` of state s and the counts c answers r
 use Prim.Native.Nat.{ℕ}
+use mathlib.Core.Path.{_≡_}
 use mathlib.Core.Bool.{Bool, _&&_}
 use Rattle.bits.specs.Sets.{member, including, excluding, within}
 use Rattle.number.specs.Outcomes.{Outcome, given, refused, _>>=_, _>>_, unless}
@@ -50,3 +57,21 @@ usable b s = do
 unfoldable pub left : {A : Type 0} → State → (A → State) → Outcome A → State × Outcome A
 left s f (given a) = (f a, given a)
 left s f (refused n p) = (s, refused n p)
+
+abbrev pub StateFresh : State → Type 0
+StateFresh r = r ≡ freshState
+
+abbrev pub StateDraws : State → ℕ → State → Type 0
+StateDraws s n r = r ≡ withDrawn s n
+
+abbrev pub StateDrops : State → ℕ → State → Type 0
+StateDrops s n r = r ≡ withDropped s n
+
+abbrev pub StatePushes : State → ℕ → State → Type 0
+StatePushes s n r = r ≡ withPushed s n
+
+abbrev pub StateReleases : State → ℕ → State → Type 0
+StateReleases s n r = r ≡ withReleased s n
+
+abbrev pub StateFits : State → Counts → Bool → Type 0
+StateFits s c r = r ≡ stateFine c s

@@ -1,6 +1,5 @@
 // The state of a board: which relays are drawn and which buttons are pushed, and its methods.
-ghost use mathlib.Core.Path.{_≡_};
-ghost use Rattle.state.specs.States.{freshState, withDrawn, withDropped, withPushed, withReleased, stateFine};
+ghost use Rattle.state.specs.States.{StateFresh, StateDraws, StateDrops, StatePushes, StateReleases, StateFits};
 use board::Counts;
 
 // The drawn relays and the pushed buttons, each a set in a word.
@@ -12,7 +11,7 @@ pub struct State {
 impl State {
     // A fresh state: no relay drawn, no button pushed.
     pub fn fresh() -> Self
-        ensures { λ r. ⌜ r ≡ freshState ⌝ }
+        ensures { λ r. ⌜ StateFresh r ⌝ }
     {
         State {
             drawn: 0,
@@ -22,7 +21,7 @@ impl State {
 
     // The state with a relay drawn.
     pub fn draw(self, relay: u32) -> Self
-        ensures { λ r. ⌜ r ≡ withDrawn self relay ⌝ }
+        ensures { λ r. ⌜ StateDraws self relay r ⌝ }
     {
         let drawn = bits::with(self.drawn, relay);
         State {
@@ -33,7 +32,7 @@ impl State {
 
     // The state with a relay dropped.
     pub fn drop(self, relay: u32) -> Self
-        ensures { λ r. ⌜ r ≡ withDropped self relay ⌝ }
+        ensures { λ r. ⌜ StateDrops self relay r ⌝ }
     {
         let drawn = bits::without(self.drawn, relay);
         State {
@@ -44,7 +43,7 @@ impl State {
 
     // The state with a button pushed.
     pub fn push(self, button: u32) -> Self
-        ensures { λ r. ⌜ r ≡ withPushed self button ⌝ }
+        ensures { λ r. ⌜ StatePushes self button r ⌝ }
     {
         let pushed = bits::with(self.pushed, button);
         State {
@@ -55,7 +54,7 @@ impl State {
 
     // The state with a button released.
     pub fn release(self, button: u32) -> Self
-        ensures { λ r. ⌜ r ≡ withReleased self button ⌝ }
+        ensures { λ r. ⌜ StateReleases self button r ⌝ }
     {
         let pushed = bits::without(self.pushed, button);
         State {
@@ -66,7 +65,7 @@ impl State {
 
     // Whether the state has no relay and no button that a board of these counts lacks; one that has is refused by 14.
     pub fn fits(self, counts: Counts) -> bool
-        ensures { λ r. ⌜ r ≡ stateFine counts self ⌝ }
+        ensures { λ r. ⌜ StateFits self counts r ⌝ }
     {
         if bits::all_below(self.drawn, bits::wide(counts.relays)) {
             bits::all_below(self.pushed, bits::wide(counts.buttons))

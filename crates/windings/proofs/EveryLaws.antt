@@ -4,11 +4,11 @@ use Prim.Native.Nat.{ℕ, zero, suc, _+_, _<_}
 use native.Mathlib.Nat.{eq-or-lt-of-le}
 use native.Mathlib.Numerals.{add-one}
 use native.Mathlib.Omega.{arith}
-use mathlib.Core.Path.{_≡_, refl, ap, _∙_}
-use mathlib.Core.Bool.{Bool, true, false, and-false}
+use mathlib.Core.Path.{_≡_, refl, sym, ap, _∙_}
+use mathlib.Core.Bool.{Bool, true, false, and-false, false≢true}
 use mathlib.Core.Logic.{⊎-elim}
 use Rattle.windings.specs.Windings.{every}
-use Rattle.bits.proofs.BoolLaws.{both-true, true-both}
+use Rattle.bits.proofs.BoolLaws.{both-true, true-both, by-test}
 
 pub every-none : (f : ℕ → Bool) → every 0 f ≡ true
 unfolding every
@@ -39,3 +39,12 @@ pub below-every : (f : ℕ → Bool) (n : ℕ) → ((i : ℕ) → i < n → f i 
 unfolding every
 below-every f zero all = refl
 below-every f (suc n) all = true-both (below-every f n (λ i below. all i (omega arith))) (all n (omega arith))
+
+-- a test that fails below a limit fails of some number
+pub every-lacks : (f : ℕ → Bool) (n : ℕ) → every n f ≡ false → (i : ℕ) × (i < n) × (f i ≡ false)
+unfolding every
+every-lacks f zero off = absurd (false≢true (sym off))
+every-lacks f (suc n) off =
+    by-test (every n f)
+    (λ before. (n, omega arith, rw before at off))
+    (λ lacks. let less = every-lacks f n lacks in (less .0, omega (arith, less .1), less .2))

@@ -1,13 +1,18 @@
 -- Which windings the parts so far gave each relay. Rule book: "Every relay is regular, with exactly one part of kind 4,
 -- or steel-core, with exactly one of kind 5 and one of kind 6."
---     noneWound          none yet
---     windingFree w k    8 does not hold of a part of kind k: its relay does not have this winding yet, and is not of
---                        the other sort
---     gained w k         the windings once a part of kind k has come too
---     wound w r          relay r lacks no winding
---     every n f          f holds of each number below n
---     complete n w       9 does not hold of n relays: none of them lacks a winding
+--     noneWound              none yet
+--     windingFree w k        8 does not hold of a part of kind k: its relay does not have this winding yet, and is not
+--                            of the other sort
+--     gained w k             the windings once a part of kind k has come too
+--     wound w r              relay r lacks no winding
+--     every n f              f holds of each number below n
+--     complete n w           9 does not hold of n relays: none of them lacks a winding
+--     WoundNone r            promise: `none` answers r
+--     WoundFree w k r        promise: `free`, of the windings w and a part of kind k, answers r
+--     WoundWith w k r        promise: `with`, likewise
+--     WoundComplete w n r    promise: `complete`, of the windings w and n relays, answers r
 use Prim.Native.Nat.{ℕ, zero, suc}
+use mathlib.Core.Path.{_≡_}
 use mathlib.Core.Bool.{Bool, true, not, _&&_, _||_}
 use Rattle.bits.specs.Sets.{member, including}
 use Rattle.kinds.specs.declared.Kind.{Kind}
@@ -44,3 +49,15 @@ every (suc n) f = every n f && f n
 
 unfoldable pub complete : ℕ → WoundSoFar → Bool
 complete n w = every n (wound w)
+
+abbrev pub WoundNone : WoundSoFar → Type 0
+WoundNone r = r ≡ noneWound
+
+abbrev pub WoundFree : WoundSoFar → Kind → Bool → Type 0
+WoundFree w k r = r ≡ windingFree w k
+
+abbrev pub WoundWith : WoundSoFar → Kind → WoundSoFar → Type 0
+WoundWith w k r = r ≡ gained w k
+
+abbrev pub WoundComplete : WoundSoFar → ℕ → Bool → Type 0
+WoundComplete w n r = r ≡ complete n w

@@ -2,7 +2,7 @@
 ghost use mathlib.Core.Path.{_≡_};
 ghost use mathlib.Core.Bool.{not, _&&_};
 ghost use Rattle.bits.specs.Sets.{member};
-ghost use Rattle.windings.specs.Windings.{noneWound, windingFree, gained, wound, complete};
+ghost use Rattle.windings.specs.Windings.{wound, WoundNone, WoundFree, WoundWith, WoundComplete};
 use kinds::Kind;
 
 // The relays that have a part of kind 4, of kind 5 and of kind 6.
@@ -26,7 +26,7 @@ fn in_neither(x: u64, y: u64, relay: u8) -> bool
 impl WoundSoFar {
     // What no part gave: nothing.
     pub fn none() -> Self
-        ensures { λ r. ⌜ r ≡ noneWound ⌝ }
+        ensures { λ r. ⌜ WoundNone r ⌝ }
     {
         WoundSoFar {
             regular: 0,
@@ -38,7 +38,7 @@ impl WoundSoFar {
     // Whether a part of this kind may come now (8): its relay does not have this winding yet, and is not of the
     // other sort.
     pub fn free(self, kind: Kind) -> bool
-        ensures { λ r. ⌜ r ≡ windingFree self kind ⌝ }
+        ensures { λ r. ⌜ WoundFree self kind r ⌝ }
     {
         match kind {
             Kind::Regular(relay) => {
@@ -59,7 +59,7 @@ impl WoundSoFar {
 
     // The windings once a part of this kind has come too.
     pub fn with(self, kind: Kind) -> Self
-        ensures { λ r. ⌜ r ≡ gained self kind ⌝ }
+        ensures { λ r. ⌜ WoundWith self kind r ⌝ }
     {
         let mut next = self;
         match kind {
@@ -101,7 +101,7 @@ impl WoundSoFar {
 
     // Whether none of the relays 0 to R - 1 lacks a winding (9).
     pub fn complete(self, relays: u8) -> bool
-        ensures { λ r. ⌜ r ≡ complete relays self ⌝ }
+        ensures { λ r. ⌜ WoundComplete self relays r ⌝ }
     {
         let end = bits::wide(relays);
         let mut relay = 0;

@@ -28,10 +28,10 @@ returns-3 c =
     let at-if1 = c .before .before .before .before .before .before .before in
     let at-check = at-if1 .before in
     c .refuse3 .ensures ∙ judging-by _ _ _ _ _ _
-    (winding-for-sought _ _ _ _ (sym (at-check .check .ensures) ∙ not-false _ (at-if1 .if1 .left))
+    (winding-for-sought _ _ _ _ _ (sym (at-check .check .ensures) ∙ not-false _ (at-if1 .if1 .left))
     (sym (c .before .before .before .before .before .fits2 .ensures)
     ∙ not-false _ (c .before .before .before .before .if2 .left))
-    ∙ told-nowhere _ _ (c .before .enum-told .given .1) (c .before .before .before .winding .ensures))
+    (told-nowhere _ _ (c .before .enum-told .given .1) (c .before .before .before .winding .ensures)))
 
 returns-4 : tie.Need-returns-4
 returns-4 c =

@@ -10,7 +10,7 @@ use Rattle.moves.proofs.StepLaws.{finding-missing, finding-verdict}
 returns : tie.Need-returns
 returns c =
     sym
-    (finding-missing _ _ _ _ _ _ _ (told-nowhere _ _ (c .enum-told .given .1) (c .before .before .winding .ensures)))
+    (finding-missing _ _ _ _ _ (told-nowhere _ _ (c .enum-told .given .1) (c .before .before .winding .ensures)))
 
 returns-2 : tie.Need-returns-2
 returns-2 c =

@@ -1,0 +1,204 @@
+-- A stage that is reached by the numbers of the file is one that the reader comes to: it has found each number before
+-- it. So a refusal there is the refusal of the board.
+--     PartsSoFar s c ps w at      the counts c and the parts ps were read, the parts give the windings w, and whatever
+--                                refuses a part from here on refuses the board
+--     KindRead, FirstRead, EndsRead
+--                                the kind of one more part, its first end, and its second that differs from it
+--     StageRead s f at           what was read where stage f is reached
+use Prim.Native.Nat.{ℕ, suc, _+_, _<_, _≤_}
+use native.Mathlib.Omega.{arith}
+use mathlib.Core.Path.{_≡_, refl, sym, ap, subst, _∙_}
+use mathlib.Core.Bool.{true}
+use mathlib.Core.List.{List, [], _∷_, _++_}
+use lib.Dec.{ltb}
+use lib.ListN.{length, length-append}
+use borrow.Author.Tests.{lt-ltb, ne-eqb}
+use Rattle.number.specs.Outcomes.{Outcome, refused, Found, found}
+use Rattle.number.specs.Refusals.{outOfRange, noSuchKind, noSuchTerminal, noSuchName}
+use Rattle.kinds.specs.Kinds.{buttonKind, lastKind, kindOf}
+use Rattle.windings.specs.declared.WoundSoFar.{WoundSoFar}
+use Rattle.windings.specs.Windings.{noneWound, windingFree, gained}
+use Rattle.board.specs.declared.Counts.{Counts}
+use Rattle.board.specs.declared.Part.{Part}
+use Rattle.board.specs.Parts.{mostParts}
+use Rattle.board.specs.Rules.{leastTerminals, mostTerminals, mostRelays, mostButtons, inRange, terminalFine, limitOf}
+use Rattle.board.proofs.TallyLaws.{Tallied, tallied-none, tallied-gained}
+use Rattle.board_reader.specs.Reading.{wanted, countsAt, nameAt, partAt, partsAt, boardFrom, boardAt}
+use Rattle.board_reader.proofs.FieldLaws.{wanted-passes, wanted-found, wanted-below, range-within, range-bounds}
+use Rattle.board_reader.proofs.FieldLaws.{name-wire, name-carried}
+use Rattle.board_reader.proofs.CountsLaws.{countAt, count-most, counts-read}
+use Rattle.board_reader.proofs.PartLaws.{part-found}
+use Rattle.file_means.specs.FileRefusals.{StandsAt, FileStage, at-T, at-R, at-B, at-C, at-part, at-first}
+use Rattle.file_means.specs.FileRefusals.{at-second, at-name, Reached, start, T-fine, R-fine, B-fine, C-fine}
+use Rattle.file_means.specs.FileRefusals.{kind-fine, first-fine, second-fine, wire-fine, button-fine, relay-fine}
+use Rattle.file_means.proofs.GivesLaws.{Gives}
+use Rattle.file_means.proofs.PartTrip.{PartIsFine, part-read}
+use Rattle.file_means.proofs.TakenLaws.{untaken-free}
+
+pub relay-limit : (c : Counts) (k : ℕ) → ¬ (k ≡ buttonKind) → limitOf c k ≡ c .relays
+relay-limit c k relay = rw (ne-eqb k buttonKind relay)
+
+pub record PartsSoFar (s : List ℕ) (c : Counts) (ps : List Part) (w : WoundSoFar) (at : ℕ) : Type 0 where
+  pub few : c .relays ≤ mostRelays
+  pub so-far : (r : ℕ) → Tallied w ps r
+  pub onward : (m n p : ℕ) → c .parts ≡ length ps + m → partsAt c m w s at ≡ refused n p → boardAt s ≡ refused n p
+
+pub record KindRead (s : List ℕ) (c : Counts) (ps : List Part) (w : WoundSoFar) (k at : ℕ) : Type 0 where
+  pub part-at : ℕ
+  pub before : PartsSoFar s c ps w part-at
+  pub one-more : length ps < c .parts
+  pub kind-read : wanted (inRange 0 lastKind) noSuchKind s part-at ≡ found k at
+
+pub record FirstRead (s : List ℕ) (c : Counts) (ps : List Part) (w : WoundSoFar) (k a at : ℕ) : Type 0 where
+  pub a-at : ℕ
+  pub before : KindRead s c ps w k a-at
+  pub a-read : wanted (terminalFine c) noSuchTerminal s a-at ≡ found a at
+
+pub record EndsRead (s : List ℕ) (c : Counts) (ps : List Part) (w : WoundSoFar) (k a b at : ℕ) : Type 0 where
+  pub b-at : ℕ
+  pub before : FirstRead s c ps w k a b-at
+  pub b-read : wanted (terminalFine c) noSuchTerminal s b-at ≡ found b at
+  pub apart : ¬ (a ≡ b)
+
+abbrev pub StageRead : List ℕ → FileStage → ℕ → Type 0
+StageRead s at-T at = at ≡ 0
+StageRead s (at-R t) at = countAt leastTerminals mostTerminals s 0 ≡ found t at
+StageRead s (at-B t r) at =
+    (p : ℕ) × (countAt leastTerminals mostTerminals s 0 ≡ found t p) × (countAt 0 mostRelays s p ≡ found r at)
+StageRead s (at-C t r b) at =
+    (p : ℕ) × (q : ℕ) × (countAt leastTerminals mostTerminals s 0 ≡ found t p) × (countAt 0 mostRelays s p ≡ found r q)
+    × (countAt 0 mostButtons s q ≡ found b at)
+StageRead s (at-part c ps) at = (w : WoundSoFar) × PartsSoFar s c ps w at
+StageRead s (at-first c ps k) at = (w : WoundSoFar) × KindRead s c ps w k at
+StageRead s (at-second c ps k a) at = (w : WoundSoFar) × FirstRead s c ps w k a at
+StageRead s (at-name c ps k a b) at = (w : WoundSoFar) × EndsRead s c ps w k a b at
+
+module _ (s : List ℕ) where
+  -- ---- the counts
+
+  count-found : (low high at v next : ℕ) → StandsAt s at v next → low ≤ v → v ≤ high
+      → countAt low high s at ≡ found v next
+  count-found low high at v next stands least most =
+      wanted-passes (inRange low high) outOfRange s at v next stands (range-within low high v least most)
+
+  counts-onward : (c : Counts) (at : ℕ) → c .relays ≤ mostRelays → found c at ≡ countsAt s
+      → PartsSoFar s c [] noneWound at
+  unfolding boardAt boardFrom
+  counts-onward c at few read =
+      record {
+        few = few;
+        so-far = tallied-none;
+        onward = λ m n p all e.
+            (let left : c .parts ≡ m = omega (arith, all) in
+            let parts = ap (λ (i : ℕ). partsAt c i noneWound s at) left ∙ e in
+            rw (← read, parts));
+      }
+
+  -- ---- one more part
+
+  part-onward : (c : Counts) (ps : List Part) (w : WoundSoFar) (at : ℕ) (q : Part) (next : ℕ) → PartsSoFar s c ps w at
+      → found q next ≡ partAt c w s at → PartsSoFar s c (ps ++ (q ∷ [])) (gained w (q .kind)) next
+  unfolding partsAt
+  part-onward c ps w at q next x read =
+      let fine : PartIsFine c w s at (record { value = q; next = next }) =
+      subst (λ (o : Outcome (Found Part)). Gives (PartIsFine c w s at) o) (sym read) (part-read c w s at) in
+      record {
+        few = x .few;
+        so-far = λ r. tallied-gained c (x .few) w ps q r (fine .fine) (x .so-far r);
+        onward = λ m n p all e. x .onward (suc m) n p (omega (arith, all, length-append ps (q ∷ [])))
+            (rw (← read, e));
+      }
+
+  module _ (c : Counts) (ps : List Part) (w : WoundSoFar) (k a b at : ℕ) (x : EndsRead s c ps w k a b at) where
+    named-onward : (v next : ℕ) → nameAt c k s at ≡ found v next → windingFree w (kindOf k v) ≡ true
+        → PartsSoFar s c (ps ++ (record { a = a; b = b; kind = kindOf k v } ∷ [])) (gained w (kindOf k v)) next
+    named-onward v next named free =
+        let y = x .before in
+        let z = y .before in
+        part-onward c ps w (z .part-at) (record { a = a; b = b; kind = kindOf k v }) next (z .before)
+        (part-found c w s (z .part-at) k (y .a-at) (z .kind-read) a (x .b-at) (y .a-read) b at (x .b-read) (x .apart)
+        v next named free)
+
+    pub kind-most : k ≤ lastKind
+    kind-most =
+        let z = x .before .before in
+        range-bounds 0 lastKind k (wanted-found (inRange 0 lastKind) noSuchKind s (z .part-at) k _ (z .kind-read) .0) .1
+
+  -- a relay or button below its limit
+  pub name-found : (c : Counts) (k at limit v next : ℕ) → ¬ (k ≡ 0) → limitOf c k ≡ limit → StandsAt s at v next
+      → v < limit → nameAt c k s at ≡ found v next
+  name-found c k at limit v next carries e stands below =
+      sym (name-carried c k s at carries) ∙ wanted-below noSuchName s at (limitOf c k) limit e
+      ∙ wanted-passes (λ n. ltb n limit) noSuchName s at v next stands (lt-ltb v limit below)
+
+  -- ---- every stage
+
+  pub reached-read : (f : FileStage) (at : ℕ) → Reached s f at → StageRead s f at
+  unfolding kindOf
+  reached-read f at start = refl
+  reached-read f at (T-fine {t} {p} x stands least most) =
+      let here : p ≡ 0 = reached-read at-T p x in
+      count-found leastTerminals mostTerminals 0 t at (rw here at stands) least most
+  reached-read f at (R-fine {t} {r} {p} x stands most) =
+      (p, reached-read (at-R t) p x, count-found 0 mostRelays p r at stands (omega arith) most)
+  reached-read f at (B-fine {t} {r} {b} {p} x stands most) =
+      let before = reached-read (at-B t r) p x in
+      (before .0, p, before .1, before .2, count-found 0 mostButtons p b at stands (omega arith) most)
+  reached-read f at (C-fine {t} {r} {b} {c} {p} x stands most) =
+      let before = reached-read (at-C t r b) p x in
+      let counts : Counts = record { terminals = t; relays = r; buttons = b; parts = c } in
+      let few = count-most 0 mostRelays s (before .0) r (before .1) (before .3) in (
+        noneWound,
+        counts-onward counts at few
+            (counts-read s t (before .0) r (before .1) b p c at (before .2) (before .3) (before .4)
+            (count-found 0 mostParts p c at stands (omega arith) most)),
+      )
+  reached-read f at (kind-fine {c} {ps} {k} {p} x more stands most) =
+      let before = reached-read (at-part c ps) p x in (
+        before .0,
+        record {
+          part-at = p;
+          before = before .1;
+          one-more = more;
+          kind-read = wanted-passes (inRange 0 lastKind) noSuchKind s p k at stands
+              (range-within 0 lastKind k (omega arith) most);
+        },
+      )
+  reached-read f at (first-fine {c} {ps} {k} {a} {p} x stands below) =
+      let before = reached-read (at-first c ps k) p x in (
+        before .0,
+        record {
+          a-at = p;
+          before = before .1;
+          a-read = wanted-passes (terminalFine c) noSuchTerminal s p a at stands (lt-ltb a (c .terminals) below);
+        },
+      )
+  reached-read f at (second-fine {c} {ps} {k} {a} {b} {p} x stands below apart) =
+      let before = reached-read (at-second c ps k a) p x in (
+        before .0,
+        record {
+          b-at = p;
+          before = before .1;
+          b-read = wanted-passes (terminalFine c) noSuchTerminal s p b at stands (lt-ltb b (c .terminals) below);
+          apart = apart;
+        },
+      )
+  reached-read f at (wire-fine {c} {ps} {a} {b} x) =
+      let before = reached-read (at-name c ps 0 a b) at x in
+      let w = before .0 in
+      (w, named-onward c ps w 0 a b at (before .1) 0 at (sym (name-wire c 0 s at refl)) refl)
+  reached-read f at (button-fine {c} {ps} {a} {b} {v} {p} x stands below) =
+      let before = reached-read (at-name c ps buttonKind a b) p x in
+      let w = before .0 in
+      let named = name-found c buttonKind p (c .buttons) v at (λ e. omega (arith, e)) refl stands below in
+      (w, named-onward c ps w buttonKind a b p (before .1) v at named refl)
+  reached-read f at (relay-fine {c} {ps} {k} {a} {b} {v} {p} x carries relay stands below untaken) =
+      let before = reached-read (at-name c ps k a b) p x in
+      let w = before .0 in
+      let named = name-found c k p (c .relays) v at carries (relay-limit c k relay) stands below in
+      let most = kind-most c ps w k a b p (before .1) in
+      let so-far = before .1 .before .before .before .so-far v in (
+        gained w (kindOf k v),
+        named-onward c ps w k a b p (before .1) v at named
+            (untaken-free w ps v so-far k most untaken),
+      )

@@ -1,0 +1,59 @@
+-- The theorem of specs/OneRelay.antt: what a word says of the relay before the move is in its guard (`Comes`), and what
+-- `made` leaves are the laws of the state.
+use Prim.Native.Nat.{ℕ, _<_}
+use native.Mathlib.Omega.{arith}
+use mathlib.Core.Path.{_≡_, refl, sym, subst}
+use mathlib.Core.Logic.{inl, inr}
+use mathlib.Core.Bool.{true, false}
+use Rattle.bits.specs.Sets.{room}
+use Rattle.number.specs.Outcomes.{Outcome, given, refused}
+use Rattle.board.specs.declared.Board.{Board}
+use Rattle.board.proofs.FineLaws.{fine-range}
+use Rattle.state.specs.declared.State.{State}
+use Rattle.state.specs.States.{isDrawn}
+use Rattle.state.proofs.StateLaws.{drawn-draw, drawn-drop}
+use Rattle.moves.specs.Steps.{Move, drew, dropped, rests, undecided, conflict, stepOf, made}
+use Rattle.moves.specs.Moving.{movable, moving}
+use Rattle.moves.proofs.StepLaws.{made-other, made-pushed}
+use Rattle.moves.proofs.MovingLaws.{movable-given, moving-refused, moving-moved}
+use Rattle.moves_means.specs.Guards.{CanDraw, CanDrop}
+use Rattle.moves_means.specs.SingleMoves.{Comes}
+use Rattle.moves_means.specs.OneRelay.{ElseAsBefore, Changes, ChangesOneRelay}
+use Rattle.moves_means.proofs.SingleMoves.{step-means}
+
+module _ (b : Board) (s : State) (r : ℕ) where
+  -- what can be drawn is dropped, and what can be dropped is drawn
+  can-draw-dropped : CanDraw b s r → isDrawn s r ≡ false
+  can-draw-dropped (below, inl (regular, can)) = can .0
+  can-draw-dropped (below, inr (steel, can)) = can .0
+
+  can-drop-drawn : CanDrop b s r → isDrawn s r ≡ true
+  can-drop-drawn (below, inl (regular, can)) = can .0
+  can-drop-drawn (below, inr (steel, can)) = can .0
+
+  made-else : (m : Move) → ElseAsBefore s r (made s r m)
+  made-else m = record { relays = made-other s r m; buttons = made-pushed s r m }
+
+  made-changes : (m : Move) (w : ℕ) → r < room → Comes b s r m w → Changes s r (given m) (made s r m)
+  made-changes drew w fits comes = (can-draw-dropped (comes .2), drawn-draw s r fits, made-else drew)
+  made-changes dropped w fits comes = (can-drop-drawn (comes .2), drawn-drop s r, made-else dropped)
+  made-changes rests w fits comes = refl
+  made-changes undecided w fits comes = refl
+  made-changes conflict w fits comes = refl
+
+  -- what the call leaves, by what stands against it
+  moving-changes : (w : ℕ) (o : Outcome (Unit {0})) → movable b s r ≡ o
+      → Changes s r (moving b s r w .1) (moving b s r w .0)
+  moving-changes w (given u) taken =
+      let fit = movable-given b s r taken in
+      let few = fine-range b (fit .0) .most-relays in
+      subst (λ (x : State × Outcome Move). Changes s r (x .1) (x .0))
+      (moving-moved b s r w (stepOf b s r w) (made s r (stepOf b s r w)) taken refl refl)
+      (made-changes (stepOf b s r w) w (omega (arith, fit .2, few)) (step-means b w s r (fit .0) (fit .1) (fit .2)))
+  moving-changes w (refused n p) off =
+      subst (λ (x : State × Outcome Move). Changes s r (x .1) (x .0)) (moving-refused b s r w n p off) refl
+
+pub changes-one-relay : ChangesOneRelay
+changes-one-relay b s r w a moves =
+    subst (λ (x : State × Outcome Move). Changes s r (x .1) (x .0)) (sym moves)
+    (moving-changes b s r w (movable b s r) refl)

@@ -1,0 +1,367 @@
+//! The calls, each with what it is handed: a board, a state, and what is asked.
+//!
+//! Renders, of "Numbers for no", lines 11, 13, 14 and 15 in the order of calls
+//! (15, 14, 13, 11), and what a refused call returns. What is handed in may
+//! break any rule; what was accepted is a `Board` and a `State`.
+
+use crate::board::{Board, Ends, Kind, Part, State, Windings};
+use crate::board::{MOST_BUTTONS, MOST_PARTS, MOST_RELAYS, MOST_TERMINALS};
+use crate::judge::{judge, Judgement};
+use crate::moves::{move_relay, Answer};
+use crate::runs::{run, RunAnswer, Word, NO_RELAY};
+
+/// The longest log that a run takes.
+const LONGEST_LOG: usize = 65_536;
+
+/// A number for no; the place of a refused call is always 0.
+pub type No = u8;
+
+/// A board that is handed in: its counts, with C as `count`, and its parts, of
+/// which the first C count.
+#[derive(Clone, Debug, PartialEq, Eq)]
+pub struct HandedBoard {
+    pub terminals: usize,
+    pub relays: usize,
+    pub buttons: usize,
+    pub count: usize,
+    pub parts: Vec<Part>,
+}
+
+/// A state that is handed in: the drawn relays and the pushed buttons, each as
+/// the sum of 2 to its number.
+#[derive(Clone, Copy, Debug, PartialEq, Eq)]
+pub struct HandedState {
+    pub drawn: u64,
+    pub pushed: u64,
+}
+
+/// What a move answers: the word or the number for no, and the state.
+pub type Moved = (Result<Answer, No>, HandedState);
+
+/// What a run answers.
+#[derive(Clone, Copy, Debug, PartialEq, Eq)]
+pub struct Ran {
+    pub word: Result<Word, No>,
+    pub moves: usize,
+    pub state: HandedState,
+    pub relay: u8,
+}
+
+impl HandedBoard {
+    /// The board, if it breaks no rule of refusals 3 to 9; else 15.
+    fn accepted(&self) -> Result<Board, No> {
+        let in_range = (2..=MOST_TERMINALS).contains(&self.terminals)
+            && self.relays <= MOST_RELAYS
+            && self.buttons <= MOST_BUTTONS
+            && self.count <= MOST_PARTS;
+        if !in_range {
+            return Err(15);
+        }
+        let parts = self.parts[..self.count].to_vec();
+        let is_fine = parts.iter().all(|part| self.fits(part))
+            && (0..self.relays).all(|relay| is_wound(&parts, relay));
+        if !is_fine {
+            return Err(15);
+        }
+        Ok(Board {
+            terminals: self.terminals,
+            relays: self.relays,
+            buttons: self.buttons,
+            parts,
+        })
+    }
+
+    /// Whether a part joins two different terminals of the board and names a
+    /// relay or button of it: what 5, 6 and 7 ask.
+    fn fits(&self, part: &Part) -> bool {
+        let (a, b) = part.ends;
+        let is_named = match part.kind {
+            Kind::Wire => true,
+            Kind::Button(button) => button < self.buttons,
+            Kind::UpperContact(relay)
+            | Kind::LowerContact(relay)
+            | Kind::RegularWinding(relay)
+            | Kind::DrawingWinding(relay)
+            | Kind::DroppingWinding(relay) => relay < self.relays,
+        };
+        a < self.terminals && b < self.terminals && a != b && is_named
+    }
+}
+
+/// Whether a relay is regular, with exactly one part of kind 4, or steel-core,
+/// with exactly one of kind 5 and one of kind 6: what 8 and 9 ask.
+fn is_wound(parts: &[Part], relay: usize) -> bool {
+    let count = |kind| parts.iter().filter(|part| part.kind == kind).count();
+    let regular = count(Kind::RegularWinding(relay));
+    let drawing = count(Kind::DrawingWinding(relay));
+    let dropping = count(Kind::DroppingWinding(relay));
+    matches!((regular, drawing, dropping), (1, 0, 0) | (0, 1, 1))
+}
+
+impl HandedState {
+    /// The state, if the board has its relays and buttons; else 14.
+    fn accepted(self, board: &Board) -> Result<State, No> {
+        if self.drawn >> board.relays != 0 || self.pushed >> board.buttons != 0 {
+            return Err(14);
+        }
+        let is_in = |set: u64| move |&number: &usize| set >> number & 1 == 1;
+        let drawn = (0..board.relays).filter(is_in(self.drawn));
+        let pushed = (0..board.buttons).filter(is_in(self.pushed));
+        let state = drawn.fold(State::fresh(), State::draw);
+        Ok(pushed.fold(state, State::push))
+    }
+
+    /// The state as it is handed back.
+    fn of(state: &State) -> Self {
+        let pushed = (0..MOST_BUTTONS).filter(|&button| state.is_pushed(button));
+        HandedState {
+            drawn: state.drawn_sum(),
+            pushed: pushed.map(|button| 1 << button).sum(),
+        }
+    }
+}
+
+/// The board and the state, if both are accepted: 15, then 14.
+fn accepted(board: &HandedBoard, state: HandedState) -> Result<(Board, State), No> {
+    let board = board.accepted()?;
+    let state = state.accepted(&board)?;
+    Ok((board, state))
+}
+
+/// The ends of a relay's first or second winding; 11 where there is none.
+fn winding(board: &Board, relay: u32, is_second: bool) -> Result<Ends, No> {
+    match (board.windings(relay as usize), is_second) {
+        (Some(Windings::Regular(ends)), false) => Ok(ends),
+        (Some(Windings::Steel { drawing, .. }), false) => Ok(drawing),
+        (Some(Windings::Steel { dropping, .. }), true) => Ok(dropping),
+        (Some(Windings::Regular(_)), true) | (None, _) => Err(11),
+    }
+}
+
+/// Judges a relay's first or second winding with the allowance `w`.
+pub fn judge_call(
+    board: &HandedBoard,
+    state: HandedState,
+    (relay, is_second): (u32, bool),
+    w: u32,
+) -> Result<Judgement, No> {
+    let (board, state) = accepted(board, state)?;
+    let ends = winding(&board, relay, is_second)?;
+    Ok(judge(&board, &state, ends, w))
+}
+
+/// Moves a named relay, if it moves.
+pub fn move_call(board: &HandedBoard, handed: HandedState, relay: u32, w: u32) -> Moved {
+    let (board, state) = match accepted(board, handed) {
+        Ok(both) => both,
+        Err(number) => return (Err(number), handed),
+    };
+    if relay as usize >= board.relays {
+        return (Err(11), handed);
+    }
+    let (answer, left) = move_relay(&board, state, relay as usize, w);
+    (Ok(answer), HandedState::of(&left))
+}
+
+/// Runs a board over the lent log.
+pub fn run_call(board: &HandedBoard, handed: HandedState, w: u32, log: &mut [u8]) -> Ran {
+    let both = accepted(board, handed).and_then(|both| match log.len() {
+        0..=LONGEST_LOG => Ok(both),
+        _ => Err(13),
+    });
+    match both {
+        Ok((board, state)) => ran(run(&board, state, w, log)),
+        Err(number) => Ran {
+            word: Err(number),
+            moves: 0,
+            state: handed,
+            relay: NO_RELAY,
+        },
+    }
+}
+
+fn ran(answer: RunAnswer) -> Ran {
+    Ran {
+        word: Ok(answer.word),
+        moves: answer.moves,
+        state: HandedState::of(&answer.state),
+        relay: answer.relay,
+    }
+}
+
+#[cfg(test)]
+mod tests {
+    use super::*;
+    use crate::judge::Verdict;
+
+    const MUCH: u32 = u32::MAX;
+    const FRESH: HandedState = HandedState {
+        drawn: 0,
+        pushed: 0,
+    };
+    const BEYOND: HandedState = HandedState {
+        drawn: 2,
+        pushed: 0,
+    };
+
+    fn part(kind: Kind, ends: Ends) -> Part {
+        Part { ends, kind }
+    }
+
+    /// H1: button 0 on 0-2, the regular winding of relay 0 on 2-1.
+    fn h1() -> HandedBoard {
+        HandedBoard {
+            terminals: 3,
+            relays: 1,
+            buttons: 1,
+            count: 2,
+            parts: vec![
+                part(Kind::Button(0), (0, 2)),
+                part(Kind::RegularWinding(0), (2, 1)),
+            ],
+        }
+    }
+
+    /// H1 with its winding replaced by these parts.
+    fn wound(windings: &[Kind]) -> HandedBoard {
+        let mut board = h1();
+        board.parts.truncate(1);
+        board
+            .parts
+            .extend(windings.iter().map(|&kind| part(kind, (2, 1))));
+        board.count = board.parts.len();
+        board
+    }
+
+    #[test]
+    fn a_board_with_a_broken_rule_is_refused_by_15() {
+        let broken: [fn(&mut HandedBoard); 11] = [
+            |board| board.terminals = 1,
+            |board| board.terminals = 65,
+            |board| board.relays = 33,
+            |board| board.buttons = 33,
+            |board| board.count = 257,
+            |board| board.terminals = 2,
+            |board| board.parts[0].ends = (2, 2),
+            |board| board.parts[0].ends = (3, 1),
+            |board| board.buttons = 0,
+            |board| board.relays = 0,
+            |board| board.relays = 2,
+        ];
+        assert!(h1().accepted().is_ok());
+        for change in broken {
+            let mut board = h1();
+            change(&mut board);
+            assert_eq!(board.accepted(), Err(15));
+        }
+    }
+
+    #[test]
+    fn windings_are_one_of_4_or_one_each_of_5_and_6() {
+        let (regular, drawing, dropping) = (
+            Kind::RegularWinding(0),
+            Kind::DrawingWinding(0),
+            Kind::DroppingWinding(0),
+        );
+        let fine: [&[Kind]; 3] = [&[regular], &[drawing, dropping], &[dropping, drawing]];
+        for windings in fine {
+            assert!(wound(windings).accepted().is_ok());
+        }
+        let broken: [&[Kind]; 8] = [
+            &[],
+            &[regular, regular],
+            &[drawing],
+            &[dropping],
+            &[regular, drawing],
+            &[regular, drawing, dropping],
+            &[drawing, drawing],
+            &[drawing, dropping, dropping],
+        ];
+        for windings in broken {
+            assert_eq!(wound(windings).accepted(), Err(15));
+        }
+    }
+
+    #[test]
+    fn parts_beyond_the_count_do_not_matter() {
+        let mut board = h1();
+        board.parts.push(part(Kind::Button(9), (9, 9)));
+        assert!(board.accepted().is_ok());
+    }
+
+    #[test]
+    fn a_state_is_handed_in_and_back() {
+        let board = HandedBoard {
+            terminals: 2,
+            relays: 32,
+            buttons: 32,
+            count: 32,
+            parts: (0..32)
+                .map(|relay| part(Kind::RegularWinding(relay), (0, 1)))
+                .collect(),
+        };
+        let board = board.accepted().unwrap();
+        for (drawn, pushed) in [(0, 0), (1, 2), (0xffff_ffff, 0), (5, 0xffff_ffff)] {
+            let handed = HandedState { drawn, pushed };
+            assert_eq!(HandedState::of(&handed.accepted(&board).unwrap()), handed);
+        }
+        for (drawn, pushed) in [(1 << 32, 0), (0, 1 << 32), (1 << 63, 1 << 63)] {
+            assert_eq!(HandedState { drawn, pushed }.accepted(&board), Err(14));
+        }
+    }
+
+    #[test]
+    fn calls_refuse_in_order() {
+        let mut broken = h1();
+        broken.relays = 2;
+        let judged = |board: &HandedBoard, state, asked| judge_call(board, state, asked, MUCH);
+        assert_eq!(judged(&broken, BEYOND, (7, true)), Err(15));
+        assert_eq!(judged(&h1(), BEYOND, (7, true)), Err(14));
+        assert_eq!(judged(&h1(), FRESH, (7, false)), Err(11));
+        assert_eq!(judged(&h1(), FRESH, (1, false)), Err(11));
+        assert_eq!(judged(&h1(), FRESH, (0, true)), Err(11));
+        assert_eq!(move_call(&broken, BEYOND, 7, MUCH), (Err(15), BEYOND));
+        assert_eq!(move_call(&h1(), BEYOND, 7, MUCH), (Err(14), BEYOND));
+        assert_eq!(move_call(&h1(), FRESH, 1, MUCH), (Err(11), FRESH));
+        for (board, state, length, number) in [
+            (&broken, BEYOND, 65_537, 15),
+            (&h1(), BEYOND, 65_537, 14),
+            (&h1(), FRESH, 65_537, 13),
+        ] {
+            let mut log = vec![77; length];
+            let refused = Ran {
+                word: Err(number),
+                moves: 0,
+                state,
+                relay: 255,
+            };
+            assert_eq!(run_call(board, state, MUCH, &mut log), refused);
+            assert_eq!(log, vec![77; length]);
+        }
+    }
+
+    #[test]
+    fn h1_judged_moved_and_run() {
+        let pushed = HandedState {
+            drawn: 0,
+            pushed: 1,
+        };
+        let drawn = HandedState {
+            drawn: 1,
+            pushed: 1,
+        };
+        let judgement = judge_call(&h1(), pushed, (0, false), 3).unwrap();
+        assert_eq!((judgement.verdict, judgement.effort), (Verdict::Live, 3));
+        assert_eq!(judgement.chain[..4], [0, 2, 1, 0]);
+        assert_eq!(move_call(&h1(), pushed, 0, 3), (Ok(Answer::Drew), drawn));
+        let mut log = vec![77; 65_536];
+        let idle = Ran {
+            word: Ok(Word::Idle),
+            moves: 1,
+            state: drawn,
+            relay: 255,
+        };
+        assert_eq!(run_call(&h1(), pushed, 3, &mut log), idle);
+        assert_eq!(log[..2], [128, 77]);
+    }
+}

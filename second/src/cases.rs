@@ -1,0 +1,257 @@
+//! Typed cases, each answered by a line: single judgements, moves and runs.
+//!
+//! This is for comparing programs and is not in the rule book. A case is pairs
+//! of hex digits, and white space between them as one likes; `@`, `^` or `=`
+//! ends it.
+//!
+//! - `@`, a judgement: a board file, then five numbers in the file's form: the
+//!   drawn relays and the pushed buttons, each as the sum of 2 to its number,
+//!   the relay, its winding (0 the first, else the second), the allowance.
+//! - `^`, a move: four numbers of three bytes, highest first, which are the
+//!   drawn relays, the pushed buttons, the relay and the allowance; then a
+//!   board handed in.
+//! - `=`, a run: the same with the allowance and the log's length last.
+//!
+//! A board handed in is T, R, B, C (low byte, high byte), then kind, a, b and
+//! name of each part. A kind above 6 stands for 6, since a board's parts have
+//! no other; a byte that is not given is 0.
+
+use crate::board::{Kind, Part, MOST_PARTS};
+use crate::calls::{judge_call, move_call, run_call, HandedBoard, HandedState};
+use crate::file::read_board;
+use crate::judge::{Judgement, Verdict};
+use crate::moves::Answer;
+use crate::number::{Reader, Refusal};
+
+/// What every byte of a log is before it is lent.
+const UNTOUCHED: u8 = 0xaa;
+
+/// The most moves of a log that are shown.
+const MOST_SHOWN: usize = 40;
+
+/// The lines that answer the cases of a text; none if it is malformed.
+pub fn answers(text: &str) -> Option<String> {
+    let mut lines = String::new();
+    let mut rest = text.trim_start();
+    while !rest.is_empty() {
+        let end = rest.find(['@', '^', '='])?;
+        let case = bytes(&rest[..end])?;
+        let line = match rest.as_bytes()[end] {
+            b'@' => judge_case(&case)?,
+            b'^' => move_case(&case),
+            _ => run_case(&case),
+        };
+        lines += &line;
+        lines.push('\n');
+        rest = rest[end + 1..].trim_start();
+    }
+    Some(lines)
+}
+
+/// The bytes that pairs of hex digits stand for.
+fn bytes(text: &str) -> Option<Vec<u8>> {
+    let mut digits = text.chars().filter(|letter| !letter.is_whitespace());
+    let mut found = Vec::new();
+    while let Some(high) = digits.next() {
+        let (high, low) = (high.to_digit(16)?, digits.next()?.to_digit(16)?);
+        found.push((16 * high + low) as u8);
+    }
+    Some(found)
+}
+
+/// The answer to a judgement, also where its board is refused; none where the
+/// numbers after the board are not five.
+fn judge_case(case: &[u8]) -> Option<String> {
+    let mut reader = Reader::open(case).ok()?;
+    let board = match read_board(&mut reader) {
+        Ok(board) => board,
+        Err(Refusal { number, place }) => return Some(format!("refused {number} {place}")),
+    };
+    let mut asked = [0; 5];
+    for number in &mut asked {
+        *number = reader.number().ok()?.value;
+    }
+    if !reader.at_end() {
+        return None;
+    }
+    let [drawn, pushed, relay, which, w] = asked;
+    let board = HandedBoard {
+        terminals: board.terminals,
+        relays: board.relays,
+        buttons: board.buttons,
+        count: board.parts.len(),
+        parts: board.parts,
+    };
+    let state = HandedState {
+        drawn: drawn.into(),
+        pushed: pushed.into(),
+    };
+    Some(match judge_call(&board, state, (relay, which != 0), w) {
+        Ok(judgement) => judgement_line(&judgement),
+        Err(number) => format!("judged refused {number}"),
+    })
+}
+
+fn judgement_line(judgement: &Judgement) -> String {
+    let word = match judgement.verdict {
+        Verdict::Live => "live",
+        Verdict::Dead => "dead",
+        Verdict::Undecided => "undecided",
+    };
+    let mut line = format!("judged {word} {}", judgement.effort);
+    if judgement.length > 0 {
+        line += &format!(" {}:", judgement.length);
+    }
+    for terminal in &judgement.chain[..judgement.length] {
+        line += &format!(" {terminal}");
+    }
+    line
+}
+
+fn move_case(case: &[u8]) -> String {
+    let (state, [relay, w], board) = handed(case);
+    let (answer, left) = move_call(&board, state, relay, w);
+    let word = match answer {
+        Ok(Answer::Drew) => "drew".to_string(),
+        Ok(Answer::Dropped) => "dropped".to_string(),
+        Ok(Answer::Rests) => "rests".to_string(),
+        Ok(Answer::Undecided) => "undecided".to_string(),
+        Ok(Answer::Conflict) => "conflict".to_string(),
+        Err(number) => format!("refused {number}"),
+    };
+    format!("moved {word} {} {}", left.drawn, left.pushed)
+}
+
+/// The answer to a run, with the first moves of its log, and a word for each
+/// byte past them that was touched.
+fn run_case(case: &[u8]) -> String {
+    let (state, [w, room], board) = handed(case);
+    let mut log = vec![UNTOUCHED; room as usize];
+    let ran = run_call(&board, state, w, &mut log);
+    let word = match ran.word {
+        Ok(word) => word.text().to_string(),
+        Err(number) => format!("refused {number}"),
+    };
+    let (moves, left, relay) = (ran.moves, ran.state, ran.relay);
+    let mut line = format!("ran {word} {moves} {} {} {relay}:", left.drawn, left.pushed);
+    for byte in &log[..moves.min(MOST_SHOWN)] {
+        line += &format!(" {byte}");
+    }
+    for _ in log[moves..].iter().filter(|&&byte| byte != UNTOUCHED) {
+        line += " and more";
+    }
+    line
+}
+
+/// What a move or a run is handed: a state, two numbers and a board.
+fn handed(case: &[u8]) -> (HandedState, [u32; 2], HandedBoard) {
+    let byte = |at: usize| case.get(at).copied().unwrap_or(0);
+    let number = |at: usize| u32::from_be_bytes([0, byte(at), byte(at + 1), byte(at + 2)]);
+    let state = HandedState {
+        drawn: number(0).into(),
+        pushed: number(3).into(),
+    };
+    let part = |at: usize| Part {
+        ends: (byte(at + 1).into(), byte(at + 2).into()),
+        kind: kind(byte(at), byte(at + 3).into()),
+    };
+    let board = HandedBoard {
+        terminals: byte(12).into(),
+        relays: byte(13).into(),
+        buttons: byte(14).into(),
+        count: u16::from_le_bytes([byte(15), byte(16)]).into(),
+        parts: (0..MOST_PARTS).map(|place| part(17 + 4 * place)).collect(),
+    };
+    (state, [number(6), number(9)], board)
+}
+
+fn kind(number: u8, name: usize) -> Kind {
+    match number {
+        0 => Kind::Wire,
+        1 => Kind::UpperContact(name),
+        2 => Kind::LowerContact(name),
+        3 => Kind::Button(name),
+        4 => Kind::RegularWinding(name),
+        5 => Kind::DrawingWinding(name),
+        _ => Kind::DroppingWinding(name),
+    }
+}
+
+#[cfg(test)]
+mod tests {
+    use super::*;
+
+    const H1_FILE: &str = "03 01 01 02  03 00 02 00  04 02 01 00";
+    const H1_HANDED: &str = "03 01 01 02 00  03 00 02 00  04 02 01 00";
+    const H3_HANDED: &str = "03 01 00 02 00  02 00 02 00  04 02 01 00";
+
+    fn assert_answers(text: &str, lines: &[&str]) {
+        let told = answers(text).unwrap();
+        assert_eq!(told.lines().collect::<Vec<_>>(), lines);
+        assert!(told.is_empty() || told.ends_with('\n'));
+    }
+
+    #[test]
+    fn judgements() {
+        let h1 = |asked: &str| format!("{H1_FILE} {asked} @\n");
+        assert_answers(&h1("00 00 00 00 64"), &["judged dead 1"]);
+        assert_answers(&h1("00 01 00 00 03"), &["judged live 3 3: 0 2 1"]);
+        assert_answers(&h1("00 01 00 00 02"), &["judged undecided 2"]);
+        assert_answers(&h1("02 01 00 00 03"), &["judged refused 14"]);
+        assert_answers(&h1("00 01 00 01 03"), &["judged refused 11"]);
+        assert_answers("01@ 0200@", &["refused 3 0", "refused 1 2"]);
+    }
+
+    #[test]
+    fn moves_and_runs() {
+        let text = format!(
+            "000000 000001 000000 000003 {H1_HANDED} ^\n000000 000001 000001 000003 {H1_HANDED}^"
+        );
+        assert_answers(&text, &["moved drew 1 1", "moved refused 11 0 1"]);
+        let run = |asked: &str, board: &str| format!("000000 000000 {asked} {board} =\n");
+        let five = "ran spent 5 1 0 0: 128 0 128 0 128";
+        assert_answers(&run("000064 000005", H3_HANDED), &[five]);
+        assert_answers(&run("000064 000000", H3_HANDED), &["ran spent 0 0 0 0:"]);
+        assert_answers(&run("000064 000002", H1_HANDED), &["ran idle 0 0 0 255:"]);
+        let refused = "ran refused 13 0 0 0 255:";
+        assert_answers(&run("000064 010001", H1_HANDED), &[refused]);
+        let long = answers(&run("000064 000029", H3_HANDED)).unwrap();
+        assert_eq!(
+            long,
+            format!("ran spent 41 1 0 0:{}\n", " 128 0".repeat(20))
+        );
+    }
+
+    #[test]
+    fn a_kind_above_6_stands_for_6_and_bytes_not_given_for_0() {
+        let zero = "000000 000000 000000 000000";
+        let steel = format!("{zero} 03 01 00 02 00  05 00 02 00  07 02 01 00 ^");
+        assert_answers(&steel, &["moved undecided 0 0"]);
+        assert_answers(
+            &format!("{zero} =^"),
+            &["ran refused 15 0 0 0 255:", "moved refused 15 0 0"],
+        );
+        assert_answers(&format!("{zero} 02 ="), &["ran idle 0 0 0 255:"]);
+        assert_answers(
+            &format!("{zero} 02 00 00 01 01 ="),
+            &["ran refused 15 0 0 0 255:"],
+        );
+    }
+
+    #[test]
+    fn malformed_texts_have_no_answer() {
+        assert_answers("", &[]);
+        assert_answers(" \n", &[]);
+        for text in [
+            "0",
+            "00",
+            "0@",
+            "0g@",
+            "00!",
+            &format!("{H1_FILE}@"),
+            &format!("{H1_FILE} 00 00 00 00 00 00 @"),
+        ] {
+            assert_eq!(answers(text), None);
+        }
+    }
+}

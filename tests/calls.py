@@ -1,0 +1,203 @@
+"""Compares the proved calls with the independent second program in plain Rust (second/), one judgement, move or run a line, by
+way of `current_cases` and `run_cases`: the verdict, the effort, the length and the chain that is shown; what a relay comes to;
+the word of a run, its moves, the state left, the relay that stopped it, and every byte of the log (a run prints the first 40
+moves, and is asked to go on from there). Boards of all sorts in tests/lib/session_boards.py, in states within and beyond them,
+with allowances around the efforts and logs of 0, 1 and around the moves; damaged files; boards handed in that break a rule. No
+model in Python has a part in it: what is around an effort is asked of the second program. Seeded, so each run tries the same
+cases; `python3 tests/calls.py SEED BOARDS` tries others, or more (it is 1 and 500 else). Needs cargo, and
+target/bin/current_cases and target/bin/run_cases, which `rt check current_cases run_cases` builds."""
+import collections
+import concurrent.futures
+import os
+import random
+import re
+import shutil
+import sys
+
+sys.path.insert(0, os.path.join(os.path.dirname(os.path.abspath(__file__)), "lib"))
+import board_files
+import board_model
+import judging
+import program
+import repository
+import running
+import second_program
+import session_boards as boards
+from running import LARGEST, SHOWN, total
+
+LONGEST_LOG = 65_536
+MUCH = 20_000  # the allowance that efforts are asked with, of boards with many chains
+RUN_MUCH = 500  # and that a run has on such a board
+NAMED = 21  # a state that a case hands in has relays and buttons below this
+ROUNDS = 6  # so often a run that fills the log that is shown goes on from the state left
+OFTEN = 10  # each answer occurs at least so many times
+SHOWING = re.compile(r"judged (live|dead) (\d+)")
+SPENT = re.compile(rf"ran spent {SHOWN} (\d+) (\d+) ")
+
+SORTS = [boards.feeding, boards.feeding, boards.web, boards.web, boards.buzzing, boards.conflicting, boards.every_kind, boards.crowded]
+SORTS += [boards.largest, lambda dice: boards.counting(dice, dice.randint(2, 8), dice.randint(0, 3)), lambda dice: boards.diamonds(dice, dice.randint(0, 12))[0]]
+SORTS += [lambda dice: boards.dense(dice, dice.randint(4, 9))]
+
+
+class Asked:
+    """A fine board and a state, and which windings it has there: each as its relay, whether it is the second, and its effort,
+    None for one beyond the allowance that it was asked with."""
+
+    def __init__(self, dice, sort):
+        self.counts, self.parts = sort(dice)
+        drawn, pushed = judging.state(dice, *(min(count, NAMED - 1) for count in self.counts[1:]))
+        self.drawn, self.pushed = ({name for name in names if name < NAMED} for names in (drawn, pushed))
+        self.windings = []
+
+    def judgement(self, relay, second, allowance):
+        return judging.case(self.counts, self.parts, self.drawn, self.pushed, relay, int(second), allowance)
+
+    def every_judgement(self):
+        """Each relay's first and second winding."""
+        return [(self, relay, second) for relay in range(self.counts[1]) for second in (False, True)]
+
+    def handed(self, numbers, ending):
+        return program.handed_case([total(self.drawn), total(self.pushed)] + numbers, running.handed(self.counts, self.parts), ending)
+
+    def run(self, allowance, room):
+        return self.handed([allowance, room], "=")
+
+    def is_large(self):
+        return any(effort is None for _, _, effort in self.windings)
+
+
+def second(cases):
+    """What the second program prints for each case."""
+    return program.answers(second_program.command("--cases"), cases)
+
+
+def asked_boards(dice, count):
+    """So many boards and states, with the efforts of their windings, which the second program is asked for."""
+    found = [Asked(dice, SORTS[number % len(SORTS)]) for number in range(count)]
+    every = [each for own in found for each in own.every_judgement()]
+    for (own, relay, is_second), line in zip(every, second(own.judgement(relay, is_second, MUCH) for own, relay, is_second in every)):
+        if (form := SHOWING.match(line)) or line.startswith("judged undecided"):
+            own.windings.append((relay, is_second, int(form[2]) if form else None))
+    return found
+
+
+def around(effort):
+    """Allowances around an effort, the least and the largest."""
+    return [0, 1, 5, MUCH - 1] if effort is None else sorted({0, 1, effort - 1, effort, effort + 1, LARGEST})
+
+
+def judgements(dice, own):
+    """Judgements of some windings of a board, and of windings that are not there."""
+    relays = own.counts[1]
+    for relay, is_second, effort in dice.sample(own.windings, min(3, len(own.windings))):
+        yield from (own.judgement(relay, is_second, allowance) for allowance in around(effort))
+    for relay in {dice.randrange(max(relays, 1)), relays, dice.choice([relays + 1, 255, 256, LARGEST])}:
+        yield own.judgement(relay, dice.random() < 0.5, dice.choice([0, 1, MUCH if own.is_large() else LARGEST]))
+
+
+def moves(dice, own):
+    """Single moves of some relays, and of one that is not there."""
+    relays = own.counts[1]
+    for relay, _, effort in dice.sample(own.windings, min(2, len(own.windings))):
+        yield from (own.handed([relay, allowance], "^") for allowance in around(effort))
+    yield own.handed([dice.choice([relays, relays + 1, 256, LARGEST]), dice.choice([0, 100])], "^")
+
+
+def runs(dice, own, line):
+    """Runs from the board's state, given the line of one with much allowance: logs of 0, 1 and around its moves, allowances
+    around an effort, and a log that is too long."""
+    much = RUN_MUCH if own.is_large() else LARGEST
+    made = int(line.split()[2]) if "refused" not in line else 0
+    for room in sorted({0, 1, 2, max(made - 1, 0), made, made + 1, SHOWN, dice.choice([3, 100, LONGEST_LOG + 1])}):
+        yield own.run(much, room)
+    for _, _, effort in dice.sample(own.windings, min(1, len(own.windings))):
+        yield from (own.run(min(allowance, much), dice.choice([0, 1, made, SHOWN])) for allowance in around(effort))
+    if made < SHOWN and dice.random() < 0.1:
+        yield own.run(much, LONGEST_LOG)
+
+
+def going_on(found):
+    """Runs that fill the log that is shown, each going on from the state that the second program left, so that the log is seen
+    for some hundred moves."""
+    cases, every = [own.run(RUN_MUCH if own.is_large() else LARGEST, SHOWN) for own in found], []
+    for _ in range(ROUNDS):
+        lines = second(cases)
+        spent = [(case, form) for case, line in zip(cases, lines) if (form := SPENT.match(line))]
+        cases = [f"{int(form[1]):06x}{int(form[2]):06x}" + case[12:] for case, form in spent if int(form[1]) < 1 << 24]
+        every += cases
+    return every
+
+
+def broken(dice, own):
+    """A board handed in with one or two bytes changed, so that it breaks a rule most often; moved and run in any state."""
+    data = bytearray(running.handed(own.counts, own.parts))
+    for _ in range(dice.choice([1, 1, 2])):
+        at = dice.randrange(5) if dice.random() < 0.3 else dice.randrange(len(data))
+        data[at] = dice.choice([(data[at] + 1) % 256, (data[at] - 1) % 256, dice.choice([0, 1, 2, 4, 5, 6, 7, 32, 33, 64, 65, 255])])
+    state = [total(own.drawn), total(own.pushed)] if dice.random() < 0.7 else [dice.getrandbits(24), dice.getrandbits(24)]
+    yield program.handed_case(state + [dice.choice([0, 1, 40, LARGEST]), dice.choice([0, 1, 50])], data, "^")
+    yield program.handed_case(state + [dice.choice([0, 1, 50]), dice.choice([0, 1, 5, SHOWN, LONGEST_LOG, LONGEST_LOG + 1])], data, "=")
+
+
+def hostile_files(dice, count):
+    """Judgements on damaged files that are refused, and on fine ones of tests/board_files.py."""
+    for _ in range(count):
+        data = board_files.file_case(dice)
+        try:
+            if board_model.read(data) == len(data):
+                yield (data + bytes([0, 0, dice.choice([0, 1, 31]), dice.randrange(2), dice.choice([0, 1, 100])])).hex() + "@\n"
+        except board_model.Refused:
+            yield data.hex() + "@\n"
+
+
+def handed_boards(dice, count):
+    """Boards handed in by tests/board_files.py, many with a fault, moved and run."""
+    for _ in range(count):
+        data, state = board_files.handed_case(dice), [dice.choice([0, 0, 1, 3]), dice.choice([0, 0, 1])]
+        yield program.handed_case(state + [dice.choice([0, 1, 31]), dice.choice([0, 1, 50])], data, "^")
+        yield program.handed_case(state + [dice.choice([0, 1, 50]), dice.choice([0, 1, 5, LONGEST_LOG + 1])], data, "=")
+
+
+def every_case(seed, count):
+    """The cases of each program."""
+    dice = random.Random(seed)
+    found = asked_boards(dice, count)
+    lines = second(own.run(RUN_MUCH if own.is_large() else LARGEST, SHOWN) for own in found)
+    judged = [case for own in found for case in judgements(dice, own)] + list(hostile_files(dice, 2 * count))
+    ran = [case for own, line in zip(found, lines) for part in (moves(dice, own), runs(dice, own, line), broken(dice, own), broken(dice, own)) for case in part]
+    return judged, ran + going_on(found) + list(handed_boards(dice, count))
+
+
+def compared(name, cases):
+    """The checks that a proved program prints what the second program does, and nothing else; and those lines."""
+    wanted = second(cases)
+    return program.compared(cases, wanted, program.answers(program.command(name), cases)), wanted
+
+
+def occurring(lines):
+    """The checks that each answer occurs often, printed with its count."""
+    counts = collections.Counter(re.match(r"refused|\w+ refused \d+|\w+ \w+|", line)[0] for line in lines)
+    for word, count in sorted(counts.items()):
+        print(f"{count:7} {word}")
+    known = [f"judged {word}" for word in ("live", "dead", "undecided", "refused 11", "refused 14")] + ["refused"]
+    known += [f"moved {word}" for word in ("drew", "dropped", "rests", "undecided", "conflict", "refused 11", "refused 14", "refused 15")]
+    known += [f"ran {word}" for word in ("idle", "spent", "undecided", "conflict", "refused 13", "refused 14", "refused 15")]
+    for word in known:
+        yield f"{word} occurs {counts[word]} times, at least {OFTEN}", counts[word] >= OFTEN
+    yield f"no other answer occurs: {set(counts) - set(known)}", set(counts) <= set(known)
+
+
+def compare(seed, count):
+    if not shutil.which("cargo"):
+        return [("cargo is there, to build the second program", False)]
+    built = second_program.cargo("build")
+    if built.returncode:
+        return [(f"the second program builds: {built.stderr}", False)]
+    with concurrent.futures.ThreadPoolExecutor() as workers:
+        (checks, lines), (more, others) = workers.map(compared, ("current_cases", "run_cases"), every_case(seed, count))
+    return checks + more + list(occurring(lines + others))
+
+
+if __name__ == "__main__":
+    seed, count = (int(word) for word in sys.argv[1:3]) if len(sys.argv) > 2 else (1, 500)
+    sys.exit(repository.report(compare(seed, count)))

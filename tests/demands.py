@@ -1,0 +1,57 @@
+"""The front page quotes the user: the head of each demand's statement (crates/demands/specs/) has the demand word for word, as
+docs/RULES.md has it, sentence by sentence; under each sentence it names the fields that state it, and it names every field."""
+import os
+import re
+import sys
+
+sys.path.insert(0, os.path.join(os.path.dirname(os.path.abspath(__file__)), "lib"))
+import repository
+
+STATEMENTS = ["EveryCallComesBack", "AsTheModelSays", "LargerNeverChanges"]
+
+
+def asked(rules):
+    """The three demands as the rules quote them."""
+    section = rules.partition("## The three demands\n")[2].partition("\n## ")[0]
+    return [" ".join(said.split()) for said in re.findall(r'^\d\. "([^"]*)"$', section, re.M)]
+
+
+def sentences(page):
+    """What the head of a statement quotes, each piece with the names in backquotes that stand under it."""
+    found, quoting = [], False
+    for line in page.partition("\nuse ")[0].split("\n"):
+        text = line[2:].strip()
+        if not quoting and re.match(r'--     "', line):
+            found.append(["", []])
+            quoting = True
+        if quoting:
+            found[-1][0] += " " + text
+            quoting = not text.endswith('"')
+        elif re.match(r"--         \S", line) and found:
+            found[-1][1] += re.findall(r"`([\w-]+)`", text)
+    return [(said.strip().strip('"'), names) for said, names in found]
+
+
+def fields(page, record):
+    """The fields of a record, and of the records of the same file that its fields are of."""
+    body = page.partition(f"pub record {record} ")[2].partition(" where\n")[2].partition("\n\n")[0]
+    own = re.findall(r"^  pub ([\w-]+) : (\w+)", body, re.M)
+    return {name for name, _ in own}.union(*(fields(page, inner) for _, inner in own if f"pub record {inner} " in page))
+
+
+checks = []
+demands = asked(repository.text("docs", "RULES.md"))
+checks.append(("docs/RULES.md quotes three demands", len(demands) == 3))
+for number, (demand, name) in enumerate(zip(demands, STATEMENTS), 1):
+    page = repository.text("crates", "demands", "specs", f"{name}.antt")
+    quoted = sentences(page)
+    named = {field for _, names in quoted for field in names}
+    there = fields(page, name)
+    checks.append((f"{name} quotes demand {number} word for word", " ".join(said for said, _ in quoted) == demand))
+    for said, names in quoted:
+        checks.append((f'{name} has a field for "{said}"', bool(names)))
+    for field in sorted(named):
+        checks.append((f"{name} has the field {field} that its head names", field in there))
+    for field in re.findall(r"^  pub ([\w-]+) : ", page.partition(f"pub record {name} ")[2], re.M):
+        checks.append((f"{name}'s head names the field {field}", field in named))
+sys.exit(repository.report(checks))
