@@ -54,7 +54,7 @@ def says_one(line, relation, contract):
     said = f"({relation} {' '.join(names)})" if names else relation
     whole = "".join(f"({group}) " for group in re.findall(r"\(([\w ]+ : [\w ]+)\)", line))
     # A byte is below 256, which `wide` promises of its answer; a number of the definitions does not say so by itself.
-    whole += "→ x < 256 " if relation == "Wide" else ""
+    whole += "→ x < 256 " if relation == "WideByte" else ""
     return len(names) == len(set(names)) == len(parameters(contract)) and line == (f"{whole}→ {law} {said}" if names else f"{law} {said}")
 
 

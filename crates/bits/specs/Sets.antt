@@ -1,19 +1,20 @@
 -- Sets of small numbers, each set a number: n is a member exactly if bit n, the one worth 2 ^ n, is set.
---     member s n          n is a member of s
---     room                how many numbers a word has room for: 0 to 63
---     including s n       s with n as a member besides, where a word has room for n
---     excluding s n       s without n
---     remaining s t       the members of s that are not in t: those of s and not of both
---     firstFrom ok k n    the first of n, n + 1, … (k numbers) that passes the test `ok`; else the number after them
---     lowestFrom s n      the lowest member of s from n up; where there is none, the larger of n and the room of a word
---     within s n          every member of s is below n
---     Has s n r           promise: `has` of s and n answers r
---     With s n r          promise: `with` of s and n answers r
---     Without s n r       promise: `without` of s and n answers r
---     Remaining s t r     promise: `remaining` of s and t answers r
---     LowestFrom s n r    promise: `lowest_from` of s and n answers r
---     AllBelow s n r      promise: `all_below` of s and n answers r
---     Wide x r            promise: `wide` of the byte x answers r, which is below 256
+--     member s n             n is a member of s
+--     room                   how many numbers a word has room for: 0 to 63
+--     including s n          s with n as a member besides, where a word has room for n
+--     excluding s n          s without n
+--     remaining s t          the members of s that are not in t: those of s and not of both
+--     firstFrom ok k n       the first of n, n + 1, … (k numbers) that passes the test `ok`; else the number after them
+--     lowestFrom s n         the lowest member of s from n up; where there is none, the larger of n and the room of a
+--                            word
+--     within s n             every member of s is below n
+--     SetHas s n r           promise: `has` of s and n answers r
+--     SetWith s n r          promise: `with` of s and n answers r
+--     SetWithout s n r       promise: `without` of s and n answers r
+--     SetRemaining s t r     promise: `remaining` of s and t answers r
+--     SetLowestFrom s n r    promise: `lowest_from` of s and n answers r
+--     SetAllBelow s n r      promise: `all_below` of s and n answers r
+--     WideByte x r           promise: `wide` of the byte x answers r, which is below 256
 -- The rule book's sets are the drawn relays, the pushed buttons and the windings that each relay has; its "sum of 2 to
 -- the relay number over drawn relays" is such a set as a number.
 use Prim.Native.Nat.{ℕ, zero, suc, _+_, _-_, _/_, _%_, _^_, _<_}
@@ -47,23 +48,23 @@ lowestFrom s n = firstFrom (member s) (room - n) n
 unfoldable pub within : ℕ → ℕ → Bool
 within s n = ltb s (2 ^ n)
 
-abbrev pub Has : ℕ → ℕ → Bool → Type 0
-Has s n r = r ≡ member s n
+abbrev pub SetHas : ℕ → ℕ → Bool → Type 0
+SetHas s n r = r ≡ member s n
 
-abbrev pub With : ℕ → ℕ → ℕ → Type 0
-With s n r = r ≡ including s n
+abbrev pub SetWith : ℕ → ℕ → ℕ → Type 0
+SetWith s n r = r ≡ including s n
 
-abbrev pub Without : ℕ → ℕ → ℕ → Type 0
-Without s n r = r ≡ excluding s n
+abbrev pub SetWithout : ℕ → ℕ → ℕ → Type 0
+SetWithout s n r = r ≡ excluding s n
 
-abbrev pub Remaining : ℕ → ℕ → ℕ → Type 0
-Remaining s t r = r ≡ remaining s t
+abbrev pub SetRemaining : ℕ → ℕ → ℕ → Type 0
+SetRemaining s t r = r ≡ remaining s t
 
-abbrev pub LowestFrom : ℕ → ℕ → ℕ → Type 0
-LowestFrom s n r = r ≡ lowestFrom s n
+abbrev pub SetLowestFrom : ℕ → ℕ → ℕ → Type 0
+SetLowestFrom s n r = r ≡ lowestFrom s n
 
-abbrev pub AllBelow : ℕ → ℕ → Bool → Type 0
-AllBelow s n r = r ≡ within s n
+abbrev pub SetAllBelow : ℕ → ℕ → Bool → Type 0
+SetAllBelow s n r = r ≡ within s n
 
-abbrev pub Wide : ℕ → ℕ → Type 0
-Wide x r = (r ≡ x) × (r < 256)
+abbrev pub WideByte : ℕ → ℕ → Type 0
+WideByte x r = (r ≡ x) × (r < 256)

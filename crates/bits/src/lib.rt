@@ -1,12 +1,13 @@
 // Sets of the numbers 0 to 63, a bit of a word each: n is a member exactly if bit n is set.
-ghost use Rattle.bits.specs.Sets.{Has, With, Without, Remaining, LowestFrom, AllBelow, Wide};
+ghost use Rattle.bits.specs.Sets.{SetHas, SetWith, SetWithout, SetRemaining, SetLowestFrom, SetAllBelow};
+ghost use Rattle.bits.specs.Sets.{WideByte};
 
 // How many numbers a word has room for.
 const ROOM: u32 = 64;
 
 // Whether n is a member.
 pub fn has(set: u64, n: u32) -> bool
-    ensures { λ r. ⌜ Has set n r ⌝ }
+    ensures { λ r. ⌜ SetHas set n r ⌝ }
 {
     if ROOM <= n {
         return false;
@@ -16,7 +17,7 @@ pub fn has(set: u64, n: u32) -> bool
 
 // The set with n as a member besides; as it is where a word has no room for n.
 pub fn with(set: u64, n: u32) -> u64
-    ensures { λ r. ⌜ With set n r ⌝ }
+    ensures { λ r. ⌜ SetWith set n r ⌝ }
 {
     if ROOM <= n {
         return set;
@@ -26,21 +27,21 @@ pub fn with(set: u64, n: u32) -> u64
 
 // The set without n.
 pub fn without(set: u64, n: u32) -> u64
-    ensures { λ r. ⌜ Without set n r ⌝ }
+    ensures { λ r. ⌜ SetWithout set n r ⌝ }
 {
     if has(set, n) { set ^ (1 << n) } else { set }
 }
 
 // The members of a set that are not in another.
 pub fn remaining(set: u64, taken: u64) -> u64
-    ensures { λ r. ⌜ Remaining set taken r ⌝ }
+    ensures { λ r. ⌜ SetRemaining set taken r ⌝ }
 {
     set ^ (set & taken)
 }
 
 // The lowest member from n up; where there is none, the room of a word, or n if that is more.
 pub fn lowest_from(set: u64, n: u32) -> u32
-    ensures { λ r. ⌜ LowestFrom set n r ⌝ }
+    ensures { λ r. ⌜ SetLowestFrom set n r ⌝ }
 {
     if ROOM <= n {
         return n;
@@ -59,7 +60,7 @@ pub fn lowest_from(set: u64, n: u32) -> u32
 
 // Whether every member is below n.
 pub fn all_below(set: u64, n: u32) -> bool
-    ensures { λ r. ⌜ AllBelow set n r ⌝ }
+    ensures { λ r. ⌜ SetAllBelow set n r ⌝ }
 {
     if ROOM <= n {
         return true;
@@ -69,7 +70,7 @@ pub fn all_below(set: u64, n: u32) -> bool
 
 // A byte as the number that the functions above take.
 pub fn wide(x: u8) -> u32
-    ensures { λ r. ⌜ Wide x r ⌝ }
+    ensures { λ r. ⌜ WideByte x r ⌝ }
 {
     x as u32
 }

@@ -1,11 +1,11 @@
 -- Parts and boards. Rule book, "Parts of a board".
---     partsOf b     a board's first C parts: nothing here or above looks at the places past them
---     mostParts     the most parts that a board can have
---     blank         what fills the places past C of a board that was read
---     padded ps     parts as an array of `mostParts` places
---     emptyBoard    "the empty board (T 2, else 0)"
---     Blank r       promise: `blank` answers r
---     Empty r       promise: `empty` answers r
+--     partsOf b       a board's first C parts: nothing here or above looks at the places past them
+--     mostParts       the most parts that a board can have
+--     blank           what fills the places past C of a board that was read
+--     padded ps       parts as an array of `mostParts` places
+--     emptyBoard      "the empty board (T 2, else 0)"
+--     BlankPart r     promise: `blank` answers r
+--     EmptyBoard r    promise: `empty` answers r
 use Prim.Native.Nat.{ℕ, _-_}
 use mathlib.Core.Path.{_≡_}
 use mathlib.Core.List.{List, [], _++_}
@@ -29,8 +29,8 @@ padded ps = ps ++ replicate (mostParts - length ps) blank
 unfoldable pub emptyBoard : Board
 emptyBoard = record { counts = record { terminals = 2; relays = 0; buttons = 0; parts = 0 }; parts = padded [] }
 
-abbrev pub Blank : Part → Type 0
-Blank r = r ≡ blank
+abbrev pub BlankPart : Part → Type 0
+BlankPart r = r ≡ blank
 
-abbrev pub Empty : Board → Type 0
-Empty r = r ≡ emptyBoard
+abbrev pub EmptyBoard : Board → Type 0
+EmptyBoard r = r ≡ emptyBoard

@@ -12,7 +12,7 @@
 --     partFine c w p                   5 to 8 of the part p after parts that gave the windings w
 --     partsFine c w ps                 5 to 9: the rest of the parts is fine after these windings
 --     boardFine b                      a board breaks no rule of refusals 3 to 9: 15 does not hold
---     Limit c k r                      promise: `limit` of a kind of number k answers r
+--     NameLimit c k r                  promise: `limit` of a kind of number k answers r
 --     Checks b r                       promise: `check` of board b answers r
 use Prim.Native.Nat.{ℕ}
 use mathlib.Core.Path.{_≡_}
@@ -75,8 +75,8 @@ partsFine c w (p ∷ ps) = partFine c w p && partsFine c (gained w (p .kind)) ps
 unfoldable pub boardFine : Board → Bool
 boardFine b = countsFine (b .counts) && partsFine (b .counts) noneWound (partsOf b)
 
-abbrev pub Limit : Counts → ℕ → ℕ → Type 0
-Limit c k r = r ≡ limitOf c k
+abbrev pub NameLimit : Counts → ℕ → ℕ → Type 0
+NameLimit c k r = r ≡ limitOf c k
 
 abbrev pub Checks : Board → Bool → Type 0
 Checks b r = r ≡ boardFine b

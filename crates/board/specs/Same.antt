@@ -3,7 +3,7 @@
 --     sameCounts, sameKind    the same counts, the same kind, field by field
 --     samePart, sameParts     the same part, the same parts one by one
 --     sameBoard x y           boards x and y are the same
---     Same x y r              promise: `same` of boards x and y answers r
+--     SameBoards x y r        promise: `same` of boards x and y answers r
 use mathlib.Core.Path.{_≡_}
 use mathlib.Core.Bool.{Bool, true, false, _&&_}
 use mathlib.Core.List.{List, [], _∷_}
@@ -35,5 +35,5 @@ sameParts (p ∷ ps) (q ∷ qs) = samePart p q && sameParts ps qs
 unfoldable pub sameBoard : Board → Board → Bool
 sameBoard x y = sameCounts (x .counts) (y .counts) && sameParts (partsOf x) (partsOf y)
 
-abbrev pub Same : Board → Board → Bool → Type 0
-Same x y r = r ≡ sameBoard x y
+abbrev pub SameBoards : Board → Board → Bool → Type 0
+SameBoards x y r = r ≡ sameBoard x y

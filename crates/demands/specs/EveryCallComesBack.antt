@@ -70,7 +70,7 @@ use Rattle.lines.specs.declared.LineWritten.{LineWritten}
 use Rattle.lines.specs.Lines as told
 use Rattle.lines.specs.Lines.{event, closing, longestLine, toldLine, toldLineWritten, WritesLine}
 use Rattle.events.specs.declared.Shown.{Shown}
-use Rattle.events.specs.Events.{buttonOf, pushes, RunsLine, EventLine}
+use Rattle.events.specs.Events.{buttonOf, pushes, RunLine, EventLine}
 use Rattle.session.specs.declared.Session.{Session}
 use Rattle.session.specs.declared.Handed.{Handed}
 use Rattle.session.specs.HandingOut.{toldHandOut, NextLine}
@@ -155,7 +155,7 @@ pub record InOrder : Type 0 where
       → against (toldEnding (a .word)) ≡ firstNo (runLines b s log)
   -- a session's log of 4,096 is never too long (13), and the run after a push or release is never refused
   pub tells-run : (b : Board) (e : ℕ) (s : State) (w : ℕ) (x : Shown)
-      → RunsLine b e s w x
+      → RunLine b e s w x
       → against (wordOf (toldLine (x .line))) ≡ firstNo (usableLines b s [])
   pub tells-event : (b : Board) (e : ℕ) (s : State) (v w : ℕ) (x : Shown)
       → EventLine b e s v w x
@@ -205,7 +205,7 @@ pub record AsLent : Type 0 where
       → toldEnding (a .word) ≡ refused n p
       → (a .state ≡ s) × ((a .moves ≡ 0) × ((a .relay ≡ noRelay) × (log′ ≡ log)))
   pub tells-run : (b : Board) (e : ℕ) (s : State) (w : ℕ) (x : Shown) (n p : ℕ)
-      → RunsLine b e s w x
+      → RunLine b e s w x
       → wordOf (toldLine (x .line)) ≡ refused n p
       → (toldLine (x .line) ≡ event e (refused n p) 0 (s .drawn)) × (x .state ≡ s)
   pub tells-event : (b : Board) (e : ℕ) (s : State) (v w : ℕ) (x : Shown) (n p : ℕ)

@@ -1,5 +1,5 @@
--- Demand 1: "Every call comes back." Rule book, how tight the promises are: "Any pair of answers allowed by a promise is
--- shown to be one answer". A line for each function that another crate can call: its promise, by the name that its
+-- Demand 1: "Every call comes back." Rule book, how tight the promises are: "Any pair of answers allowed by a promise
+-- is shown to be one answer". A line for each function that another crate can call: its promise, by the name that its
 -- `ensures` cites, allows exactly one answer, whatever the call is given. `docs/PROMISES.md` has the promises in words.
 --     One P        the promise P allows an answer, and any two that it allows are one
 --     OneLent P    P allows an answer with what it leaves in a lent log or buffer, and any two that it allows are one
@@ -8,7 +8,7 @@
 use Prim.Native.Nat.{ℕ, _<_}
 use mathlib.Core.Path.{_≡_}
 use mathlib.Core.List.{List}
-use Rattle.bits.specs.Sets.{Has, With, Without, Remaining, LowestFrom, AllBelow, Wide}
+use Rattle.bits.specs.Sets.{SetHas, SetWith, SetWithout, SetRemaining, SetLowestFrom, SetAllBelow, WideByte}
 use Rattle.number.specs.Numbers.{ReadsNumber, NumberLength, WritesNumber}
 use Rattle.kinds.specs.declared.Kind.{Kind}
 use Rattle.kinds.specs.Kinds.{KindOf, KindNumber, KindName}
@@ -16,9 +16,9 @@ use Rattle.windings.specs.declared.WoundSoFar.{WoundSoFar}
 use Rattle.windings.specs.Windings.{WoundNone, WoundFree, WoundWith, WoundComplete}
 use Rattle.board.specs.declared.Counts.{Counts}
 use Rattle.board.specs.declared.Board.{Board}
-use Rattle.board.specs.Parts.{Blank, Empty}
-use Rattle.board.specs.Rules.{Limit, Checks}
-use Rattle.board.specs.Same.{Same}
+use Rattle.board.specs.Parts.{BlankPart, EmptyBoard}
+use Rattle.board.specs.Rules.{NameLimit, Checks}
+use Rattle.board.specs.Same.{SameBoards}
 use Rattle.state.specs.declared.State.{State}
 use Rattle.state.specs.States.{StateFresh, StateDraws, StateDrops, StatePushes, StateReleases, StateFits}
 use Rattle.presses.specs.Presses.{Pushes, Releases}
@@ -32,12 +32,12 @@ use Rattle.judge.specs.declared.Which.{Which}
 use Rattle.judge.specs.RelayWindings.{SeeksWinding}
 use Rattle.judge.specs.Judging.{Judges}
 use Rattle.moves.specs.declared.Move.{Move}
-use Rattle.moves.specs.Steps.{Steps, After}
+use Rattle.moves.specs.Steps.{StepsRelay, AfterMove}
 use Rattle.moves.specs.Moving.{Moves}
 use Rattle.runs.specs.Running.{Runs}
 use Rattle.lines.specs.declared.Line.{Line}
 use Rattle.lines.specs.Lines.{WritesLine}
-use Rattle.events.specs.Events.{RunsLine, EventLine}
+use Rattle.events.specs.Events.{RunLine, EventLine}
 use Rattle.session.specs.declared.Session.{Session}
 use Rattle.session.specs.Carried.{Begins}
 use Rattle.session.specs.HandingOut.{NextLine}
@@ -55,13 +55,13 @@ pub record OneLent {R : Type 0} (P : R → List ℕ → Type 0) : Type 0 where
   pub only : (x y : R) (k l : List ℕ) → P x k → P y l → (x ≡ y) × (k ≡ l)
 
 pub record OneAnswer : Type 0 where
-  pub bits-has : (s n : ℕ) → One (Has s n)
-  pub bits-with : (s n : ℕ) → One (With s n)
-  pub bits-without : (s n : ℕ) → One (Without s n)
-  pub bits-remaining : (s t : ℕ) → One (Remaining s t)
-  pub bits-lowest-from : (s n : ℕ) → One (LowestFrom s n)
-  pub bits-all-below : (s n : ℕ) → One (AllBelow s n)
-  pub bits-wide : (x : ℕ) → x < 256 → One (Wide x)
+  pub bits-has : (s n : ℕ) → One (SetHas s n)
+  pub bits-with : (s n : ℕ) → One (SetWith s n)
+  pub bits-without : (s n : ℕ) → One (SetWithout s n)
+  pub bits-remaining : (s t : ℕ) → One (SetRemaining s t)
+  pub bits-lowest-from : (s n : ℕ) → One (SetLowestFrom s n)
+  pub bits-all-below : (s n : ℕ) → One (SetAllBelow s n)
+  pub bits-wide : (x : ℕ) → x < 256 → One (WideByte x)
   pub number-read-number : (s : List ℕ) (at : ℕ) → One (ReadsNumber s at)
   pub number-number-length : (v : ℕ) → One (NumberLength v)
   pub number-write-number : (v : ℕ) (out : List ℕ) (at : ℕ) → OneLent (WritesNumber v out at)
@@ -72,11 +72,11 @@ pub record OneAnswer : Type 0 where
   pub windings-free : (w : WoundSoFar) (k : Kind) → One (WoundFree w k)
   pub windings-with : (w : WoundSoFar) (k : Kind) → One (WoundWith w k)
   pub windings-complete : (w : WoundSoFar) (n : ℕ) → One (WoundComplete w n)
-  pub board-limit : (c : Counts) (k : ℕ) → One (Limit c k)
-  pub board-blank : One Blank
-  pub board-empty : One Empty
+  pub board-limit : (c : Counts) (k : ℕ) → One (NameLimit c k)
+  pub board-blank : One BlankPart
+  pub board-empty : One EmptyBoard
   pub board-check : (b : Board) → One (Checks b)
-  pub board-same : (x y : Board) → One (Same x y)
+  pub board-same : (x y : Board) → One (SameBoards x y)
   pub state-fresh : One StateFresh
   pub state-draw : (s : State) (r : ℕ) → One (StateDraws s r)
   pub state-drop : (s : State) (r : ℕ) → One (StateDrops s r)
@@ -92,12 +92,12 @@ pub record OneAnswer : Type 0 where
   pub search-search : (near : List ℕ) (t : ℕ) (v : Winding) (w : ℕ) → One (Searches near t v w)
   pub judge-winding : (b : Board) (r : ℕ) (k : Which) → One (SeeksWinding b r k)
   pub judge-judge : (b : Board) (s : State) (r : ℕ) (k : Which) (w : ℕ) → One (Judges b s r k w)
-  pub moves-step : (near : List ℕ) (b : Board) (s : State) (r w : ℕ) → One (Steps near b s r w)
-  pub moves-after : (s : State) (r : ℕ) (m : Move) → One (After s r m)
+  pub moves-step : (near : List ℕ) (b : Board) (s : State) (r w : ℕ) → One (StepsRelay near b s r w)
+  pub moves-after : (s : State) (r : ℕ) (m : Move) → One (AfterMove s r m)
   pub moves-move-relay : (b : Board) (s : State) (r w : ℕ) → One (Moves b s r w)
   pub runs-run : (b : Board) (s : State) (log : List ℕ) (w : ℕ) → OneLent (Runs b s log w)
   pub lines-write-line : (l : Line) (out : List ℕ) → OneLent (WritesLine l out)
-  pub events-run-line : (b : Board) (e : ℕ) (s : State) (w : ℕ) → One (RunsLine b e s w)
+  pub events-run-line : (b : Board) (e : ℕ) (s : State) (w : ℕ) → One (RunLine b e s w)
   pub events-event-line : (b : Board) (e : ℕ) (s : State) (v w : ℕ) → One (EventLine b e s v w)
   pub session-begin : (s : List ℕ) → One (Begins s)
   pub session-next-line : (z : Session) (s out : List ℕ) → OneLent (NextLine z s out)

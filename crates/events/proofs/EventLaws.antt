@@ -26,10 +26,10 @@ module _ (b : Board) (t : State) (v : ℕ) where
 
 module _ (b : Board) (w e : ℕ) where
   -- a run is told by its word, its moves and its drawn relays, whatever its log holds
-  pub ran-told : (t : State) (r : Ran) (log : List ℕ) → toldRan r log ≡ running b t sessionLog w
+  pub run-shown : (t : State) (r : Ran) (log : List ℕ) → toldRan r log ≡ running b t sessionLog w
       → tells e (toldRan r log) ≡ ranLine b e t w
   unfolding ranLine
-  ran-told t r log ran = ap (tells e) ran
+  run-shown t r log ran = ap (tells e) ran
 
   module _ (x : Pressed) where
     pub pressed-refused : (q : Refusal) → x .answer ≡ Refused q

@@ -12,7 +12,7 @@
 --                              its refusal
 --     eventLine b e t v w      event e, which is v, in state t
 --     toldShown                the code's line in the rule book's words
---     RunsLine b e t w r       promise: `run_line` of event e on board b in state t, within the allowance w, answers r
+--     RunLine b e t w r        promise: `run_line` of event e on board b in state t, within the allowance w, answers r
 --     EventLine b e t v w r    promise: `event_line` of event e, which is v, likewise
 use Prim.Native.Nat.{ℕ, _/_, _%_}
 use mathlib.Core.Path.{_≡_}
@@ -64,8 +64,8 @@ eventLine b e t v w = pressedLine b e (pressing b t v) w
 abbrev pub toldShown : code.Shown → Shown
 toldShown r = (toldLine (r .line), r .state)
 
-abbrev pub RunsLine : Board → ℕ → State → ℕ → code.Shown → Type 0
-RunsLine b e t w r = toldShown r ≡ ranLine b e t w
+abbrev pub RunLine : Board → ℕ → State → ℕ → code.Shown → Type 0
+RunLine b e t w r = toldShown r ≡ ranLine b e t w
 
 abbrev pub EventLine : Board → ℕ → State → ℕ → ℕ → code.Shown → Type 0
 EventLine b e t v w r = toldShown r ≡ eventLine b e t v w

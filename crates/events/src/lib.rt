@@ -2,7 +2,7 @@
 // 0, which pushes and releases nothing.
 ghost use mathlib.Core.Path.{_≡_};
 ghost use Rattle.presses.specs.Presses.{toldPressed};
-ghost use Rattle.events.specs.Events.{pressing, pressedLine, toldShown, RunsLine, EventLine};
+ghost use Rattle.events.specs.Events.{pressing, pressedLine, toldShown, RunLine, EventLine};
 use board::Board;
 use lines::Line;
 use presses::Press;
@@ -21,7 +21,7 @@ pub struct Shown {
 
 // Runs the board from a state, and tells of it as the event of this number.
 pub fn run_line(board: Board, event: usize, state: State, allowance: u32) -> Shown
-    ensures { λ r. ⌜ RunsLine board event state allowance r ⌝ }
+    ensures { λ r. ⌜ RunLine board event state allowance r ⌝ }
 {
     let mut log = [0u8; LOG_LENGTH];
     let ran = runs::run(board, state, &mut log, allowance);

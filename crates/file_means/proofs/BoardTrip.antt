@@ -19,7 +19,7 @@ use Rattle.board.specs.Parts.{mostParts, partsOf}
 use Rattle.board.specs.Rules.{leastTerminals, mostTerminals, mostRelays, mostButtons, inRange, countsFine}
 use Rattle.board.specs.Rules.{partFine, partsFine, boardFine}
 use Rattle.bits.proofs.BoolLaws.{both-true, true-both}
-use Rattle.board.proofs.PaddedLaws.{padded-length, padded-parts}
+use Rattle.board.proofs.PaddedLaws.{padded-parts}
 use Rattle.board.proofs.RuleLaws.{InRange, counts-in-range}
 use Rattle.board_reader.specs.Reading.{wanted, countsAt, partAt, partsAt, boardOf, boardFrom, boardAt}
 use Rattle.board_reader.proofs.FieldLaws.{range-within}
@@ -126,8 +126,6 @@ board-reads b s next places fine here =
 
 pub record BoardIsFine (s : List ℕ) (b : Board) (next : ℕ) : Type 0 where
   pub fine : boardFine b ≡ true
-  pub places : length (b .parts) ≡ mostParts
-  pub filled : boardOf (b .counts) (partsOf b) ≡ b
   pub stands : Bytes s → StandsTo s 0 next (boardBytes b)
 
 board-made : (c : Counts) (s : List ℕ) (mid : ℕ) (ps : Found (List Part)) → CountsFound s c mid
@@ -135,12 +133,8 @@ board-made : (c : Counts) (s : List ℕ) (mid : ℕ) (ps : Found (List Part)) �
 unfolding boardFine boardBytes
 board-made c s mid ps first rest =
     let same = padded-parts c (ps .value) (sym (rest .counted)) in
-    let counts = counts-found-fine s c mid first in
-    let range = counts-in-range c counts in
     record {
-      fine = true-both counts (rw same (rest .fine));
-      places = padded-length (ps .value) (omega (arith, rest .counted, range .most-parts));
-      filled = ap (boardOf c) same;
+      fine = true-both (counts-found-fine s c mid first) (rw same (rest .fine));
       stands =
           λ bytes. rw same (stands-append s 0 mid (ps .next) _ _ (counts-stand c s mid bytes first)
           (rest .stands bytes));

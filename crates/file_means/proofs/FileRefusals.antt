@@ -1,5 +1,5 @@
 -- The theorems over the call: a board file is refused by n at p exactly if line n of the table holds there and none
--- before it; and where it is accepted, the numbers of the board stand in the file.
+-- before it, and accepted exactly if the numbers of the board stand in the file.
 use Prim.Native.Nat.{ℕ, _<_, _≤_}
 use mathlib.Core.Path.{_≡_, refl, sym, ap, _∙_}
 use mathlib.Core.Logic.{_⊎_, inl, inr}
@@ -11,12 +11,17 @@ use Rattle.number.specs.Outcomes.{Outcome, given, refused, Found, found, _>>_, 
 use Rattle.number.specs.Refusals.{inputTooLong}
 use Rattle.number.proofs.OutcomeLaws.{refused-never, given-injective}
 use Rattle.board.specs.declared.Board.{Board}
+use Rattle.board.specs.declared.Counts.{Counts}
+use Rattle.board.specs.declared.Part.{Part}
 use Rattle.board.specs.Parts.{partsOf}
-use Rattle.board_reader.specs.Reading.{boardAt, answered, reading, longestInput}
+use Rattle.board.specs.Sorts.{Wound}
+use Rattle.board.proofs.PaddedLaws.{padded-parts}
+use Rattle.board_reader.specs.Reading.{boardOf, boardAt, answered, reading, longestInput}
 use Rattle.board_reader.proofs.ReadLaws.{answered-refused}
-use Rattle.file_means.specs.FileRefusals.{LineHolds, FileRefused, FileAccepted}
+use Rattle.file_means.specs.FileRefusals.{at-part, Reached, LineHolds, FileRefused, FileAccepted}
 use Rattle.file_means.proofs.LeadsLaws.{Leads, leads-refused, leads-given, leads-each, leads-unless}
-use Rattle.file_means.proofs.ReadLeads.{Given, board-leads}
+use Rattle.file_means.proofs.ReadLeads.{BoardReached, board-leads}
+use Rattle.file_means.proofs.ReachedRead.{reached-board}
 use Rattle.file_means.proofs.HoldsRefused.{holds-board}
 
 module _ (s : List ℕ) where
@@ -24,7 +29,7 @@ module _ (s : List ℕ) where
   Line n p = ((longestInput < length s) × (n ≡ inputTooLong) × (p ≡ 0)) ⊎ ((length s ≤ longestInput) × LineHolds s n p)
 
   abbrev BoardGiven : Found Board → Type 0
-  BoardGiven b = Given s (b .value .counts) (partsOf (b .value)) (b .next)
+  BoardGiven b = (length s ≤ longestInput) × BoardReached s (b .value .counts) (partsOf (b .value)) (b .next)
 
   abbrev read : Outcome (Found Board)
   read = unless (leb (length s) longestInput) inputTooLong 0 >> boardAt s
@@ -34,8 +39,8 @@ module _ (s : List ℕ) where
       leads-unless Line BoardGiven (leb (length s) longestInput) inputTooLong 0 (boardAt s)
       (λ long. inl (leb-false _ _ long, refl, refl))
       (λ short. leads-each Line BoardGiven (boardAt s)
-      (λ n p e. inr (leb-true _ _ short, leads-refused (LineHolds s) BoardGiven (boardAt s) n p (board-leads s) e))
-      (λ b e. leads-given (LineHolds s) BoardGiven (boardAt s) b (board-leads s) e))
+      (λ n p e. inr (leb-true _ _ short, leads-refused (LineHolds s) _ (boardAt s) n p (board-leads s) e))
+      (λ b e. (leb-true _ _ short, leads-given (LineHolds s) _ (boardAt s) b (board-leads s) e)))
 
   holds-read : (n p : ℕ) → Line n p → read ≡ refused n p
   holds-read n p (inl (long, ten, place)) = rw (lt-leb (length s) longestInput long, ten, place)
@@ -56,11 +61,27 @@ answered-given (given f) b n e =
     let place = given-injective (f .next) n (λ i. e i .1) in λ i. found (e i .0) (place i)
 answered-given (refused k p) b n e = absurd (refused-never k p n (λ i. e i .1))
 
+-- what is read where the board stands there by its numbers
+pub reached-reading : (s : List ℕ) (c : Counts) (ps : List Part) (n : ℕ) → length s ≤ longestInput
+    → Reached s (at-part c ps) n → length ps ≡ c .parts → Wound (c .relays) ps
+    → reading s ≡ (boardOf c ps, given n)
+unfolding reading answered
+reached-reading s c ps n short here all wounds =
+    rw (le-leb (length s) longestInput short, reached-board s c ps n here all wounds)
+
 pub file-accepted : FileAccepted
 unfolding reading
-file-accepted s r n was told =
-    let answer = sym was ∙ ap (λ (o : Outcome ℕ). (r .board, o)) told in
-    let so =
-    leads-given (Line s) (BoardGiven s) (read s) (record { value = r .board; next = n }) (read-leads s)
-    (answered-given (read s) (r .board) n answer) in
-    (so .reached, so .counted, so .all-wound)
+file-accepted s r c ps n was = (
+  λ so.
+      (let answer = sym was ∙ ap (λ (o : Outcome ℕ). (r .board, o)) (so .0) in
+      let there =
+      leads-given (Line s) (BoardGiven s) (read s) (record { value = r .board; next = n }) (read-leads s)
+      (answered-given (read s) (r .board) n answer) in
+      rw (← so .1, ← so .2) (there .0, there .1 .reached, there .1 .counted, there .1 .all-wound)),
+  λ (short, here, all, wounds).
+      (let answer = was ∙ reached-reading s c ps n short here all wounds in (
+        ap (λ (x : Board × Outcome ℕ). x .1) answer,
+        ap (λ (x : Board × Outcome ℕ). x .0 .counts) answer,
+        ap (λ (x : Board × Outcome ℕ). partsOf (x .0)) answer ∙ padded-parts c ps (sym all),
+      )),
+)

@@ -36,7 +36,7 @@ use Rattle.file_means.specs.FileRefusals.{line2, line3-T, line3-R, line3
 use Rattle.file_means.specs.FileRefusals.{line5-second, line6, line7-button, line7-relay, line8, line9}
 use Rattle.file_means.proofs.TakenLaws.{taken-winding, taken-barred}
 use Rattle.file_means.proofs.ReachedRead.{PartsSoFar, StageRead, kind-most, relay-limit}
-use Rattle.file_means.proofs.ReachedRead.{name-found, reached-read}
+use Rattle.file_means.proofs.ReachedRead.{name-found, reached-read, rest-refused}
 
 -- the reader's test of the number that is wanted at a stage, and the number for no of it
 abbrev testOf : FileStage → ℕ → Bool
@@ -70,7 +70,8 @@ module _ (s : List ℕ) where
     board-part : (c : Counts) (ps : List Part) (w : WoundSoFar) (at : ℕ) → PartsSoFar s c ps w at
         → length ps < c .parts → refused n p ≡ partAt c w s at → boardAt s ≡ refused n p
     unfolding partsAt
-    board-part c ps w at x more e = x .onward (suc (c .parts - length ps - 1)) n p (omega (arith, more)) (rw (← e))
+    board-part c ps w at x more e =
+        rest-refused s c ps w at (suc (c .parts - length ps - 1)) n p x (omega (arith, more)) (rw (← e))
 
     board-stage : (f : FileStage) (at : ℕ) → StageRead s f at → NumberWanted f
         → wanted (testOf f) (lineOf f) s at ≡ refused n p → boardAt s ≡ refused n p
@@ -144,7 +145,8 @@ module _ (s : List ℕ) where
       let unwound : wound w r ≡ false =
       by-test (wound w r)
       (λ on. absurd (⊎-elim irregular no-steel (tallied-wound w ps r (x .so-far r) on))) (λ off. off) in
-      x .onward 0 windingLacking at (omega (arith, all)) (rw (every-fails (wound w) (c .relays) r below unwound))
+      rest-refused s c ps w at 0 windingLacking at x (omega (arith, all))
+      (rw (every-fails (wound w) (c .relays) r below unwound))
 
 -- ---- every line
 

@@ -5,10 +5,10 @@ pub mod PartTrip
 pub mod BoardTrip
 pub mod ReadFine
 pub mod RoundTrip
-pub mod BytesAfter
 pub mod TakenLaws
 pub mod LeadsLaws
 pub mod ReadLeads
 pub mod ReachedRead
 pub mod HoldsRefused
 pub mod FileRefusals
+pub mod BytesAfter

@@ -1,7 +1,9 @@
 -- A stage that is reached by the numbers of the file is one that the reader comes to: it has found each number before
--- it. So a refusal there is the refusal of the board.
---     PartsSoFar s c ps w at      the counts c and the parts ps were read, the parts give the windings w, and whatever
---                                refuses a part from here on refuses the board
+-- it. So what it comes to from there on is what it comes to at all: a refusal there is the refusal of the board, and
+-- where no relay lacks a winding after the last part, the board is read.
+--     behind ps o                what o gives, behind the parts ps
+--     PartsSoFar s c ps w at     the counts c and the parts ps were read, the parts give the windings w, and the rest
+--                                of the board is what is read from here on
 --     KindRead, FirstRead, EndsRead
 --                                the kind of one more part, its first end, and its second that differs from it
 --     StageRead s f at           what was read where stage f is reached
@@ -9,21 +11,23 @@ use Prim.Native.Nat.{ℕ, suc, _+_, _<_, _≤_}
 use native.Mathlib.Omega.{arith}
 use mathlib.Core.Path.{_≡_, refl, sym, ap, subst, _∙_}
 use mathlib.Core.Bool.{true}
-use mathlib.Core.List.{List, [], _∷_, _++_}
+use mathlib.Core.List.{List, [], _∷_, _++_, append-nil, append-assoc}
 use lib.Dec.{ltb}
 use lib.ListN.{length, length-append}
 use borrow.Author.Tests.{lt-ltb, ne-eqb}
-use Rattle.number.specs.Outcomes.{Outcome, refused, Found, found}
+use Rattle.number.specs.Outcomes.{Outcome, given, refused, Found, found, _>>=_}
 use Rattle.number.specs.Refusals.{outOfRange, noSuchKind, noSuchTerminal, noSuchName}
 use Rattle.kinds.specs.Kinds.{buttonKind, lastKind, kindOf}
 use Rattle.windings.specs.declared.WoundSoFar.{WoundSoFar}
-use Rattle.windings.specs.Windings.{noneWound, windingFree, gained}
+use Rattle.windings.specs.Windings.{noneWound, windingFree, gained, wound, every, complete}
+use Rattle.windings.proofs.EveryLaws.{below-every}
 use Rattle.board.specs.declared.Counts.{Counts}
 use Rattle.board.specs.declared.Part.{Part}
 use Rattle.board.specs.Parts.{mostParts}
 use Rattle.board.specs.Rules.{leastTerminals, mostTerminals, mostRelays, mostButtons, inRange, terminalFine, limitOf}
-use Rattle.board.proofs.TallyLaws.{Tallied, tallied-none, tallied-gained}
-use Rattle.board_reader.specs.Reading.{wanted, countsAt, nameAt, partAt, partsAt, boardFrom, boardAt}
+use Rattle.board.specs.Sorts.{Wound}
+use Rattle.board.proofs.TallyLaws.{Tallied, tallied-none, tallied-gained, wound-tallied}
+use Rattle.board_reader.specs.Reading.{wanted, countsAt, nameAt, partAt, partsAt, boardOf, boardFrom, boardAt}
 use Rattle.board_reader.proofs.FieldLaws.{wanted-passes, wanted-found, wanted-below, range-within, range-bounds}
 use Rattle.board_reader.proofs.FieldLaws.{name-wire, name-carried}
 use Rattle.board_reader.proofs.CountsLaws.{countAt, count-most, counts-read}
@@ -38,10 +42,22 @@ use Rattle.file_means.proofs.TakenLaws.{untaken-free}
 pub relay-limit : (c : Counts) (k : ℕ) → ¬ (k ≡ buttonKind) → limitOf c k ≡ c .relays
 relay-limit c k relay = rw (ne-eqb k buttonKind relay)
 
+abbrev pub behind : List Part → Outcome (Found (List Part)) → Outcome (Found (List Part))
+behind ps o = o >>= λ qs. found (ps ++ qs .value) (qs .next)
+
+behind-none : (o : Outcome (Found (List Part))) → o ≡ behind [] o
+behind-none (given qs) = refl
+behind-none (refused n p) = refl
+
+behind-more : (ps : List Part) (q : Part) (o : Outcome (Found (List Part)))
+    → behind ps (o >>= λ qs. found (q ∷ qs .value) (qs .next)) ≡ behind (ps ++ (q ∷ [])) o
+behind-more ps q (given qs) = ap (λ (l : List Part). found l (qs .next)) (sym (append-assoc ps (q ∷ []) (qs .value)))
+behind-more ps q (refused n p) = refl
+
 pub record PartsSoFar (s : List ℕ) (c : Counts) (ps : List Part) (w : WoundSoFar) (at : ℕ) : Type 0 where
   pub few : c .relays ≤ mostRelays
   pub so-far : (r : ℕ) → Tallied w ps r
-  pub onward : (m n p : ℕ) → c .parts ≡ length ps + m → partsAt c m w s at ≡ refused n p → boardAt s ≡ refused n p
+  pub whole : (m : ℕ) → c .parts ≡ length ps + m → boardAt s ≡ boardFrom c (behind ps (partsAt c m w s at))
 
 pub record KindRead (s : List ℕ) (c : Counts) (ps : List Part) (w : WoundSoFar) (k at : ℕ) : Type 0 where
   pub part-at : ℕ
@@ -88,9 +104,9 @@ module _ (s : List ℕ) where
       record {
         few = few;
         so-far = tallied-none;
-        onward = λ m n p all e.
+        whole = λ m all.
             (let left : c .parts ≡ m = omega (arith, all) in
-            let parts = ap (λ (i : ℕ). partsAt c i noneWound s at) left ∙ e in
+            let parts = ap (λ (i : ℕ). partsAt c i noneWound s at) left ∙ behind-none (partsAt c m noneWound s at) in
             rw (← read, parts));
       }
 
@@ -105,8 +121,11 @@ module _ (s : List ℕ) where
       record {
         few = x .few;
         so-far = λ r. tallied-gained c (x .few) w ps q r (fine .fine) (x .so-far r);
-        onward = λ m n p all e. x .onward (suc m) n p (omega (arith, all, length-append ps (q ∷ [])))
-            (rw (← read, e));
+        whole = λ m all.
+            (let parts : behind ps (partsAt c (suc m) w s at) ≡ behind (ps ++ (q ∷ []))
+            (partsAt c m (gained w (q .kind)) s next) =
+            rw (← read) (behind-more ps q (partsAt c m (gained w (q .kind)) s next)) in
+            x .whole (suc m) (omega (arith, all, length-append ps (q ∷ []))) ∙ ap (boardFrom c) parts);
       }
 
   module _ (c : Counts) (ps : List Part) (w : WoundSoFar) (k a b at : ℕ) (x : EndsRead s c ps w k a b at) where
@@ -202,3 +221,21 @@ module _ (s : List ℕ) where
         named-onward c ps w k a b p (before .1) v at named
             (untaken-free w ps v so-far k most untaken),
       )
+
+  -- ---- what follows
+
+  pub rest-refused : (c : Counts) (ps : List Part) (w : WoundSoFar) (at m n p : ℕ) → PartsSoFar s c ps w at
+      → c .parts ≡ length ps + m → partsAt c m w s at ≡ refused n p → boardAt s ≡ refused n p
+  unfolding boardFrom
+  rest-refused c ps w at m n p x all e = x .whole m all ∙ rw e
+
+  pub reached-board : (c : Counts) (ps : List Part) (at : ℕ) → Reached s (at-part c ps) at → length ps ≡ c .parts
+      → Wound (c .relays) ps → boardAt s ≡ found (boardOf c ps) at
+  unfolding boardFrom partsAt complete
+  reached-board c ps at here all wounds =
+      let read = reached-read (at-part c ps) at here in
+      let w = read .0 in
+      let x = read .1 in
+      let full : every (c .relays) (wound w) ≡ true =
+      below-every (wound w) (c .relays) (λ r below. wound-tallied w ps r (x .so-far r) (wounds r below)) in
+      x .whole 0 (omega (arith, all)) ∙ rw (full, append-nil ps)

@@ -41,7 +41,7 @@ use Rattle.file_means.proofs.TakenLaws.{taken-barred, barred-taken}
 use Rattle.file_means.proofs.LeadsLaws.{Leads, leads-each, leads-then, leads-unless}
 
 -- a board of counts c and parts ps is reached up to a place, and no relay of it lacks a winding
-pub record Given (s : List ℕ) (c : Counts) (ps : List Part) (at : ℕ) : Type 0 where
+pub record BoardReached (s : List ℕ) (c : Counts) (ps : List Part) (at : ℕ) : Type 0 where
   pub reached : Reached s (at-part c ps) at
   pub counted : length ps ≡ c .parts
   pub all-wound : Wound (c .relays) ps
@@ -181,7 +181,7 @@ module _ (s : List ℕ) where
 
   module _ (c : Counts) (few : c .relays ≤ mostRelays) where
     end-leads : (ps : List Part) (w : WoundSoFar) (at : ℕ) → ((r : ℕ) → Tallied w ps r) → Reached s (at-part c ps) at
-        → length ps ≡ c .parts → Leads (LineHolds s) (λ qs. Given s c (ps ++ qs .value) (qs .next))
+        → length ps ≡ c .parts → Leads (LineHolds s) (λ qs. BoardReached s c (ps ++ qs .value) (qs .next))
         (unless (complete (c .relays) w) windingLacking at >> found [] at)
     unfolding complete
     end-leads ps w at so-far here all =
@@ -201,7 +201,7 @@ module _ (s : List ℕ) where
 
     parts-lead : (n : ℕ) (ps : List Part) (w : WoundSoFar) (at : ℕ) → ((r : ℕ) → Tallied w ps r)
         → Reached s (at-part c ps) at → length ps + n ≡ c .parts
-        → Leads (LineHolds s) (λ qs. Given s c (ps ++ qs .value) (qs .next)) (partsAt c n w s at)
+        → Leads (LineHolds s) (λ qs. BoardReached s c (ps ++ qs .value) (qs .next)) (partsAt c n w s at)
     unfolding partsAt
     parts-lead zero ps w at so-far here all = end-leads ps w at so-far here (omega arith)
     parts-lead (suc n) ps w at so-far here all =
@@ -215,12 +215,13 @@ module _ (s : List ℕ) where
         (parts-lead n more w′ (p .next)
         (λ r. tallied-gained c few w ps (p .value) r (fine .fine) (so-far r)) there
         (omega (arith, length-append ps (p .value ∷ []))))
-        (λ qs _ rest. subst (λ (l : List Part). Given s c l (qs .next))
+        (λ qs _ rest. subst (λ (l : List Part). BoardReached s c l (qs .next))
         (append-assoc ps (p .value ∷ []) (qs .value)) rest))
 
   -- ---- a board
 
-  pub board-leads : Leads (LineHolds s) (λ b. Given s (b .value .counts) (partsOf (b .value)) (b .next)) (boardAt s)
+  pub board-leads : Leads (LineHolds s) (λ b. BoardReached s (b .value .counts) (partsOf (b .value)) (b .next))
+      (boardAt s)
   unfolding boardAt boardFrom
   board-leads =
       leads-then (LineHolds s) _ _ (countsAt s) _ counts-lead (λ c read start.

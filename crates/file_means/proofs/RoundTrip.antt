@@ -16,8 +16,7 @@ use Rattle.bits.proofs.BoolLaws.{both-true}
 use Rattle.board.proofs.PaddedLaws.{padded-parts}
 use Rattle.board.proofs.RuleLaws.{counts-in-range}
 use Rattle.board.proofs.SameLaws.{equal-same-board}
-use Rattle.board_reader.specs.Reading.{boardOf, longestInput, answered, reading, toldReadAnswer, Reads}
-use Rattle.board_reader.specs.declared.BoardRead.{BoardRead}
+use Rattle.board_reader.specs.Reading.{boardOf, longestInput, answered, reading}
 use Rattle.board_writer.specs.File.{boardBytes}
 use Rattle.board_writer.specs.Writing.{writing}
 use Rattle.board_writer.proofs.WriteLaws.{writing-with-room}
@@ -36,7 +35,7 @@ begins bytes rest n long =
 -- a board's bytes, whatever stands after them, are read as that board
 module _ (b : Board) (rest : List ℕ) (n : ℕ) (places : length (b .parts) ≡ mostParts) (fine : boardFine b ≡ true)
     (long : n ≡ length (boardBytes b)) (short : length (boardBytes b ++ rest) ≤ longestInput) where
-  pub reads-back : reading (boardBytes b ++ rest) ≡ (boardOf (b .counts) (partsOf b), given n)
+  reads-back : reading (boardBytes b ++ rest) ≡ (boardOf (b .counts) (partsOf b), given n)
   unfolding reading answered
   reads-back =
       rw (
@@ -78,17 +77,12 @@ writes : (b : Board) (out : List ℕ) (n : ℕ) → boardFine b ≡ true → n �
 writes b out n fine long room =
     writing-with-room b out fine (omega arith) ∙ ap (λ (m : ℕ). (given m, boardBytes b ++ drop m out)) (sym long)
 
--- a board that was read is fine and stands at the start of the input
-pub was-read-fine : (s : List ℕ) (r : BoardRead) (n : ℕ) → Reads s r → toldReadAnswer (r .answer) ≡ given n
-    → BoardIsFine s (r .board) n
-was-read-fine s r n read told =
-    subst (λ (a : Board × Outcome ℕ). Gives (BoardIsFine s (a .0)) (a .1))
-    (sym read ∙ ap (λ (o : Outcome ℕ). (r .board, o)) told) (read-fine s)
-
 pub read-then-write : ReadThenWrite
 read-then-write s out out′ n r w bytes read told wrote =
     let b = r .board in
-    let was = was-read-fine s r n read told in
+    let was : BoardIsFine s b n =
+    subst (λ (a : Board × Outcome ℕ). Gives (BoardIsFine s (a .0)) (a .1))
+    (sym read ∙ ap (λ (o : Outcome ℕ). (b, o)) told) (read-fine s) in
     let long : n ≡ length (boardBytes b) = omega (arith, was .stands bytes .ends) in (
       was .fine,
       λ room.

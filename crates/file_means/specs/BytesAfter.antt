@@ -7,14 +7,12 @@ use mathlib.Core.Path.{_≡_}
 use mathlib.Core.List.{List}
 use lib.ListN.{length, take}
 use Rattle.number.specs.Outcomes.{given}
-use Rattle.number.specs.Numbers.{Bytes}
 use Rattle.board_reader.specs.declared.BoardRead.{BoardRead}
 use Rattle.board_reader.specs.Reading.{longestInput, toldReadAnswer, Reads}
 
 abbrev pub BytesAfter : Type 0
 BytesAfter =
     (s s′ : List ℕ) (r r′ : BoardRead) (n : ℕ)
-    → Bytes s
     → Reads s r
     → toldReadAnswer (r .answer) ≡ given n
     → (n ≤ length s)

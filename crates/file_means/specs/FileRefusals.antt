@@ -24,9 +24,9 @@
 --     LineHolds s n p         line n of the table holds at place p, and none before it
 --     FileRefused             over the call `board_reader::read`: it is refused by n at p exactly if line n holds
 --                             there, and none before it
---     FileAccepted            over the same call: where it is accepted up to place n, the counts and parts of the board
---                             are the numbers that stand before n, the parts are C, and every relay is regular or
---                             steel-core
+--     FileAccepted            over the same call: it is accepted up to place n, and the board has the counts c and the
+--                             parts ps, exactly if these are the numbers that stand before n, the parts are C, and
+--                             every relay is regular or steel-core
 use Prim.Native.Nat.{ℕ, _+_, _<_, _≤_}
 use mathlib.Core.Path.{_≡_}
 use mathlib.Core.Logic.{_⊎_, _↔_}
@@ -135,9 +135,7 @@ FileRefused =
 
 abbrev pub FileAccepted : Type 0
 FileAccepted =
-    (s : List ℕ) (r : BoardRead) (n : ℕ)
+    (s : List ℕ) (r : BoardRead) (c : Counts) (ps : List Part) (n : ℕ)
     → Reads s r
-    → toldReadAnswer (r .answer) ≡ given n
-    → Reached s (at-part (r .board .counts) (partsOf (r .board))) n
-    × (length (partsOf (r .board)) ≡ r .board .counts .parts)
-    × Wound (r .board .counts .relays) (partsOf (r .board))
+    → ((toldReadAnswer (r .answer) ≡ given n) × (r .board .counts ≡ c) × (partsOf (r .board) ≡ ps))
+    ↔ ((length s ≤ longestInput) × Reached s (at-part c ps) n × (length ps ≡ c .parts) × Wound (c .relays) ps)

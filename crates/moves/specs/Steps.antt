@@ -2,26 +2,26 @@
 -- Otherwise it draws if dropped and live, drops if drawn and dead, else rests. Steel: both windings are always judged,
 -- each with W. Either undecided: undecided. Both live: conflict. Otherwise it draws if dropped and the drawing winding
 -- is live, drops if drawn and the dropping winding is live, else rests."
---     Move                      what a move comes to: drew, dropped, rests, undecided or conflict
---     isLive, isUndecided o     the winding was judged live, undecided
---     isMissing o               the relay has no such winding
---     regularMove d x           a regular relay, drawn if d, with its winding judged as x: once it is not undecided,
---                               what is not live is dead
---     steelMove d x y           a steel relay, drawn if d, with its drawing winding judged as x and its dropping
---                               winding as y
---     moveBy d x y              a relay by its first and its second winding: with a second one it is steel, else
---                               regular; what the board lacks rests
---     findingOn near b r n w    winding n of relay r of board b, judged by the sets of neighbours `near` within the
---                               allowance w; refused by 11 where there is none
---     stepBy near b d r w       what relay r does, drawn if d
---     stepOf b s r w            what relay r of board b does in state s, within the allowance w. Runs know it by its
---                               laws alone
---     stepper b w               the steps of board b within the allowance w, of every relay in every state
---     made s r m                the state after relay r came to m: "A move changes that relay and nothing else"
---     toldMove                  the answer's cases in the rule book's words
---     Steps near b s r w m      promise: `step` of relay r of board b in state s, by the sets `near` and within the
---                               allowance w, answers m
---     After s r m t             promise: `after` relay r came to m in state s answers t
+--     Move                         what a move comes to: drew, dropped, rests, undecided or conflict
+--     isLive, isUndecided o        the winding was judged live, undecided
+--     isMissing o                  the relay has no such winding
+--     regularMove d x              a regular relay, drawn if d, with its winding judged as x: once it is not undecided,
+--                                  what is not live is dead
+--     steelMove d x y              a steel relay, drawn if d, with its drawing winding judged as x and its dropping
+--                                  winding as y
+--     moveBy d x y                 a relay by its first and its second winding: with a second one it is steel, else
+--                                  regular; what the board lacks rests
+--     findingOn near b r n w       winding n of relay r of board b, judged by the sets of neighbours `near` within the
+--                                  allowance w; refused by 11 where there is none
+--     stepBy near b d r w          what relay r does, drawn if d
+--     stepOf b s r w               what relay r of board b does in state s, within the allowance w. Runs know it by its
+--                                  laws alone
+--     stepper b w                  the steps of board b within the allowance w, of every relay in every state
+--     made s r m                   the state after relay r came to m: "A move changes that relay and nothing else"
+--     toldMove                     the answer's cases in the rule book's words
+--     StepsRelay near b s r w m    promise: `step` of relay r of board b in state s, by the sets `near` and within the
+--                                  allowance w, answers m
+--     AfterMove s r m t            promise: `after` relay r came to m in state s answers t
 use Prim.Native.Nat.{ℕ}
 use mathlib.Core.Path.{_≡_}
 use mathlib.Core.Bool.{Bool, true, false, not, cond, _&&_, _||_}
@@ -104,8 +104,8 @@ toldMove said.Rests = rests
 toldMove said.Undecided = undecided
 toldMove said.Conflict = conflict
 
-abbrev pub Steps : List ℕ → Board → State → ℕ → ℕ → code-move.Move → Type 0
-Steps near b s r w m = toldMove m ≡ stepBy near b (isDrawn s r) r w
+abbrev pub StepsRelay : List ℕ → Board → State → ℕ → ℕ → code-move.Move → Type 0
+StepsRelay near b s r w m = toldMove m ≡ stepBy near b (isDrawn s r) r w
 
-abbrev pub After : State → ℕ → code-move.Move → State → Type 0
-After s r m t = t ≡ made s r (toldMove m)
+abbrev pub AfterMove : State → ℕ → code-move.Move → State → Type 0
+AfterMove s r m t = t ≡ made s r (toldMove m)

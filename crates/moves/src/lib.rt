@@ -4,7 +4,7 @@ ghost use mathlib.Core.Bool.{_&&_, _||_, cond};
 ghost use Rattle.number.specs.Outcomes.{refused};
 ghost use Rattle.search.specs.Verdicts.{toldFinding};
 ghost use Rattle.moves.specs.Steps.{drew, dropped, rests, isLive, isUndecided, isMissing, toldMove, regularMove};
-ghost use Rattle.moves.specs.Steps.{steelMove, moveBy, findingOn, Steps, After};
+ghost use Rattle.moves.specs.Steps.{steelMove, moveBy, findingOn, StepsRelay, AfterMove};
 ghost use Rattle.moves.specs.Moving.{toldMoved, Moves};
 use board::Board;
 use judge::Sought;
@@ -171,7 +171,7 @@ fn finding_on(near: &[u64; 64], board: Board, relay: u32, which: Which, allowanc
 
 // What a relay comes to in this state, by the sets of neighbours within the allowance.
 pub fn step(near: &[u64; 64], board: Board, state: State, relay: u32, allowance: u32) -> Move
-    ensures { λ r. ⌜ Steps (now (near .entry)) board state relay allowance r ⌝ }
+    ensures { λ r. ⌜ StepsRelay (now (near .entry)) board state relay allowance r ⌝ }
 {
     let drawn = bits::has(state.drawn, relay);
     let first = finding_on(near, board, relay, Which::First, allowance);
@@ -181,7 +181,7 @@ pub fn step(near: &[u64; 64], board: Board, state: State, relay: u32, allowance:
 
 // The state after a relay came to this: drawn, dropped, or as it was.
 pub fn after(state: State, relay: u32, motion: Move) -> State
-    ensures { λ r. ⌜ After state relay motion r ⌝ }
+    ensures { λ r. ⌜ AfterMove state relay motion r ⌝ }
 {
     match motion {
         Move::Drew => state.draw(relay),
