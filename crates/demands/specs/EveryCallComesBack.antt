@@ -73,8 +73,8 @@ use Rattle.events.specs.declared.Shown.{Shown}
 use Rattle.events.specs.Events.{buttonOf, pushes, RunLine, EventLine}
 use Rattle.session.specs.declared.Session.{Session}
 use Rattle.session.specs.declared.Handed.{Handed}
-use Rattle.session.specs.HandingOut.{toldHandOut}
-use Rattle.session_means.specs.HandedLines.{Called}
+use Rattle.session.specs.HandingOut.{toldHandOut, NextLine}
+use Rattle.session.specs.Filling.{NextLines}
 use Rattle.demands.specs.OneAnswer.{OneAnswer}
 
 abbrev pub against : {A : Type 0} → Outcome A → Outcome (Unit {0})
@@ -161,7 +161,10 @@ pub record InOrder : Type 0 where
       → EventLine b e s v w x
       → against (wordOf (toldLine (x .line))) ≡ firstNo (pressLines b s v)
   pub hands : (z : Session) (s out out′ : List ℕ) (r : Handed)
-      → Called z s out r out′
+      → NextLine z s out r out′
+      → against (toldHandOut (r .answer)) ≡ firstNo (lineLines out)
+  pub hands-lines : (z : Session) (s out out′ : List ℕ) (r : Handed)
+      → NextLines z s out r out′
       → against (toldHandOut (r .answer)) ≡ firstNo (lineLines out)
 
 pub record AsLent : Type 0 where
@@ -210,7 +213,11 @@ pub record AsLent : Type 0 where
       → wordOf (toldLine (x .line)) ≡ refused n p
       → (toldLine (x .line) ≡ event e (refused n p) 0 (s .drawn)) × (x .state ≡ s)
   pub hands : (z : Session) (s out out′ : List ℕ) (r : Handed) (n p : ℕ)
-      → Called z s out r out′
+      → NextLine z s out r out′
+      → toldHandOut (r .answer) ≡ refused n p
+      → (r .session ≡ z) × (out′ ≡ out)
+  pub hands-lines : (z : Session) (s out out′ : List ℕ) (r : Handed) (n p : ℕ)
+      → NextLines z s out r out′
       → toldHandOut (r .answer) ≡ refused n p
       → (r .session ≡ z) × (out′ ≡ out)
 
