@@ -11,6 +11,7 @@ use Rattle.moves_means.proofs.ByChains.{regular-by-chains, steel-by-chains}
 use Rattle.moves_means.proofs.OneRelay.{changes-one-relay}
 use Rattle.runs_means.proofs.Courses.{run-exactly}
 use Rattle.session_means.proofs.HandedLines.{lines-handed-out, all-handed-out}
+use Rattle.session_means.proofs.FilledBuffers.{buffers-filled, all-filled}
 use Rattle.session_means.proofs.EventRefusals.{events-refused}
 use Rattle.session_means.proofs.LinesDrawn.{lines-drawn}
 use Rattle.demands.specs.AsTheModelSays.{AsTheModelSays}
@@ -33,6 +34,8 @@ as-the-model-says = record {
   bytes-after = bytes-after;
   lines = lines-handed-out;
   all-lines = all-handed-out;
+  filled = buffers-filled;
+  all-filled = all-filled;
   events = events-refused;
   drawn = lines-drawn;
 }

@@ -13,7 +13,8 @@
 --         `written-read`, `read-written`; `file-read`: a board that was read is what stands in the file; `bytes-after`:
 --         what stands behind a board does not bear on it
 --     "A run moves the lowest relay that can move until it is idle or must stop."
---         `runs`; and what a session prints of its runs: `lines`, `all-lines`, `events`, `drawn`
+--         `runs`; and what a session prints of its runs: `lines`, `all-lines`, in buffers `filled`, `all-filled`; `events`,
+--         `drawn`
 -- Each field is a statement over the calls, put into words in the file that defines it.
 --     AsTheModelSays    the demand
 use Rattle.board.specs.BreaksNoRule.{EveryRelaySort}
@@ -29,6 +30,7 @@ use Rattle.moves_means.specs.ByChains.{RegularByChains, SteelByChains}
 use Rattle.moves_means.specs.OneRelay.{ChangesOneRelay}
 use Rattle.runs_means.specs.Courses.{RunExactly}
 use Rattle.session_means.specs.HandedLines.{LinesHandedOut, AllHandedOut}
+use Rattle.session_means.specs.FilledBuffers.{BuffersFilled, AllFilled}
 use Rattle.session_means.specs.EventRefusals.{EventsRefused}
 use Rattle.session_means.specs.LinesDrawn.{LinesDrawn}
 
@@ -55,9 +57,11 @@ pub record AsTheModelSays : Type 0 where
   pub read-written : ReadThenWrite
   pub file-read : FileAccepted
   pub bytes-after : BytesAfter
-  -- the lines handed out are the session's lines; its events are refused by 12 alone, and each prints the sum over
-  -- its drawn relays
+  -- the lines handed out, one by one or as many as fill a buffer, are the session's lines; its events are refused by 12
+  -- alone, and each prints the sum over its drawn relays
   pub lines : LinesHandedOut
   pub all-lines : AllHandedOut
+  pub filled : BuffersFilled
+  pub all-filled : AllFilled
   pub events : EventsRefused
   pub drawn : LinesDrawn
