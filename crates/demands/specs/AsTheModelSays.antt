@@ -13,8 +13,8 @@
 --         `written-read`, `read-written`; `file-read`: a board that was read is what stands in the file; `bytes-after`:
 --         what stands behind a board does not bear on it
 --     "A run moves the lowest relay that can move until it is idle or must stop."
---         `runs`; and what a session prints of its runs: `lines`, `all-lines`, in buffers `filled`, `all-filled`; `events`,
---         `drawn`
+--         `runs`; and what a session prints of its runs: `lines`, `all-lines`, in buffers `filled`, `all-filled`;
+--         `events`, `drawn`
 -- Each field is a statement over the calls, put into words in the file that defines it.
 --     AsTheModelSays    the demand
 use Rattle.board.specs.BreaksNoRule.{EveryRelaySort}

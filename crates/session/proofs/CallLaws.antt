@@ -67,9 +67,9 @@ module _ (z : code-session.Session) (s out out′ : List ℕ) (r : code-handed.H
 
   -- what a call that hands out a line says of the session
   pub record Came (n : ℕ) : Type 0 where
-    pub line-told : Line
-    pub next : nextOf (toldSession z) s ≡ (toldSession (r .session), line line-told)
-    pub text : take n out′ ≡ lineText line-told
+    pub its-line : Line
+    pub next : nextOf (toldSession z) s ≡ (toldSession (r .session), line its-line)
+    pub text : take n out′ ≡ lineText its-line
     pub fits : n ≤ length out
 
   came-by : (n : ℕ) → r .answer ≡ said.Written n → (x : Session × Coming) → nextOf (toldSession z) s ≡ x → Came n
@@ -83,7 +83,7 @@ module _ (z : code-session.Session) (s out out′ : List ℕ) (r : code-handed.H
       let long = line-bytes (sym (handed .0) ∙ said-line) in
       let after = ap (λ (h : Handed). h .session) (next-by room y (line l) is) in
       record {
-        line-told = l;
+        its-line = l;
         next = is ∙ ap {B = Session × Coming} (λ x. (x, line l)) (sym after);
         text = ap (λ (k : ℕ). take k out′) (sym long) ∙ handed .1;
         fits = omega (arith, long, line-length-most l, room);
@@ -96,4 +96,4 @@ module _ (z : code-session.Session) (s out out′ : List ℕ) (r : code-handed.H
   pub call-advances : Advances z s (length out) r
   call-advances n is =
       let c = came n is in
-      (c .fits, next-less (toldSession z) (toldSession (r .session)) s (c .line-told) (c .next))
+      (c .fits, next-less (toldSession z) (toldSession (r .session)) s (c .its-line) (c .next))
