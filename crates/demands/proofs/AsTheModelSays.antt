@@ -12,7 +12,7 @@ use Rattle.moves_means.proofs.OneRelay.{changes-one-relay}
 use Rattle.runs_means.proofs.Courses.{run-exactly}
 use Rattle.session_means.proofs.HandedLines.{lines-handed-out, all-handed-out}
 use Rattle.session_means.proofs.FilledBuffers.{buffers-filled, all-filled}
-use Rattle.session_means.proofs.EventRefusals.{events-refused}
+use Rattle.session_means.proofs.EventRefusals.{events-refused, events-closed}
 use Rattle.session_means.proofs.LinesDrawn.{lines-drawn}
 use Rattle.demands.specs.AsTheModelSays.{AsTheModelSays}
 
@@ -37,5 +37,6 @@ as-the-model-says = record {
   filled = buffers-filled;
   all-filled = all-filled;
   events = events-refused;
+  closed = events-closed;
   drawn = lines-drawn;
 }

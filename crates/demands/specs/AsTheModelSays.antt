@@ -14,7 +14,7 @@
 --         what stands behind a board does not bear on it
 --     "A run moves the lowest relay that can move until it is idle or must stop."
 --         `runs`; and what a session prints of its runs: `lines`, `all-lines`, in buffers `filled`, `all-filled`;
---         `events`, `drawn`
+--         `events`, `closed`, `drawn`
 -- Each field is a statement over the calls, put into words in the file that defines it.
 --     AsTheModelSays    the demand
 use Rattle.board.specs.BreaksNoRule.{EveryRelaySort}
@@ -31,7 +31,7 @@ use Rattle.moves_means.specs.OneRelay.{ChangesOneRelay}
 use Rattle.runs_means.specs.Courses.{RunExactly}
 use Rattle.session_means.specs.HandedLines.{LinesHandedOut, AllHandedOut}
 use Rattle.session_means.specs.FilledBuffers.{BuffersFilled, AllFilled}
-use Rattle.session_means.specs.EventRefusals.{EventsRefused}
+use Rattle.session_means.specs.EventRefusals.{EventsRefused, EventsClosed}
 use Rattle.session_means.specs.LinesDrawn.{LinesDrawn}
 
 pub record AsTheModelSays : Type 0 where
@@ -58,10 +58,11 @@ pub record AsTheModelSays : Type 0 where
   pub file-read : FileAccepted
   pub bytes-after : BytesAfter
   -- the lines handed out, one by one or as many as fill a buffer, are the session's lines; its events are refused by 12
-  -- alone, and each prints the sum over its drawn relays
+  -- alone, it is ended by 1, 2 or 7, and each line prints the sum over the drawn relays
   pub lines : LinesHandedOut
   pub all-lines : AllHandedOut
   pub filled : BuffersFilled
   pub all-filled : AllFilled
   pub events : EventsRefused
+  pub closed : EventsClosed
   pub drawn : LinesDrawn
