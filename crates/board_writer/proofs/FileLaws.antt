@@ -22,11 +22,10 @@ use Rattle.board.specs.declared.Counts.{Counts}
 use Rattle.board.specs.declared.Board.{Board}
 use Rattle.board.specs.Parts.{partsOf}
 use Rattle.board.specs.Rules.{mostRelays, terminalFine, endsFine, limitOf, nameFine, partFits, boardFine}
-use Rattle.board.specs.Sorts.{partsFit}
 use Rattle.bits.proofs.BoolLaws.{both-true, by-test}
 use Rattle.kinds.proofs.KindLaws.{kind-number-most}
 use Rattle.board.proofs.RuleLaws.{InRange, counts-in-range}
-use Rattle.board.proofs.WindingLaws.{fine-fit}
+use Rattle.board.proofs.WindingLaws.{partsFit, fine-fit}
 use Rattle.board_writer.specs.declared.Written.{Written}
 use Rattle.board_writer.specs.declared.Written.the-variants.{Bytes, Refused}
 use Rattle.board_writer.specs.File.{nameBytes, partBytes, partsBytes, countsBytes, boardBytes, longestFile}

@@ -49,7 +49,8 @@ module _ (b : ℕ) (rest : List ℕ) (small : b < 128) where
   form-whole (suc k) [] bytes set few only = form-last k b rest small ∙ ap (λ (v : ℕ). Got v 1) (omega arith)
   form-whole (suc k) (x ∷ bs) bytes set few only =
       let some : 0 < b = last-some x b bs only in
-      let after = form-whole k bs (bytes-rest x (bs ++ (b ∷ rest)) bytes) (set .1) (omega arith) (λ e. absurd (omega arith)) in
+      let after =
+      form-whole k bs (bytes-rest x (bs ++ (b ∷ rest)) bytes) (set .1) (omega arith) (λ e. absurd (omega arith)) in
       form-more k x (bs ++ (b ∷ rest)) (set .0)
       ∙ ap (below (x - 128)) after
       ∙ below-got (x - 128) (groups (bs ++ (b ∷ []))) (length (bs ++ (b ∷ []))) (groups-some bs b some small)
@@ -119,7 +120,8 @@ form-case (suc k) (x ∷ s) bytes =
     (λ small. rw (form-last k x s small)
     (subst (λ (v : ℕ). FormCase (suc k) (x ∷ s) (Got v 1)) (omega arith)
     (got-it [] s x refl tt (omega arith) small (λ z. refl))))
-    (λ top. rw (form-more k x s top) (case-behind k x s (bytes 0) top (form k s) (form-case k s (bytes-rest x s bytes))))
+    (λ top. rw (form-more k x s top)
+    (case-behind k x s (bytes 0) top (form k s) (form-case k s (bytes-rest x s bytes))))
 
 -- ---- at a place of an input
 

@@ -1,5 +1,5 @@
--- A number's form by its bytes, stated over the call `number::read_number`. Rule book, "The board file": "A number is in
--- groups of seven bits, lowest group first, one byte a group; the top bit is set on every byte but the last. At most
+-- A number's form by its bytes, stated over the call `number::read_number`. Rule book, "The board file": "A number is
+-- in groups of seven bits, lowest group first, one byte a group; the top bit is set on every byte but the last. At most
 -- three bytes (2,097,151). Only the shortest form is allowed: the last byte is 0 only if it is the only byte."
 --     TopBit b             the top bit of the byte b is set
 --     groups bs            what the bytes bs are worth: groups of seven bits, lowest group first, one byte a group
