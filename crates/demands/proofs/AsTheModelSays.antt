@@ -1,6 +1,7 @@
 -- Demand 2: each field is a theorem of a wing.
+use Rattle.board.proofs.SameLaws.{same-exactly}
 use Rattle.board.proofs.BreaksNoRule.{every-relay-sort}
-use Rattle.file_means.proofs.RoundTrip.{write-then-read, read-then-write}
+use Rattle.file_means.proofs.RoundTrip.{write-then-read, rest-stays, read-then-write}
 use Rattle.file_means.proofs.BytesAfter.{bytes-after}
 use Rattle.file_means.proofs.FileRefusals.{file-accepted}
 use Rattle.judge_means.proofs.Circuits.{paths-are-chains, live-is-carrying}
@@ -30,8 +31,10 @@ as-the-model-says = record {
   runs = run-exactly;
   written-read = write-then-read;
   read-written = read-then-write;
+  rest-stays = rest-stays;
   file-read = file-accepted;
   bytes-after = bytes-after;
+  same = same-exactly;
   lines = lines-handed-out;
   all-lines = all-handed-out;
   filled = buffers-filled;

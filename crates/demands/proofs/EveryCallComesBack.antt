@@ -3,10 +3,12 @@ use Prim.Native.Nat.{ℕ}
 use mathlib.Core.Path.{_≡_, sym, ap, _∙_}
 use mathlib.Core.List.{List}
 use Rattle.number.specs.Outcomes.{Outcome, given, refused, _>>_}
+use Rattle.number.proofs.FormExactly.{form-exactly}
 use Rattle.board.specs.declared.Board.{Board}
 use Rattle.state.specs.declared.State.{State}
 use Rattle.state.specs.States.{isPushed}
 use Rattle.board.proofs.BreaksNoRule.{fifteen-exactly}
+use Rattle.state.proofs.Fourteen.{fourteen-exactly}
 use Rattle.presses.specs.Presses.{pressable, pushing, releasing}
 use Rattle.presses.proofs.PressLaws.{push-refused, release-refused}
 use Rattle.board_reader.proofs.ReadLaws.{reading-refused}
@@ -42,8 +44,10 @@ pub in-order : InOrder
 unfolding pushing releasing judging moving running
 in-order = record {
   reads = file-refused;
+  forms = form-exactly;
   eleven = eleven-exactly;
   eleven-moved = move-eleven-exactly;
+  fourteen = fourteen-exactly;
   fifteen = fifteen-exactly;
   writes-number =
       λ v out out′ at x wrote. ap (λ (y : Outcome ℕ × List ℕ). against (y .0)) wrote

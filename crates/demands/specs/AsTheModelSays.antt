@@ -10,15 +10,17 @@
 --         `steel`
 --     "Board files keep their meaning both ways: write then read gives the board, read then write gives the bytes
 --     read."
---         `written-read`, `read-written`; `file-read`: a board that was read is what stands in the file; `bytes-after`:
---         what stands behind a board does not bear on it
+--         `written-read`, `read-written`; `rest-stays`: behind the bytes written a buffer is as lent; `file-read`: a
+--         board that was read is what stands in the file; `bytes-after`: what stands behind a board does not bear on
+--         it; `same`: which boards are the same
 --     "A run moves the lowest relay that can move until it is idle or must stop."
 --         `runs`; and what a session prints of its runs: `lines`, `all-lines`, in buffers `filled`, `all-filled`;
 --         `events`, `closed`, `drawn`
 -- Each field is a statement over the calls, put into words in the file that defines it.
 --     AsTheModelSays    the demand
+use Rattle.board.specs.Same.{SameExactly}
 use Rattle.board.specs.BreaksNoRule.{EveryRelaySort}
-use Rattle.file_means.specs.RoundTrip.{WriteThenRead, ReadThenWrite}
+use Rattle.file_means.specs.RoundTrip.{WriteThenRead, RestStays, ReadThenWrite}
 use Rattle.file_means.specs.BytesAfter.{BytesAfter}
 use Rattle.file_means.specs.FileRefusals.{FileAccepted}
 use Rattle.judge.specs.Judging.{Judges}
@@ -55,8 +57,11 @@ pub record AsTheModelSays : Type 0 where
   -- board files keep their meaning
   pub written-read : WriteThenRead
   pub read-written : ReadThenWrite
+  pub rest-stays : RestStays
   pub file-read : FileAccepted
   pub bytes-after : BytesAfter
+  -- boards are compared by their counts and first C parts
+  pub same : SameExactly
   -- the lines handed out, one by one or as many as fill a buffer, are the session's lines; its events are refused by 12
   -- alone, it is ended by 1, 2 or 7, and each line prints the sum over the drawn relays
   pub lines : LinesHandedOut
