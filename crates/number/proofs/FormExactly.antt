@@ -1,6 +1,6 @@
 -- The theorem of specs/FormExactly.antt: what `form` makes of some bytes is one of its four cases, and in each case it
 -- makes just that of them. Both over the longest form k.
-use Prim.Native.Nat.{ℕ, zero, suc, _+_, _-_, _*_, _%_, _^_, _≤_, _<_}
+use Prim.Native.Nat.{ℕ, zero, suc, _-_, _^_, _≤_, _<_}
 use native.Mathlib.Nat.{one-le-pow}
 use native.Mathlib.Omega.{arith}
 use mathlib.Core.Path.{_≡_, refl, sym, ap, subst, _∙_}
@@ -10,7 +10,7 @@ use Rattle.lists.specs.Members.{All}
 use Rattle.bits.proofs.BoolLaws.{by-less}
 use Rattle.number.specs.declared.Form.{Form}
 use Rattle.number.specs.declared.Form.the-variants.{Got, Ends, Bad}
-use Rattle.number.specs.Outcomes.{Outcome, Found, found}
+use Rattle.number.specs.Outcomes.{Outcome, Found}
 use Rattle.number.specs.Numbers.{longest, largest, Bytes, below, form, placed, numberAt}
 use Rattle.number.specs.FormExactly.{TopBit, groups, NumberForm, whole, cut, too-long, not-shortest, FormExactly}
 use Rattle.number.proofs.FormLaws.{form-too-long, form-last, form-more, below-got, bytes-rest, Bytes-drop}
