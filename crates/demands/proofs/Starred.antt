@@ -1,5 +1,5 @@
--- The table of specs/Starred.antt holds: what each call's promise says is computed from the definitions, and so is what a
--- session prints.
+-- The table of specs/Starred.antt holds: what each call's promise says is computed from the definitions, and so is what
+-- a session prints.
 use mathlib.Core.Path.{refl}
 use Rattle.number.specs.Numbers.{below, form, placed, numberAt}
 use Rattle.kinds.specs.Kinds.{kindOf}

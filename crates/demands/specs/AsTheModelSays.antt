@@ -4,8 +4,8 @@
 --         exactly by it, within the allowance; `moves`: a relay is moved exactly by the model's guards
 --     "A relay draws when a chain of conducting parts that meets no terminal twice runs from plus to minus through its
 --     winding, and drops when there is none."
---         `regular`, of the relay's `winding`; `sorts`: each relay is regular or steel-core; `wound`: it has the windings
---         of its sort; `changes`: a move changes that relay and nothing else
+--         `regular`, of the relay's `winding`; `sorts`: each relay is regular or steel-core; `wound`: it has the
+--         windings of its sort; `changes`: a move changes that relay and nothing else
 --     "A steel-core relay moves only on its drawing or dropping winding."
 --         `steel`, of the two windings that `wound` gives it
 --     "Board files keep their meaning both ways: write then read gives the board, read then write gives the bytes

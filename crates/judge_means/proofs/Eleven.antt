@@ -1,10 +1,10 @@
--- The theorems of specs/Eleven.antt, by how many parts are that winding: 1 or 0. Where it is 1, the winding is found, it
--- is the relay's, and of the kind that the relay's sort asks for.
+-- The theorems of specs/Eleven.antt, by how many parts are that winding: 1 or 0. Where it is 1, the winding is found,
+-- and it is the relay's, of the kind that the relay's sort asks for.
 use Prim.Native.Nat.{ℕ, _+_, _<_, _≤_}
 use native.Mathlib.Omega.{arith}
 use mathlib.Core.Path.{_≡_, refl, sym, ap, ap₂, _∙_}
 use mathlib.Core.Logic.{_⊎_, _↔_, inl, inr, ⊎-map, ⊎-elim}
-use mathlib.Core.Bool.{Bool, true, false, false≢true}
+use mathlib.Core.Bool.{Bool, true, false}
 use mathlib.Core.List.{List, [], _∷_}
 use mathlib.Core.Option.{none, some, Option·none-ne-some, Option·some-injective}
 use lib.Dec.{eqb, ltb}
@@ -235,8 +235,9 @@ module _ (b : Board) (r : ℕ) (n : Which) (fine : boardFine b ≡ true) where
       ⊎-elim (λ f. (endsOf (f .part), found-its (endsOf (f .part)) (f .found)))
       (λ m. absurd (omega (arith, here, m .no-part))) (sought n r (partsOf b))
 
-  pub line-its : ¬ (LineEleven b r n) → (e : Winding) × ItsWinding b r n e
-  line-its no-line =
+  -- where the line of 11 does not hold, the relay has that winding
+  pub its-there : ¬ (LineEleven b r n) → (e : Winding) × ItsWinding b r n e
+  its-there no-line =
       by-less (these n r (partsOf b)) 1 (λ few. absurd (no-line (none-line (omega (arith, few))))) counted-its
 
 module _ (b : Board) (r : ℕ) (n : Which) where
@@ -265,16 +266,15 @@ module _ (b : Board) (r : ℕ) (n : Which) where
 -- ---- the kind of a relay's winding, by the relay's sort
 
 -- where no part of this kind carries the relay, this part does not
-none-carries : (j r : ℕ) (ps : List Part) (p : Part) → windingsOf j r ps ≡ 0 → p ∈ ps → carries j r (p .kind) ≡ false
-none-carries j r ps p no-part among =
-    by-test (carries j r (p .kind))
-    (λ on. absurd (omega (
+none-carries : (j r : ℕ) (ps : List Part) (p : Part) → windingsOf j r ps ≡ 0 → p ∈ ps
+    → ¬ (carries j r (p .kind) ≡ true)
+none-carries j r ps p no-part among on =
+    omega (
       arith,
       no-part,
       windings-counted j r ps,
       member-counted (λ (q : Part). carries j r (q .kind)) ps p among on,
-    )))
-    (λ off. off)
+    )
 
 carries-kind : (j r : ℕ) (k : Kind) → carries j r k ≡ true → k ≡ kindOf j r
 unfolding carries
@@ -292,14 +292,14 @@ module _ (b : Board) (r : ℕ) where
   unfolding kindOf
   regular-kind regular e i =
       ⊎-elim (carries-kind regularKind r (i .part .kind))
-      (λ on. absurd (false≢true (sym (none-carries drawingKind r (partsOf b) (i .part) (regular .1) (i .on-board)) ∙ on)))
+      (λ on. absurd (none-carries drawingKind r (partsOf b) (i .part) (regular .1) (i .on-board) on))
       (first-carries e i)
 
   drawing-kind : isSteel r (partsOf b) → (e : Winding) (i : ItsWinding b r First e) → i .part .kind ≡ Drawing r
   unfolding kindOf
   drawing-kind steel e i =
       ⊎-elim
-      (λ on. absurd (false≢true (sym (none-carries regularKind r (partsOf b) (i .part) (steel .0) (i .on-board)) ∙ on)))
+      (λ on. absurd (none-carries regularKind r (partsOf b) (i .part) (steel .0) (i .on-board) on))
       (carries-kind drawingKind r (i .part .kind)) (first-carries e i)
 
   dropping-kind : (e : Winding) (i : ItsWinding b r Second e) → i .part .kind ≡ Dropping r

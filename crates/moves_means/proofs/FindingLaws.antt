@@ -32,7 +32,7 @@ use Rattle.judge.proofs.JudgeLaws.{winding-for-sought, judging-by}
 use Rattle.judge_means.specs.Exactness.{AcceptedWinding, chainsOf, effortOf}
 use Rattle.judge_means.specs.Eleven.{LineEleven, ItsWinding}
 use Rattle.judge_means.proofs.Exactness.{liveVerdict, deadVerdict, judges-keep, as-published}
-use Rattle.judge_means.proofs.Eleven.{missing-exactly, line-its, its-winding-unique, its-no-line, the-winding}
+use Rattle.judge_means.proofs.Eleven.{missing-exactly, its-there, its-winding-unique, its-no-line, the-winding}
 use Rattle.moves_means.specs.Guards.{CurrentThrough}
 use Rattle.moves_means.specs.SingleMoves.{NeedsMore}
 use Rattle.moves_means.proofs.CurrentLaws.{through-carries, carries-through}
@@ -119,7 +119,7 @@ module _ (b : Board) (w : ℕ) (s : State) (r : ℕ) (fine : boardFine b ≡ tru
     winding-finding : (n : Which) → r < b .counts .relays → ¬ ((n ≡ Second) × isRegular r (partsOf b))
         → HasFinding b s r n w
     winding-finding n below there =
-        let wound = line-its b r n fine eleven in
+        let wound = its-there b r n fine eleven in
         its-finding b w s r n (wound .0) (wound .1) fine fits
       where
         eleven : ¬ (LineEleven b r n)
