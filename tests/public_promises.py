@@ -38,7 +38,7 @@ def parameters(contract):
 
 
 def promise_of(contract):
-    """The one promise that a contract may make, as (the relation's name, its whole text), or None if it makes another."""
+    """The name of the relation that a contract promises, if it is of just the call's arguments, its answer and what it lends."""
     lent = [name for name, kind in parameters(contract) if kind.startswith("&mut ")]
     given = [f"(now ({name} .entry))" if kind.startswith("&") else name for name, kind in parameters(contract)]
     rest = " ".join(given + ["r"] + [f"(now ({name} .exit))" for name in lent])
@@ -79,6 +79,10 @@ for crate in repository.crates():
         checks.append((f"{name}'s line in the list is over its promise {relation}, whatever it is given", says_one(line, relation, contract)))
         checks.append((f"{name}'s row names its promise {relation} and that line", relation in named and line_of(name) in named))
         checks.append((f"{name}'s row names two must-fail edits", len([label for label in named if label in edits]) >= 2))
+    for label in edits:
+        checks.append((f"docs/PROMISES.md names the edit {label} of {crate}", f"`{label}`" in page))
+front = repository.text("crates", "demands", "specs", "EveryCallComesBack.antt").partition("pub record EveryCallComesBack ")[2]
+checks.append(("the list is a field of demand 1", " : OneAnswer\n" in front))
 for line in listed:
     checks.append((f"{line} of the list is a public function", line in {line_of(name) for name in public}))
 for name in rows:

@@ -17,11 +17,11 @@ use Rattle.board.specs.declared.Board.{Board}
 use Rattle.board.specs.Parts.{partsOf, mostParts}
 use Rattle.board.specs.Rules.{leastTerminals, mostTerminals, mostRelays, mostButtons, inRange, countsFine}
 use Rattle.board.specs.Rules.{nameFine, partFits, boardFine}
-use Rattle.board.specs.Sorts.{isRegular, isSteel, partsFit}
+use Rattle.board.specs.Sorts.{isRegular, isSteel}
 use Rattle.board.specs.BreaksNoRule.{InRange, Names, Fits, BreaksNoRule, FifteenExactly, EveryRelaySort}
 use Rattle.bits.proofs.BoolLaws.{both-true, true-both}
 use Rattle.board.proofs.FineLaws.{fine-range, fine-parts-fit, fine-relays-wound}
-use Rattle.board.proofs.WindingLaws.{wound-fine}
+use Rattle.board.proofs.WindingLaws.{partsFit, wound-fine}
 
 -- ---- 3: the counts
 

@@ -11,10 +11,10 @@ use Rattle.board.specs.Parts.{partsOf}
 use Rattle.board.specs.Rules.{countsFine, partsFine, boardFine}
 use Rattle.board.specs.Same.{sameBoard}
 use Rattle.bits.proofs.BoolLaws.{both-true}
-use Rattle.board.specs.Sorts.{Wound, partsFit}
+use Rattle.board.specs.Sorts.{Wound}
 use Rattle.board.proofs.RuleLaws.{InRange, counts-in-range}
 use Rattle.board.proofs.SameLaws.{same-board-equal}
-use Rattle.board.proofs.WindingLaws.{fine-fit, fine-wound}
+use Rattle.board.proofs.WindingLaws.{partsFit, fine-fit, fine-wound}
 
 pub same-boards-fine : (x y : Board) → sameBoard x y ≡ true → boardFine x ≡ boardFine y
 unfolding boardFine

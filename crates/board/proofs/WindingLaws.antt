@@ -22,7 +22,7 @@ use Rattle.windings.specs.Windings.{noneWound, windingFree, gained, wound, comp
 use Rattle.board.specs.declared.Part.{Part}
 use Rattle.board.specs.declared.Counts.{Counts}
 use Rattle.board.specs.Rules.{mostRelays, terminalFine, endsFine, nameFine, partFits, partFine, partsFine}
-use Rattle.board.specs.Sorts.{carries, windingsOf, Wound, partsFit}
+use Rattle.board.specs.Sorts.{carries, windingsOf, Wound}
 use Rattle.bits.proofs.BoolLaws.{both-true, true-both, by-test}
 use Rattle.windings.proofs.EveryLaws.{every-below, below-every}
 
@@ -220,6 +220,11 @@ module _ (c : Counts) (w : WoundSoFar) (ps : List Part) where
       (ap worth (eq-eqb n n refl)) (sorts n (ltb-true n (c .relays) named))
 
 -- ---- along the parts
+
+-- 5 to 7 of every part
+unfoldable pub partsFit : Counts → List Part → Bool
+partsFit c [] = true
+partsFit c (p ∷ ps) = partFits c p && partsFit c ps
 
 pub part-splits : (c : Counts) (w : WoundSoFar) (p : Part) → partFine c w p ≡ true → (partFits c p ≡ true)
     × (windingFree w (p .kind) ≡ true)

@@ -7,18 +7,15 @@
 --     isRegular r ps       relay r is regular: one part of kind 4, none of 5 and 6
 --     isSteel r ps         relay r is steel-core: one part of kind 5 and one of kind 6, none of 4
 --     Wound n ps           every relay below n is regular or steel-core
---     partsFit c ps        5 to 7 of every part
 use Prim.Native.Nat.{ℕ, _+_, _<_}
 use mathlib.Core.Path.{_≡_}
 use mathlib.Core.Logic.{_⊎_}
-use mathlib.Core.Bool.{Bool, true, cond, _&&_}
+use mathlib.Core.Bool.{Bool, cond, _&&_}
 use mathlib.Core.List.{List, [], _∷_}
 use lib.Dec.{eqb}
 use Rattle.kinds.specs.declared.Kind.{Kind}
 use Rattle.kinds.specs.Kinds.{kindNumber, nameOf, regularKind, drawingKind, droppingKind}
 use Rattle.board.specs.declared.Part.{Part}
-use Rattle.board.specs.declared.Counts.{Counts}
-use Rattle.board.specs.Rules.{partFits}
 
 unfoldable pub carries : ℕ → ℕ → Kind → Bool
 carries j r k = eqb (kindNumber k) j && eqb (nameOf k) r
@@ -37,7 +34,3 @@ isSteel r ps =
 
 abbrev pub Wound : ℕ → List Part → Type 0
 Wound n ps = (r : ℕ) → r < n → isRegular r ps ⊎ isSteel r ps
-
-unfoldable pub partsFit : Counts → List Part → Bool
-partsFit c [] = true
-partsFit c (p ∷ ps) = partFits c p && partsFit c ps

@@ -22,15 +22,14 @@ use Rattle.board.specs.declared.Counts.{Counts}
 use Rattle.board.specs.declared.Board.{Board}
 use Rattle.board.specs.Parts.{partsOf}
 use Rattle.board.specs.Rules.{mostRelays, terminalFine, endsFine, limitOf, nameFine, partFits, boardFine}
-use Rattle.board.specs.Sorts.{partsFit}
 use Rattle.bits.proofs.BoolLaws.{both-true, by-test}
 use Rattle.kinds.proofs.KindLaws.{kind-number-most}
 use Rattle.board.proofs.RuleLaws.{InRange, counts-in-range}
-use Rattle.board.proofs.WindingLaws.{fine-fit}
+use Rattle.board.proofs.WindingLaws.{partsFit, fine-fit}
 use Rattle.board_writer.specs.declared.Written.{Written}
 use Rattle.board_writer.specs.declared.Written.the-variants.{Bytes, Refused}
 use Rattle.board_writer.specs.File.{nameBytes, partBytes, partsBytes, countsBytes, boardBytes, longestFile}
-use Rattle.board_writer.specs.Writing.{writing, toldWritten, bytesWritten}
+use Rattle.board_writer.specs.Writing.{writing, toldWritten, bytesWritten, Writes}
 use Rattle.board_writer.proofs.LengthLaws.{counts-bytes-sum, part-bytes-sum}
 use Rattle.board_writer.proofs.WriteLaws.{board-bytes-sum, writing-broken}
 use Rattle.board_writer.proofs.WriteLaws.{writing-short, writing-with-room}
@@ -170,7 +169,7 @@ module _ (b : Board) (out : List ℕ) {A : Type 0} where
 
 -- `write` never refuses a buffer of LONGEST_FILE bytes by 16
 pub write-never-short : (b : Board) (out out′ : List ℕ) (w : Written) → longestFile ≤ length out
-    → _≡_ {A = Answered} (toldWritten w, out′) (writing b out) → ¬ (toldWritten w ≡ refused bufferTooShort 0)
+    → Writes b out w out′ → ¬ (toldWritten w ≡ refused bufferTooShort 0)
 write-never-short b out out′ w room wrote short =
     by-test (boardFine b)
     (λ fine. refused-never bufferTooShort 0 (length (boardBytes b))
@@ -217,13 +216,19 @@ writing-given b out n out′ is =
       begins = same .1 ∙ ap (λ (k : ℕ). boardBytes b ++ drop k out) (sym (same .0));
     }
 
--- whatever `write` answers, the bytes that it says were written begin the buffer, and the rest stays
-pub write-bytes : (b : Board) (out out′ : List ℕ) (w : Written) → _≡_ {A = Outcome ℕ × List ℕ} (toldWritten w, out′)
-    (writing b out) → out′ ≡ take (bytesWritten w) (boardBytes b) ++ drop (bytesWritten w) out
+-- whatever `write` answers, the bytes that it says were written are the file's first, they begin the buffer, and the
+-- rest stays
+pub write-bytes : (b : Board) (out out′ : List ℕ) (w : Written) → Writes b out w out′
+    → (bytesWritten w ≤ length (boardBytes b))
+    × (out′ ≡ take (bytesWritten w) (boardBytes b) ++ drop (bytesWritten w) out)
 write-bytes b out out′ (Bytes n) wrote =
-    let was = writing-given b out n out′ (sym wrote) in
-    was .begins ∙ ap (λ (l : List ℕ). l ++ drop n out) (sym (take-all n (boardBytes b) (omega (arith, was .count))))
-write-bytes b out out′ (Refused r) wrote = writing-refused b out (r .number) (r .place) out′ (sym wrote) .0
+    let was = writing-given b out n out′ (sym wrote) in (
+      omega (arith, was .count),
+      was .begins ∙ ap (λ (l : List ℕ). l ++ drop n out)
+          (sym (take-all n (boardBytes b) (omega (arith, was .count)))),
+    )
+write-bytes b out out′ (Refused r) wrote =
+    (omega arith, writing-refused b out (r .number) (r .place) out′ (sym wrote) .0)
 
 -- answers and what they tell
 pub written-told : Told toldWritten

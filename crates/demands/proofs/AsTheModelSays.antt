@@ -1,6 +1,7 @@
 -- Demand 2: each field is a theorem of a wing.
+use Rattle.board.proofs.SameLaws.{same-exactly}
 use Rattle.board.proofs.BreaksNoRule.{every-relay-sort}
-use Rattle.file_means.proofs.RoundTrip.{write-then-read, read-then-write}
+use Rattle.file_means.proofs.RoundTrip.{write-then-read, rest-stays, read-then-write}
 use Rattle.file_means.proofs.BytesAfter.{bytes-after}
 use Rattle.file_means.proofs.FileRefusals.{file-accepted}
 use Rattle.judge_means.proofs.Circuits.{paths-are-chains, live-is-carrying}
@@ -11,7 +12,8 @@ use Rattle.moves_means.proofs.ByChains.{regular-by-chains, steel-by-chains}
 use Rattle.moves_means.proofs.OneRelay.{changes-one-relay}
 use Rattle.runs_means.proofs.Courses.{run-exactly}
 use Rattle.session_means.proofs.HandedLines.{lines-handed-out, all-handed-out}
-use Rattle.session_means.proofs.EventRefusals.{events-refused}
+use Rattle.session_means.proofs.FilledBuffers.{buffers-filled, all-filled}
+use Rattle.session_means.proofs.EventRefusals.{events-refused, events-closed}
 use Rattle.session_means.proofs.LinesDrawn.{lines-drawn}
 use Rattle.demands.specs.AsTheModelSays.{AsTheModelSays}
 
@@ -30,10 +32,15 @@ as-the-model-says = record {
   runs = run-exactly;
   written-read = write-then-read;
   read-written = read-then-write;
+  rest-stays = rest-stays;
   file-read = file-accepted;
   bytes-after = bytes-after;
+  same = same-exactly;
   lines = lines-handed-out;
   all-lines = all-handed-out;
+  filled = buffers-filled;
+  all-filled = all-filled;
   events = events-refused;
+  closed = events-closed;
   drawn = lines-drawn;
 }

@@ -1,12 +1,14 @@
 -- Demand 1: what stands against each call, and what a refused call leaves.
 use Prim.Native.Nat.{ℕ}
-use mathlib.Core.Path.{sym, ap, _∙_}
+use mathlib.Core.Path.{_≡_, sym, ap, _∙_}
 use mathlib.Core.List.{List}
-use Rattle.number.specs.Outcomes.{Outcome, given, _>>_}
+use Rattle.number.specs.Outcomes.{Outcome, given, refused, _>>_}
+use Rattle.number.proofs.FormExactly.{form-exactly}
 use Rattle.board.specs.declared.Board.{Board}
 use Rattle.state.specs.declared.State.{State}
 use Rattle.state.specs.States.{isPushed}
 use Rattle.board.proofs.BreaksNoRule.{fifteen-exactly}
+use Rattle.state.proofs.Fourteen.{fourteen-exactly}
 use Rattle.presses.specs.Presses.{pressable, pushing, releasing}
 use Rattle.presses.proofs.PressLaws.{push-refused, release-refused}
 use Rattle.board_reader.proofs.ReadLaws.{reading-refused}
@@ -22,7 +24,9 @@ use Rattle.moves_means.proofs.SingleMoves.{move-eleven-exactly}
 use Rattle.lines.specs.Lines.{toldLine}
 use Rattle.events.specs.Events.{Shown}
 use Rattle.session.specs.Carried.{toldSession}
-use Rattle.session.specs.HandingOut.{Handed}
+use Rattle.session.specs.declared.Session.{Session}
+use Rattle.session.specs.declared.Handed as code-handed
+use Rattle.session.specs.HandingOut.{Handed, toldHandOut, toldHanded}
 use Rattle.number.proofs.Told.{told-injective}
 use Rattle.session.proofs.ToldLaws.{session-told}
 use Rattle.demands.specs.EveryCallComesBack.{against, InOrder, AsLent, EveryCallComesBack}
@@ -32,7 +36,7 @@ use Rattle.demands.proofs.FirstNoLaws.{winding-for-first, writing-stand
 use Rattle.demands.proofs.FirstNoLaws.{line-text-stands}
 use Rattle.demands.proofs.RefusedLaws.{left-outcome, left-refused, against-then, nothing-written}
 use Rattle.demands.proofs.RefusedLaws.{verdict-against, verdict-refused, ran-against, ran-refused}
-use Rattle.demands.proofs.RefusedLaws.{next-line-stands}
+use Rattle.demands.proofs.RefusedLaws.{next-line-stands, next-lines-stand}
 use Rattle.demands.proofs.EventLineLaws.{ran-line-stands, event-line-stands, shown-untouched}
 use Rattle.demands.proofs.OneAnswer.{one-answer}
 
@@ -40,8 +44,10 @@ pub in-order : InOrder
 unfolding pushing releasing judging moving running
 in-order = record {
   reads = file-refused;
+  forms = form-exactly;
   eleven = eleven-exactly;
   eleven-moved = move-eleven-exactly;
+  fourteen = fourteen-exactly;
   fifteen = fifteen-exactly;
   writes-number =
       λ v out out′ at x wrote. ap (λ (y : Outcome ℕ × List ℕ). against (y .0)) wrote
@@ -72,8 +78,23 @@ in-order = record {
       λ b e s v w x told. ap (λ (y : Shown). against (wordOf (y .0))) told ∙ event-line-stands b s e w v .first;
   hands =
       λ z s out out′ r called. ap (λ (h : Handed). against (h .answer)) called
-      ∙ next-line-stands (toldSession z) s out .first;
+      ∙ next-line-stands (toldSession z) out s .first;
+  hands-lines =
+      λ z s out out′ r called. ap (λ (h : Handed). against (h .answer)) called
+      ∙ next-lines-stand (toldSession z) out s .first;
 }
+
+-- a call that comes to h, and where h is refused leaves the session and the buffer as they were
+handed-as-lent : (z : Session) (out out′ : List ℕ) (r : code-handed.Handed) (n p : ℕ) (h : Handed)
+    → toldHanded r out′ ≡ h
+    → toldHandOut (r .answer) ≡ refused n p
+    → (h .answer ≡ refused n p → (h .session ≡ toldSession z) × (h .out ≡ out))
+    → (r .session ≡ z) × (out′ ≡ out)
+handed-as-lent z out out′ r n p h called told left =
+    let kept = left (sym (ap (λ (x : Handed). x .answer) called) ∙ told) in (
+      told-injective toldSession session-told (r .session) z (ap (λ (x : Handed). x .session) called ∙ kept .0),
+      ap (λ (x : Handed). x .out) called ∙ kept .1,
+    )
 
 pub as-lent : AsLent
 unfolding judging moving running
@@ -118,12 +139,10 @@ as-lent = record {
       shown-untouched e s _ _ n p shown word (ran-line-stands b e w s .left n p);
   tells-event = λ b e s v w x n p shown word.
       shown-untouched e s _ _ n p shown word (event-line-stands b s e w v .left n p);
-  hands = λ z s out out′ r n p called told.
-      let kept =
-      next-line-stands (toldSession z) s out .left n p (sym (ap (λ (h : Handed). h .answer) called) ∙ told) in (
-        told-injective toldSession session-told (r .session) z (ap (λ (h : Handed). h .session) called ∙ kept .0),
-        ap (λ (h : Handed). h .out) called ∙ kept .1,
-      );
+  hands = λ z s out out′ r n p called told. handed-as-lent z out out′ r n p _ called told
+      (next-line-stands (toldSession z) out s .left n p);
+  hands-lines = λ z s out out′ r n p called told. handed-as-lent z out out′ r n p _ called told
+      (next-lines-stand (toldSession z) out s .left n p);
 }
 
 pub every-call-comes-back : EveryCallComesBack

@@ -101,4 +101,5 @@ one-answer = record {
   events-event-line = λ b e s v w. one-told _ shown-told _;
   session-begin = λ s. one-told _ session-told _;
   session-next-line = λ z s out. one-lent _ handed-told _;
+  session-next-lines = λ z s out. one-lent _ handed-told _;
 }

@@ -2,7 +2,7 @@
 use Prim.Native.Nat.{ℕ}
 use mathlib.Core.Path.{_≡_, refl, sym, ap, _∙_}
 use mathlib.Core.Bool.{Bool, true, false, cond}
-use mathlib.Core.List.{List, []}
+use mathlib.Core.List.{List, [], _∷_}
 use mathlib.Core.Option.{Option, none, some}
 use lib.Dec.{leb}
 use lib.ListN.{length}
@@ -21,9 +21,10 @@ use Rattle.judge.specs.Judging.{verdictOn}
 use Rattle.moves.specs.Steps.{Move}
 use Rattle.runs.specs.Runs.{noRelay}
 use Rattle.runs.specs.Running.{unrun, ran, ranOn}
-use Rattle.lines.specs.Lines.{longestLine}
+use Rattle.lines.specs.Lines.{Line, longestLine}
 use Rattle.session.specs.Carried.{Session, Coming, line, no-line, nextOf}
 use Rattle.session.specs.HandingOut.{Handed, handedBy, nextLine}
+use Rattle.session.specs.Filling.{fitting, filledBy, nextLines}
 use Rattle.demands.specs.EveryCallComesBack.{against, firstNo, lineLines}
 use Rattle.demands.proofs.FirstNoLaws.{StandsAgainst, test-stands}
 
@@ -89,21 +90,38 @@ module _ (b : Board) (s : State) (w : ℕ) where
     ran-refused (given u) n p e = absurd (refused-never n p _ (sym e))
     ran-refused (refused m q) n p e = λ i. record { word = e i; moves = 0; state = s; relay = noRelay; log = log }
 
--- ---- the next line
-module _ (z : Session) (s out : List ℕ) where
+-- ---- the next line, and the next lines
+module _ (z : Session) (out : List ℕ) where
+  -- h is what comes where the longest line has room
+  room-stands : (h : Handed) → against (h .answer) ≡ given tt
+      → StandsAgainst (λ (x : Handed). x .answer) (λ x. (x .session ≡ z) × (x .out ≡ out)) (lineLines out)
+      (cond (leb longestLine (length out)) h (record { session = z; answer = refused bufferTooShort 0; out = out }))
+  unfolding firstNo
+  room-stands h fine =
+      test-stands _ _ h (record { session = z; answer = refused bufferTooShort 0; out = out })
+      (leb longestLine (length out)) bufferTooShort [] refl (refl, refl)
+      (record { first = fine; left = λ n p e. absurd (refused-never n p tt (sym (ap against e) ∙ fine)) })
+
   handed-given : (x : Session × Coming) → against (handedBy x out .answer) ≡ given tt
   unfolding handedBy
   handed-given (y, line l) = refl
   handed-given (y, no-line) = refl
 
-  pub next-line-stands : StandsAgainst (λ (h : Handed). h .answer) (λ h. (h .session ≡ z) × (h .out ≡ out))
-      (lineLines out)
+  filled-given : (x : Session × List Line) → against (filledBy x out .answer) ≡ given tt
+  unfolding filledBy
+  filled-given (y, []) = refl
+  filled-given (y, l ∷ ls) = refl
+
+  pub next-line-stands : (s : List ℕ)
+      → StandsAgainst (λ (h : Handed). h .answer) (λ h. (h .session ≡ z) × (h .out ≡ out)) (lineLines out)
       (nextLine z s out)
-  unfolding nextLine firstNo
-  next-line-stands =
-      test-stands _ _ (handedBy (nextOf z s) out) (record { session = z; answer = refused bufferTooShort 0; out = out })
-      (leb longestLine (length out)) bufferTooShort [] refl (refl, refl)
-      (record {
-        first = handed-given (nextOf z s);
-        left = λ n p e. absurd (refused-never n p tt (sym (ap against e) ∙ handed-given (nextOf z s)));
-      })
+  unfolding nextLine
+  next-line-stands s = room-stands (handedBy (nextOf z s) out) (handed-given (nextOf z s))
+
+  pub next-lines-stand : (s : List ℕ)
+      → StandsAgainst (λ (h : Handed). h .answer) (λ h. (h .session ≡ z) × (h .out ≡ out)) (lineLines out)
+      (nextLines z s out)
+  unfolding nextLines
+  next-lines-stand s =
+      room-stands (filledBy (fitting (length out) z s (length out)) out)
+      (filled-given (fitting (length out) z s (length out)))

@@ -10,15 +10,18 @@
 --         `steel`, of the two windings that `wound` gives it
 --     "Board files keep their meaning both ways: write then read gives the board, read then write gives the bytes
 --     read."
---         `written-read`, `read-written`; `file-read`: a board that was read is what stands in the file; `bytes-after`:
---         what stands behind a board does not bear on it
+--         `written-read`, `read-written`; `rest-stays`: behind the bytes written a buffer is as lent; `file-read`: a
+--         board that was read is what stands in the file; `bytes-after`: what stands behind a board does not bear on
+--         it; `same`: which boards are the same
 --     "A run moves the lowest relay that can move until it is idle or must stop."
---         `runs`; and what a session prints of its runs: `lines`, `all-lines`, `events`, `drawn`
+--         `runs`; and what a session prints of its runs: `lines`, `all-lines`, in buffers `filled`, `all-filled`;
+--         `events`, `closed`, `drawn`
 -- Each field is put into words in the file that defines it. `paths`, `carrying`, `winding`, `sorts` and `wound` are of
--- boards and states, `events` and `drawn` of the session's lines; the others are over the calls.
+-- boards and states, `events`, `closed` and `drawn` of the session's lines; the others are over the calls.
 --     AsTheModelSays    the demand
+use Rattle.board.specs.Same.{SameExactly}
 use Rattle.board.specs.BreaksNoRule.{EveryRelaySort}
-use Rattle.file_means.specs.RoundTrip.{WriteThenRead, ReadThenWrite}
+use Rattle.file_means.specs.RoundTrip.{WriteThenRead, RestStays, ReadThenWrite}
 use Rattle.file_means.specs.BytesAfter.{BytesAfter}
 use Rattle.file_means.specs.FileRefusals.{FileAccepted}
 use Rattle.judge.specs.Judging.{Judges}
@@ -30,7 +33,8 @@ use Rattle.moves_means.specs.ByChains.{RegularByChains, SteelByChains}
 use Rattle.moves_means.specs.OneRelay.{ChangesOneRelay}
 use Rattle.runs_means.specs.Courses.{RunExactly}
 use Rattle.session_means.specs.HandedLines.{LinesHandedOut, AllHandedOut}
-use Rattle.session_means.specs.EventRefusals.{EventsRefused}
+use Rattle.session_means.specs.FilledBuffers.{BuffersFilled, AllFilled}
+use Rattle.session_means.specs.EventRefusals.{EventsRefused, EventsClosed}
 use Rattle.session_means.specs.LinesDrawn.{LinesDrawn}
 
 pub record AsTheModelSays : Type 0 where
@@ -56,11 +60,17 @@ pub record AsTheModelSays : Type 0 where
   -- board files keep their meaning
   pub written-read : WriteThenRead
   pub read-written : ReadThenWrite
+  pub rest-stays : RestStays
   pub file-read : FileAccepted
   pub bytes-after : BytesAfter
-  -- the lines handed out are the session's lines; its events are refused by 12 alone, and each prints the sum over
-  -- its drawn relays
+  -- boards are compared by their counts and first C parts
+  pub same : SameExactly
+  -- the lines handed out, one by one or as many as fill a buffer, are the session's lines; its events are refused by 12
+  -- alone, it is ended by 1, 2 or 7, and each line prints the sum over the drawn relays
   pub lines : LinesHandedOut
   pub all-lines : AllHandedOut
+  pub filled : BuffersFilled
+  pub all-filled : AllFilled
   pub events : EventsRefused
+  pub closed : EventsClosed
   pub drawn : LinesDrawn

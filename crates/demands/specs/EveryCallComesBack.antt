@@ -4,8 +4,9 @@
 --         shows of every function before it builds it. A cut board file is line 1 of `reads`, a wrong state 14 of each
 --         call on a state, a relay that isn't there `eleven` and `eleven-moved`
 --     "What it can't use it refuses by number, in a stated order,"
---         `in-order`: the first line that holds, of each call's lines in the stated order. What stands behind two of
---         these lines: `fifteen`, a board that breaks a rule; `eleven`, a winding that isn't there
+--         `in-order`: the first line that holds, of each call's lines in the stated order. What stands behind some of
+--         these lines: `forms`, a number that is cut, too long or not shortest; `fifteen`, a board that breaks a rule;
+--         `fourteen`, a state with what the board lacks; `eleven`, a winding that isn't there
 --     "with the state as given and no byte of a lent log or output buffer written."
 --         `as-lent`
 -- The words:
@@ -18,9 +19,9 @@
 --     pressLines b s v            those of the event v, which pushes or releases its button
 --     wordOf l                    the word of the run that a line tells of, or what refused it
 --     InOrder                     what stands against each call is the first of its lines whose test fails; a file is
---                                 refused exactly by the first line of the table that holds, from left to right; 11
---                                 and 15 are given exactly if their lines hold. That a number is refused by its form
---                                 (1, 2) is all that `read_number` refuses, and its definition says when
+--                                 refused exactly by the first line of the table that holds, from left to right, and
+--                                 a number by itself exactly by its form (1, 2); 11, 14 and 15 are given exactly if
+--                                 their lines hold
 --     AsLent                      "A refused read returns number, place and the empty board (T 2, else 0). A refused
 --                                 call returns the number, place 0 and the state it was given, if it takes one; a
 --                                 refused run also 0 moves and relay 255, a refused judgement no verdict, effort 0 and
@@ -38,12 +39,14 @@ use Rattle.number.specs.Refusals.{badForm, noSuchName, noSuchWinding, alreadySo
 use Rattle.number.specs.Refusals.{brokenBoard, bufferTooShort}
 use Rattle.number.specs.declared.NumberWritten.{NumberWritten}
 use Rattle.number.specs.Numbers.{largest, numberBytes, toldNumberWritten, WritesNumber}
+use Rattle.number.specs.FormExactly.{FormExactly}
 use Rattle.board.specs.declared.Board.{Board}
 use Rattle.board.specs.Parts.{partsOf, emptyBoard}
 use Rattle.board.specs.Rules.{boardFine}
 use Rattle.board.specs.BreaksNoRule.{FifteenExactly}
 use Rattle.state.specs.declared.State.{State}
 use Rattle.state.specs.States.{isPushed, stateFine}
+use Rattle.state.specs.Fourteen.{FourteenExactly}
 use Rattle.presses.specs.declared.Pressed.{Pressed}
 use Rattle.presses.specs.Presses.{toldPress, Pushes, Releases}
 use Rattle.board_reader.specs.declared.BoardRead.{BoardRead}
@@ -73,8 +76,8 @@ use Rattle.events.specs.declared.Shown.{Shown}
 use Rattle.events.specs.Events.{buttonOf, pushes, RunLine, EventLine}
 use Rattle.session.specs.declared.Session.{Session}
 use Rattle.session.specs.declared.Handed.{Handed}
-use Rattle.session.specs.HandingOut.{toldHandOut}
-use Rattle.session_means.specs.HandedLines.{Called}
+use Rattle.session.specs.HandingOut.{toldHandOut, NextLine}
+use Rattle.session.specs.Filling.{NextLines}
 use Rattle.demands.specs.OneAnswer.{OneAnswer}
 
 abbrev pub against : {A : Type 0} → Outcome A → Outcome (Unit {0})
@@ -126,8 +129,10 @@ wordOf (closing n p) = refused n p
 
 pub record InOrder : Type 0 where
   pub reads : FileRefused
+  pub forms : FormExactly
   pub eleven : ElevenExactly
   pub eleven-moved : MoveElevenExactly
+  pub fourteen : FourteenExactly
   pub fifteen : FifteenExactly
   pub writes-number : (v : ℕ) (out out′ : List ℕ) (at : ℕ) (x : NumberWritten)
       → WritesNumber v out at x out′
@@ -161,7 +166,10 @@ pub record InOrder : Type 0 where
       → EventLine b e s v w x
       → against (wordOf (toldLine (x .line))) ≡ firstNo (pressLines b s v)
   pub hands : (z : Session) (s out out′ : List ℕ) (r : Handed)
-      → Called z s out r out′
+      → NextLine z s out r out′
+      → against (toldHandOut (r .answer)) ≡ firstNo (lineLines out)
+  pub hands-lines : (z : Session) (s out out′ : List ℕ) (r : Handed)
+      → NextLines z s out r out′
       → against (toldHandOut (r .answer)) ≡ firstNo (lineLines out)
 
 pub record AsLent : Type 0 where
@@ -210,7 +218,11 @@ pub record AsLent : Type 0 where
       → wordOf (toldLine (x .line)) ≡ refused n p
       → (toldLine (x .line) ≡ event e (refused n p) 0 (s .drawn)) × (x .state ≡ s)
   pub hands : (z : Session) (s out out′ : List ℕ) (r : Handed) (n p : ℕ)
-      → Called z s out r out′
+      → NextLine z s out r out′
+      → toldHandOut (r .answer) ≡ refused n p
+      → (r .session ≡ z) × (out′ ≡ out)
+  pub hands-lines : (z : Session) (s out out′ : List ℕ) (r : Handed) (n p : ℕ)
+      → NextLines z s out r out′
       → toldHandOut (r .answer) ≡ refused n p
       → (r .session ≡ z) × (out′ ≡ out)
 

@@ -41,6 +41,7 @@ use Rattle.events.specs.Events.{RunLine, EventLine}
 use Rattle.session.specs.declared.Session.{Session}
 use Rattle.session.specs.Carried.{Begins}
 use Rattle.session.specs.HandingOut.{NextLine}
+use Rattle.session.specs.Filling.{NextLines}
 
 pub record One {R : Type 0} (P : R → Type 0) : Type 0 where
   pub answer : R
@@ -100,3 +101,4 @@ pub record OneAnswer : Type 0 where
   pub events-event-line : (b : Board) (e : ℕ) (s : State) (v w : ℕ) → One (EventLine b e s v w)
   pub session-begin : (s : List ℕ) → One (Begins s)
   pub session-next-line : (z : Session) (s out : List ℕ) → OneLent (NextLine z s out)
+  pub session-next-lines : (z : Session) (s out : List ℕ) → OneLent (NextLines z s out)

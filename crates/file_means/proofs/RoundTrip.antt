@@ -1,7 +1,7 @@
--- The two round-trip theorems over the calls, from the round trip of a board on the definitions.
+-- The theorems of specs/RoundTrip.antt over the calls, from the round trip of a board on the definitions.
 use Prim.Native.Nat.{ℕ, _≤_}
 use native.Mathlib.Omega.{arith}
-use mathlib.Core.Path.{_≡_, refl, sym, ap, subst, _∙_}
+use mathlib.Core.Path.{_≡_, sym, ap, subst, _∙_}
 use mathlib.Core.Bool.{true}
 use mathlib.Core.List.{List, _++_}
 use lib.ListN.{length, take, drop, length-append}
@@ -11,17 +11,15 @@ use Rattle.number.specs.Outcomes.{Outcome, given}
 use Rattle.board.specs.declared.Board.{Board}
 use Rattle.board.specs.Parts.{mostParts, partsOf}
 use Rattle.board.specs.Rules.{boardFine, countsFine}
-use Rattle.board.specs.Same.{sameBoard}
 use Rattle.bits.proofs.BoolLaws.{both-true}
 use Rattle.board.proofs.PaddedLaws.{padded-parts}
 use Rattle.board.proofs.RuleLaws.{counts-in-range}
-use Rattle.board.proofs.SameLaws.{equal-same-board}
 use Rattle.board_reader.specs.Reading.{boardOf, longestInput, answered, reading}
 use Rattle.board_writer.specs.File.{boardBytes}
-use Rattle.board_writer.specs.Writing.{writing}
+use Rattle.board_writer.specs.Writing.{writing, bytesWritten}
 use Rattle.board_writer.proofs.WriteLaws.{writing-with-room}
-use Rattle.board_writer.proofs.FileLaws.{board-file-bound, WasWritten, writing-given}
-use Rattle.file_means.specs.RoundTrip.{WriteThenRead, ReadThenWrite}
+use Rattle.board_writer.proofs.FileLaws.{board-file-bound, WasWritten, writing-given, write-bytes}
+use Rattle.file_means.specs.RoundTrip.{WriteThenRead, RestStays, ReadThenWrite}
 use Rattle.file_means.proofs.StandLaws.{StandsTo}
 use Rattle.file_means.proofs.GivesLaws.{Gives}
 use Rattle.file_means.proofs.BoardTrip.{board-reads, BoardIsFine}
@@ -44,14 +42,14 @@ module _ (b : Board) (rest : List ℕ) (n : ℕ) (places : length (b .parts) ≡
       )
 
 -- the board that is read has the parts that were written
-same-again : (b : Board) → length (b .parts) ≡ mostParts → boardFine b ≡ true
-    → sameBoard b (boardOf (b .counts) (partsOf b)) ≡ true
+parts-again : (b : Board) → length (b .parts) ≡ mostParts → boardFine b ≡ true
+    → partsOf b ≡ partsOf (boardOf (b .counts) (partsOf b))
 unfolding boardFine
-same-again b places fine =
+parts-again b places fine =
     let range = counts-in-range (b .counts) (both-true (countsFine (b .counts)) _ fine .0) in
     let counted : length (partsOf b) ≡ b .counts .parts =
     length-take-le (b .counts .parts) (b .parts) (omega (arith, range .most-parts)) in
-    equal-same-board b (boardOf (b .counts) (partsOf b)) refl (sym (padded-parts (b .counts) (partsOf b) (sym counted)))
+    sym (padded-parts (b .counts) (partsOf b) (sym counted))
 
 pub write-then-read : WriteThenRead
 write-then-read b out out′ more n w r places wrote told =
@@ -67,9 +65,17 @@ write-then-read b out out′ more n w r places wrote told =
           read ∙ ap (λ (l : List ℕ). reading (l ++ more)) begins
           ∙ reads-back b more n places (written .fine) (written .count) few in (
             ap (λ (a : Board × Outcome ℕ). a .1) back,
-            ap (λ (a : Board × Outcome ℕ). sameBoard b (a .0)) back ∙ same-again b places (written .fine),
+            sym (ap (λ (a : Board × Outcome ℕ). a .0 .counts) back),
+            parts-again b places (written .fine) ∙ sym (ap (λ (a : Board × Outcome ℕ). partsOf (a .0)) back),
           )),
     )
+
+pub rest-stays : RestStays
+rest-stays b out out′ w wrote =
+    let was = write-bytes b out out′ w wrote in
+    let n = bytesWritten w in
+    ap (drop n) (was .1)
+    ∙ drop-at (take n (boardBytes b)) (drop n out) n (length-take-le n (boardBytes b) (was .0))
 
 -- a fine board is written where it has room
 writes : (b : Board) (out : List ℕ) (n : ℕ) → boardFine b ≡ true → n ≡ length (boardBytes b) → n ≤ length out

@@ -1,11 +1,11 @@
 -- The numbers for no of a board file, line by line. Rule book: the table "Numbers for no", lines 1 to 10, and "A number
 -- is given exactly when its line holds and none before it in the order does. [..] Order: 10 first; then left to right,
 -- each number's form (1, 2) before its meaning, and for a part 4, 5, 5, 6, 7, 8 as its fields come; then 9."
--- Nothing here goes by the reader. A stage of the file is reached by the numbers that stand there one after the other
--- and by how they compare, so that no line holds of those before it; and windings are counted over the parts so far, by
--- `crates/board/specs/Sorts.antt`.
---     StandsAt s p v next     the number v stands at place p, and `next` is the place just after it. What the form of a
---                             number is, and when it ends or is bad, `numberAt` says
+-- Nothing here goes by how the reader is put together; a number's form is `numberAt`'s to say, and `FormExactly`
+-- (`crates/number/specs/FormExactly.antt`) says what that is, byte by byte. A stage of the file is reached by the
+-- numbers that stand there one after the other and by how they compare, so that no line holds of those before it; and
+-- windings are counted over the parts so far, by `crates/board/specs/Sorts.antt`.
+--     StandsAt s p v next     the number v stands at place p, and `next` is the place just after it
 --     Taken r ps k            by the parts ps relay r already has the winding of kind number k, or is of the other
 --                             sort
 --     FileStage               what comes next in the file, after what was read:

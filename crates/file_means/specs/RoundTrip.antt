@@ -1,7 +1,10 @@
 -- The round trip, stated over the calls `board_writer::write` and `board_reader::read`: whatever they answer under
 -- their promises. Demand 2: "write then read gives the board, read then write gives the bytes read."
 --     WriteThenRead    a file that was written is within the longest input. A board that was written and read again,
---                      with any bytes behind it, is the same board, and reading stops where writing stopped
+--                      with any bytes behind it, has the same counts and the same first C parts, and reading stops
+--                      where writing stopped
+--     RestStays        "Written bytes begin the buffer; the rest stays": behind the bytes that were written, none where
+--                      the write is refused, the buffer is as lent. `WriteThenRead` says that they are the file's
 --     ReadThenWrite    a board that was read and written again is never refused by 15, and its bytes are those that
 --                      were read
 -- A slice's bytes are below 256 (`Bytes`) and an array of parts has 256 places; lists do not say so by themselves.
@@ -9,16 +12,15 @@ use Prim.Native.Nat.{ℕ, _+_, _≤_}
 use mathlib.Core.Path.{_≡_}
 use mathlib.Core.Bool.{true}
 use mathlib.Core.List.{List, _++_}
-use lib.ListN.{length, take}
+use lib.ListN.{length, take, drop}
 use Rattle.number.specs.Outcomes.{given}
 use Rattle.number.specs.Numbers.{Bytes}
 use Rattle.board.specs.declared.Board.{Board}
-use Rattle.board.specs.Parts.{mostParts}
+use Rattle.board.specs.Parts.{partsOf, mostParts}
 use Rattle.board.specs.Rules.{boardFine}
-use Rattle.board.specs.Same.{sameBoard}
 use Rattle.board_reader.specs.Reading.{longestInput, toldReadAnswer, Reads}
 use Rattle.board_reader.specs.declared.BoardRead.{BoardRead}
-use Rattle.board_writer.specs.Writing.{toldWritten, Writes}
+use Rattle.board_writer.specs.Writing.{toldWritten, bytesWritten, Writes}
 use Rattle.board_writer.specs.declared.Written.{Written}
 
 abbrev pub WriteThenRead : Type 0
@@ -30,7 +32,15 @@ WriteThenRead =
     → (n ≤ longestInput)
     × (n + length more ≤ longestInput
     → Reads (take n out′ ++ more) r
-    → (toldReadAnswer (r .answer) ≡ given n) × (sameBoard b (r .board) ≡ true))
+    → (toldReadAnswer (r .answer) ≡ given n)
+    × (b .counts ≡ r .board .counts)
+    × (partsOf b ≡ partsOf (r .board)))
+
+abbrev pub RestStays : Type 0
+RestStays =
+    (b : Board) (out out′ : List ℕ) (w : Written)
+    → Writes b out w out′
+    → drop (bytesWritten w) out′ ≡ drop (bytesWritten w) out
 
 abbrev pub ReadThenWrite : Type 0
 ReadThenWrite =

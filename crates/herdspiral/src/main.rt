@@ -1,21 +1,25 @@
-// The session program: reads a session from standard input and prints its lines on standard output. What the lines are
-// is the library's to say (crate `session`); here is only the reading and the writing.
-ghost use Prim.Native.Nat.{_+_, _-_, _≤_};
-ghost use lib.ListN.{length};
-ghost use Rattle.session.specs.ToCome.{Advances};
+// The session program: reads a session from standard input and writes its lines on standard output. What the lines are
+// and how they fill a buffer is the library's to say (crate `session`); here is only the reading and the writing.
+ghost use Prim.Native.Nat.{suc, _+_, _<_, _≤_};
+ghost use mathlib.Core.Bool.{true, false, not};
+ghost use mathlib.Core.Path.{_≡_};
+ghost use lib.ListN.{length, take};
+ghost use lib.Signed.{nonNeg};
+ghost use Rattle.io.specs.Counts.{Counts, clamped};
+ghost use Rattle.board_reader.specs.Reading.{longestInput};
+ghost use Rattle.lines.specs.Lines.{longestLine};
+ghost use Rattle.session.specs.Carried.{no-line, nextOf, toldSession};
 use board_reader::LONGEST_INPUT;
 use libc::STDERR_FILENO;
 use libc::STDIN_FILENO;
 use libc::STDOUT_FILENO;
-use lines::LONGEST_LINE;
 use session::HandOut;
-use session::Handed;
 use session::Session;
 
 // One byte more than the longest input: these tell that an input is too long, and no more is read.
 const INPUT_ROOM: usize = LONGEST_INPUT + 1;
 
-// Lines are kept until they fill so many bytes, and then written out together.
+// Room for the lines that are written out together.
 const LINES_ROOM: usize = 16_384;
 
 // What reading came to: how many bytes were read, and whether a read failed.
@@ -24,10 +28,22 @@ struct Input {
     failed: bool,
 }
 
-// How many bytes of lines the buffer holds, and whether those before them were written.
-struct Kept {
-    used: usize,
+// How printing ended: the session after the lines that were handed out, and whether all of these were written.
+struct Printed {
+    session: Session,
     written: bool,
+}
+
+// What a read into the rest of a buffer came to, by its answer: a number below 0 says that it failed.
+fn read_came_to(got: isize, rest: &[u8]) -> Input
+    ensures { λ r. ⌜ Counts (r .length) (now (rest .entry)) ⌝ }
+    ensures { λ r. ⌜ r .length ≡ clamped got (length (now (rest .entry))) ⌝ }
+    ensures { λ r. ⌜ r .failed ≡ not (nonNeg got) ⌝ }
+{
+    Input {
+        length: io::count(got, rest),
+        failed: got < 0,
+    }
 }
 
 // Reads once, into the buffer from a place on.
@@ -37,15 +53,15 @@ fn read_on(buffer: &mut [u8], at: usize) -> Input
 {
     let rest = &mut buffer[at..];
     let got = libc::read(STDIN_FILENO, rest);
-    Input {
-        length: io::count(got, rest),
-        failed: got < 0,
-    }
+    read_came_to(got, rest)
 }
 
-// Reads until the buffer is full, the input ends or a read fails.
+// Reads until the buffer is full, the input ends or a read fails. The buffer has room for the longest input and one
+// byte more; where a read failed, it is not full.
 fn read_input(buffer: &mut [u8]) -> Input
+    requires { ⌜ length (now buffer) ≡ suc longestInput ⌝ }
     ensures { λ r. ⌜ r .length ≤ length (now (buffer .entry)) ⌝ }
+    ensures { λ r. ⌜ (r .failed ≡ true → r .length < length (now (buffer .entry))) ⌝ }
 {
     let mut length = 0;
     while length < buffer.len() {
@@ -64,75 +80,79 @@ fn read_input(buffer: &mut [u8]) -> Input
     }
 }
 
-// Hands out the next line into the buffer from a place on.
-fn hand_out(session: Session, input: &[u8], lines: &mut [u8], at: usize) -> Handed
-    requires { ⌜ at ≤ length (now lines) ⌝ }
-    ensures { λ r. ⌜ Advances session (now (input .entry)) (length (now (lines .entry)) - at) r ⌝ }
-{
-    session::next_line(session, input, &mut lines[at..])
-}
-
-// Writes out what the buffer holds in its first bytes, and says whether all was written.
+// Writes out the first bytes of the buffer, and says whether all were written.
 fn write_out(lines: &[u8], used: usize) -> bool
     requires { ⌜ used ≤ length (now lines) ⌝ }
 {
     io::write_all(STDOUT_FILENO, &lines[..used])
 }
 
-// Writes the buffer out if the longest line has no room after what it holds.
-fn make_room(lines: &[u8], used: usize) -> Kept
-    requires { ⌜ used ≤ length (now lines) ⌝ }
-    ensures { λ r. ⌜ r .used ≤ length (now (lines .entry)) ⌝ }
+// Prints the lines of a session by way of a buffer with room for the longest line. Where all were written, nothing is
+// left to come.
+fn print_lines(input: &[u8], lines: &mut [u8]) -> Printed
+    requires { ⌜ longestLine ≤ length (now lines) ⌝ }
+    ensures { λ r. ⌜ (r .written ≡ true → nextOf (toldSession (r .session)) (now (input .entry)) .1 ≡ no-line) ⌝ }
 {
-    if LONGEST_LINE <= lines.len() - used {
-        return Kept {
-            used,
-            written: true,
+    let mut session = session::begin(input);
+    loop {
+        let handed = session::next_lines(session, input, lines);
+        let next = handed.session;
+        session = next;
+        let answer = handed.answer;
+        let HandOut::Written(used) = answer else {
+            return Printed {
+                session,
+                written: true,
+            };
         };
-    }
-    Kept {
-        used: 0,
-        written: write_out(lines, used),
+        let written = write_out(lines, used);
+        if !written {
+            return Printed { session, written };
+        }
     }
 }
 
-// Prints the lines of a session, and says whether all were written.
-fn print_lines(input: &[u8]) -> bool {
-    let mut lines = [0u8; LINES_ROOM];
-    let mut session = session::begin(input);
-    let mut used = 0;
-    loop {
-        let kept = make_room(&lines, used);
-        if !kept.written {
-            return false;
-        }
-        let at = kept.used;
-        let handed = hand_out(session, input, &mut lines, at);
-        let answer = handed.answer;
-        let HandOut::Line(length) = answer else {
-            return write_out(&lines, at);
-        };
-        let next = handed.session;
-        session = next;
-        used = at + length;
-    }
+// Prints the lines of the session that was read into the start of a buffer: no read failed.
+fn print_session(buffer: &[u8], read: Input, lines: &mut [u8]) -> Printed
+    requires { ⌜ read .failed ≡ false ⌝ }
+    requires { ⌜ read .length ≤ length (now buffer) ⌝ }
+    requires { ⌜ longestLine ≤ length (now lines) ⌝ }
+    ensures { λ r. ⌜ (r .written ≡ true → nextOf (toldSession (r .session))
+        (take (read .length) (now (buffer .entry))) .1 ≡ no-line) ⌝ }
+{
+    print_lines(&buffer[..read.length], lines)
+}
+
+// Tells that a read failed.
+fn tell_unread(read: Input)
+    requires { ⌜ read .failed ≡ true ⌝ }
+{
+    io::write_all(
+        STDERR_FILENO,
+        b"herdspiral: standard input cannot be read\n",
+    );
+}
+
+// Tells that a write failed.
+fn tell_unwritten(printed: Printed)
+    requires { ⌜ printed .written ≡ false ⌝ }
+{
+    io::write_all(
+        STDERR_FILENO,
+        b"herdspiral: standard output cannot be written\n",
+    );
 }
 
 fn main() {
     let mut input = [0u8; INPUT_ROOM];
     let read = read_input(&mut input);
     if read.failed {
-        io::write_all(
-            STDERR_FILENO,
-            b"herdspiral: standard input cannot be read\n",
-        );
+        tell_unread(read);
         return;
     }
-    let length = read.length;
-    if !print_lines(&input[..length]) {
-        io::write_all(
-            STDERR_FILENO,
-            b"herdspiral: standard output cannot be written\n",
-        );
+    let mut lines = [0u8; LINES_ROOM];
+    let printed = print_session(&input, read, &mut lines);
+    if !printed.written {
+        tell_unwritten(printed);
     }
 }

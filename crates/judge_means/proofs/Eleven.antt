@@ -23,8 +23,8 @@ use Rattle.board.specs.declared.Counts.{Counts}
 use Rattle.board.specs.declared.Board.{Board}
 use Rattle.board.specs.Parts.{partsOf}
 use Rattle.board.specs.Rules.{nameFine, partFits, boardFine}
-use Rattle.board.specs.Sorts.{carries, windingsOf, isRegular, isSteel, partsFit}
-use Rattle.board.proofs.WindingLaws.{part-named}
+use Rattle.board.specs.Sorts.{carries, windingsOf, isRegular, isSteel}
+use Rattle.board.proofs.WindingLaws.{partsFit, part-named}
 use Rattle.board.proofs.FineLaws.{fine-parts-fit, fine-relays-wound}
 use Rattle.state.specs.declared.State.{State}
 use Rattle.search.specs.declared.Winding.{Winding}

@@ -42,6 +42,12 @@ line-length-most (event e (given w) m d) =
 line-length-most (event e (refused n p) m d) = simp length-append (omega (arith, decimal-few e, decimal-few n))
 line-length-most (closing n p) = simp length-append (omega (arith, decimal-few n, decimal-few p))
 
+pub line-length-some : (l : Line) → 0 < length (lineText l)
+unfolding lineText
+line-length-some (event e (given w) m d) = simp length-append (omega arith)
+line-length-some (event e (refused n p) m d) = simp length-append (omega arith)
+line-length-some (closing n p) = simp length-append (omega arith)
+
 -- ---- writing a line
 
 pub line-written : (l : Line) (out : List ℕ) → longestLine ≤ length out

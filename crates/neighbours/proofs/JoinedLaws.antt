@@ -20,7 +20,7 @@ use Rattle.board.specs.declared.Part.{Part}
 use Rattle.board.specs.declared.Board.{Board}
 use Rattle.board.specs.Parts.{partsOf}
 use Rattle.board.specs.Rules.{mostTerminals, partFits, boardFine}
-use Rattle.board.specs.Sorts.{partsFit}
+use Rattle.board.proofs.WindingLaws.{partsFit}
 use Rattle.board.proofs.FineLaws.{fine-range, fine-parts-fit}
 use Rattle.state.specs.declared.State.{State}
 use Rattle.neighbours.specs.Conduction.{conducts}

@@ -78,7 +78,7 @@ form-written-more k v s m e =
 
 -- ---- bytes
 
-bytes-rest : (b : ℕ) (s : List ℕ) → Bytes (b ∷ s) → Bytes s
+pub bytes-rest : (b : ℕ) (s : List ℕ) → Bytes (b ∷ s) → Bytes s
 bytes-rest b s h i = h (suc i)
 
 bytes-more : (b : ℕ) (s : List ℕ) → b < 256 → Bytes s → Bytes (b ∷ s)

@@ -3,5 +3,6 @@ pub mod Buffers
 pub mod FormLaws
 pub mod FormSteps
 pub mod NumberLaws
+pub mod FormExactly
 pub mod OutcomeLaws
 pub mod Told

@@ -63,7 +63,7 @@ placed-found len at (Got w m) v n e = placed-got (leb w largest) at w m v n refl
 placed-found len at Ends v n e = absurd (refused-never inputEnds len _ e)
 placed-found len at Bad v n e = absurd (refused-never badForm at _ e)
 
-placed-as : (len at v m : ℕ) → v ≤ largest → placed len at (Got v m) ≡ found v (at + m)
+pub placed-as : (len at v m : ℕ) → v ≤ largest → placed len at (Got v m) ≡ found v (at + m)
 unfolding placed
 placed-as len at v m h = rw (le-leb v largest h)
 

@@ -1,4 +1,5 @@
--- The definitions that the contracts cite, in reading order.
+-- The definitions that the contracts cite, in reading order; then what they say of a number's form.
 pub mod Outcomes
 pub mod Refusals
 pub mod Numbers
+pub mod FormExactly

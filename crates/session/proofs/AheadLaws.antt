@@ -15,7 +15,7 @@ use Rattle.board_reader.proofs.FieldLaws.{wanted-found}
 use Rattle.board.specs.declared.Board.{Board}
 use Rattle.lines.specs.Lines.{Line}
 use Rattle.events.specs.Events.{eventAt, ranLine, eventLine}
-use Rattle.session.specs.ToCome.{toComeAt, toCome}
+use Rattle.session.proofs.ToCome.{toComeAt, toCome}
 use Rattle.session.specs.Carried.{Stage, first, events, over, refusing, Session, Coming, line, no-line, goesOn}
 use Rattle.session.specs.Carried.{closes, eventOf, nextEvent, nextAt, nextOf}
 
@@ -66,8 +66,24 @@ unfolding eventAt
 event-next b s at v e =
     number-next-within s at (v .value) (v .next) (wanted-found _ noSuchName s at (v .value) (v .next) e .1) .1
 
-line-never : (l : Line) → no-line ≡ line l → ⊥
+pub line-never : (l : Line) → no-line ≡ line l → ⊥
 line-never l e = let z : _≡_ {A = ℕ} 0 1 = cc in omega arith
+
+-- where nothing comes the session stays as it is
+module _ (z y : Session) (s : List ℕ) (is : nextOf z s ≡ (y, no-line)) where
+  never-line : (x : Session) (l : Line) → nextOf z s ≡ (x, line l) → ⊥
+  never-line x l e = line-never l (ap (λ (p : Session × Coming). p .1) (sym is ∙ e))
+
+  same-by : Ahead z s → y ≡ z
+  same-by (runs-first at e) = absurd (never-line _ _ e)
+  same-by (makes-event v at there found e) = absurd (never-line _ _ e)
+  same-by (bad-event n p at there bad e) = absurd (never-line _ _ e)
+  same-by (tells-refusal n p at e) = absurd (never-line _ _ e)
+  same-by (at-end at past e) = ap (λ (p : Session × Coming). p .0) (sym is ∙ e)
+  same-by (is-over at e) = ap (λ (p : Session × Coming). p .0) (sym is ∙ e)
+
+  pub none-same : y ≡ z
+  none-same = same-by (ahead z s)
 
 -- after a line there is less to come
 module _ (z y : Session) (s : List ℕ) (l : Line) (is : nextOf z s ≡ (y, line l)) where

@@ -20,16 +20,16 @@ use Rattle.session.specs.declared.HandOut.the-variants as said
 use Rattle.session.specs.Carried.{Session, Coming, line, no-line, nextOf, toldSession}
 use Rattle.session.specs.HandingOut.{HandOut, written, Handed, handedBy, nextLine, toldHandOut}
 use Rattle.session.specs.HandingOut.{toldHanded}
-use Rattle.session.specs.ToCome.{Advances}
+use Rattle.session.proofs.ToCome.{Advances}
 use Rattle.session.proofs.AheadLaws.{next-less}
 use Rattle.session.proofs.NextLineLaws.{next-line-short, next-line-room}
 use Rattle.number.proofs.Told.{told-injective}
 use Rattle.session.proofs.ToldLaws.{hand-out-told}
 
-pub over-never : (n : ℕ) → said.Over ≡ said.Line n → ⊥
+pub over-never : (n : ℕ) → said.Over ≡ said.Written n → ⊥
 over-never n e = let z : _≡_ {A = ℕ} 0 1 = cc in omega arith
 
-line-bytes : {m n : ℕ} → said.Line m ≡ said.Line n → m ≡ n
+line-bytes : {m n : ℕ} → said.Written m ≡ said.Written n → m ≡ n
 line-bytes e = cc
 
 module _ (z : code-session.Session) (s out out′ : List ℕ) (r : code-handed.Handed)
@@ -50,26 +50,29 @@ module _ (z : code-session.Session) (s out out′ : List ℕ) (r : code-handed.H
 
     pub call-over : nextOf (toldSession z) s ≡ (y, no-line) → r .answer ≡ said.Over
     unfolding handedBy
-    call-over is = told-injective toldHandOut hand-out-told (r .answer) said.Over (ap (λ (h : Handed). h .answer) (next-by no-line is))
+    call-over is =
+        told-injective toldHandOut hand-out-told (r .answer) said.Over
+        (ap (λ (h : Handed). h .answer) (next-by no-line is))
 
     pub call-line : (l : Line) → nextOf (toldSession z) s ≡ (y, line l)
-        → (r .answer ≡ said.Line (length (lineText l))) × (take (length (lineText l)) out′ ≡ lineText l)
+        → (r .answer ≡ said.Written (length (lineText l))) × (take (length (lineText l)) out′ ≡ lineText l)
     unfolding handedBy
     call-line l is =
         let told = next-by (line l) is in (
-          told-injective toldHandOut hand-out-told (r .answer) (said.Line (length (lineText l))) (ap (λ (h : Handed). h .answer) told),
+          told-injective toldHandOut hand-out-told (r .answer) (said.Written (length (lineText l)))
+              (ap (λ (h : Handed). h .answer) told),
           ap (λ (h : Handed). take (length (lineText l)) (h .out)) told ∙ take-append-seam (lineText l)
               (drop (length (lineText l)) out),
         )
 
   -- what a call that hands out a line says of the session
   pub record Came (n : ℕ) : Type 0 where
-    pub line-told : Line
-    pub next : nextOf (toldSession z) s ≡ (toldSession (r .session), line line-told)
-    pub text : take n out′ ≡ lineText line-told
+    pub its-line : Line
+    pub next : nextOf (toldSession z) s ≡ (toldSession (r .session), line its-line)
+    pub text : take n out′ ≡ lineText its-line
     pub fits : n ≤ length out
 
-  came-by : (n : ℕ) → r .answer ≡ said.Line n → (x : Session × Coming) → nextOf (toldSession z) s ≡ x → Came n
+  came-by : (n : ℕ) → r .answer ≡ said.Written n → (x : Session × Coming) → nextOf (toldSession z) s ≡ x → Came n
   unfolding handedBy
   came-by n said-line (y, no-line) is =
       let room = call-room (written n) (ap toldHandOut said-line) in
@@ -80,17 +83,17 @@ module _ (z : code-session.Session) (s out out′ : List ℕ) (r : code-handed.H
       let long = line-bytes (sym (handed .0) ∙ said-line) in
       let after = ap (λ (h : Handed). h .session) (next-by room y (line l) is) in
       record {
-        line-told = l;
+        its-line = l;
         next = is ∙ ap {B = Session × Coming} (λ x. (x, line l)) (sym after);
         text = ap (λ (k : ℕ). take k out′) (sym long) ∙ handed .1;
         fits = omega (arith, long, line-length-most l, room);
       }
 
-  pub came : (n : ℕ) → r .answer ≡ said.Line n → Came n
+  pub came : (n : ℕ) → r .answer ≡ said.Written n → Came n
   came n is = came-by n is (nextOf (toldSession z) s) refl
 
   -- a line that was handed out fits the buffer, and leaves less to come
   pub call-advances : Advances z s (length out) r
   call-advances n is =
       let c = came n is in
-      (c .fits, next-less (toldSession z) (toldSession (r .session)) s (c .line-told) (c .next))
+      (c .fits, next-less (toldSession z) (toldSession (r .session)) s (c .its-line) (c .next))

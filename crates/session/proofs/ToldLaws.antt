@@ -76,12 +76,12 @@ pub hand-out-told : Told toldHandOut
 hand-out-told = record { untold = untold; back = back; onto = onto }
   where
     untold : Outcome handing-out.HandOut → HandOut
-    untold (given (written n)) = said.Line n
+    untold (given (written n)) = said.Written n
     untold (given nothing) = said.Over
     untold (refused n p) = said.Refused (record { number = n; place = p })
 
     back : (x : HandOut) → untold (toldHandOut x) ≡ x
-    back (said.Line n) = refl
+    back (said.Written n) = refl
     back said.Over = refl
     back (said.Refused r) = refl
 

@@ -1,6 +1,6 @@
 -- Handing out a session's lines, one at a time, into a lent buffer. "Log and output buffer stay as lent"; "Written
 -- bytes begin the buffer; the rest stays."
---     HandOut                    a line of so many bytes, or none
+--     HandOut                    so many bytes of a line or of lines, or none
 --     Handed                     the session to carry on, the answer, and the buffer afterwards
 --     writtenAnswer o            the answer where writing the line came to o; only for the inner function `answer_of`
 --     handedBy x out             what is handed out where x comes next
@@ -53,7 +53,7 @@ nextLine z s out =
     (record { session = z; answer = refused bufferTooShort 0; out = out })
 
 abbrev pub toldHandOut : code-handout.HandOut → Outcome HandOut
-toldHandOut (said.Line n) = given (written n)
+toldHandOut (said.Written n) = given (written n)
 toldHandOut said.Over = given nothing
 toldHandOut (said.Refused r) = refused (r .number) (r .place)
 

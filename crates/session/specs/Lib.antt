@@ -2,4 +2,4 @@
 pub mod Sessions
 pub mod Carried
 pub mod HandingOut
-pub mod ToCome
+pub mod Filling

@@ -1,9 +1,10 @@
-// A session: a board, the allowance and events. `begin` reads what stands before the events, and each `next_line` hands
-// out one line of the session into a lent buffer.
+// A session: a board, the allowance and events. `begin` reads what stands before the events, each `next_line` hands out
+// one line of the session into a lent buffer, and each `next_lines` as many as fit.
 ghost use mathlib.Core.Path.{_≡_};
 ghost use Rattle.session.specs.Carried.{Begins};
 ghost use Rattle.lines.specs.Lines.{toldLineWritten};
 ghost use Rattle.session.specs.HandingOut.{writtenAnswer, toldHandOut, NextLine};
+ghost use Rattle.session.specs.Filling.{NextLines};
 use board::Board;
 use board_reader::ReadAnswer;
 use lines::LONGEST_LINE;
@@ -13,6 +14,7 @@ use number::BUFFER_TOO_SHORT;
 use number::Refusal;
 use state::State;
 
+mod fill;
 mod next;
 mod start;
 
@@ -35,14 +37,14 @@ pub struct Session {
     pub stage: Stage,
 }
 
-// What a call for the next line came to: the line's length in the buffer, that there is none, or the refusal.
+// What a call for the next line or lines came to: so many bytes written, that no line comes any more, or the refusal.
 pub enum HandOut {
-    Line(usize),
+    Written(usize),
     Over,
     Refused(Refusal),
 }
 
-// The answer to a call for the next line, with the session to carry on.
+// The answer to a call for the next line or lines, with the session to carry on.
 pub struct Handed {
     pub session: Session,
     pub answer: HandOut,
@@ -68,7 +70,7 @@ fn answer_of(written: LineWritten) -> HandOut
     ensures { λ r. ⌜ toldHandOut r ≡ writtenAnswer (toldLineWritten written) ⌝ }
 {
     match written {
-        LineWritten::Length(length) => HandOut::Line(length),
+        LineWritten::Length(length) => HandOut::Written(length),
         LineWritten::Refused(refusal) => HandOut::Refused(refusal),
     }
 }
@@ -99,5 +101,27 @@ pub fn next_line(session: Session, s: &[u8], out: &mut [u8]) -> Handed
             session,
             answer: HandOut::Over,
         },
+    }
+}
+
+// Hands out the session's next lines into a buffer, one after the other, as many as fit: a line comes as long as the
+// longest line has room in what is left. 16 if it has no room in the whole buffer.
+pub fn next_lines(session: Session, s: &[u8], out: &mut [u8]) -> Handed
+    ensures { λ r. ⌜ NextLines session (now (s .entry)) (now (out .entry)) r (now (out .exit)) ⌝ }
+{
+    let mut session = session;
+    let mut used = 0;
+    loop {
+        let handed = fill::line_at(session, s, out, used);
+        let next = handed.session;
+        session = next;
+        let answer = handed.answer;
+        let HandOut::Written(length) = answer else {
+            return Handed {
+                session,
+                answer: fill::sum_up(used, answer),
+            };
+        };
+        used += length;
     }
 }

@@ -3,13 +3,10 @@
 // comes a line `.`. A length that is too large, or a stream that ends inside a session, ends the program.
 ghost use Prim.Native.Nat.{_≤_};
 ghost use lib.ListN.{length};
-ghost use Rattle.session.specs.ToCome.{Advances};
 use libc::STDIN_FILENO;
 use libc::STDOUT_FILENO;
 use lines::LONGEST_LINE;
 use session::HandOut;
-use session::Handed;
-use session::Session;
 
 // The longest session that is taken.
 const SESSION_ROOM: usize = 262_144;
@@ -53,21 +50,14 @@ fn read_session(buffer: &mut [u8]) -> Taken
     }
 }
 
-// Hands out the next line into a buffer.
-fn hand_out(session: Session, input: &[u8], line: &mut [u8]) -> Handed
-    ensures { λ r. ⌜ Advances session (now (input .entry)) (length (now (line .entry))) r ⌝ }
-{
-    session::next_line(session, input, line)
-}
-
 // Prints the lines of a session.
 fn print_lines(input: &[u8]) {
     let mut line = [0u8; LONGEST_LINE];
     let mut session = session::begin(input);
     loop {
-        let handed = hand_out(session, input, &mut line);
+        let handed = session::next_line(session, input, &mut line);
         let answer = handed.answer;
-        let HandOut::Line(length) = answer else {
+        let HandOut::Written(length) = answer else {
             return;
         };
         io::write_all(STDOUT_FILENO, &line[..length]);

@@ -16,7 +16,7 @@ use Rattle.board_reader.specs.Reading.{longestInput, answered, reading}
 use Rattle.board_reader.proofs.ReadLaws.{reading-long}
 use Rattle.session.specs.Sessions.{Head, withAllowance, headAt, headLines, sessionLines}
 use Rattle.session.specs.Carried.{begunFrom, beginning}
-use Rattle.session.specs.ToCome.{toComeAt, toCome}
+use Rattle.session.proofs.ToCome.{toComeAt, toCome}
 use Rattle.session_means.proofs.StillLaws.{stillAt, still, Numbered}
 
 begun-still : (o : Outcome (Found Head)) (s : List ℕ) → still (begunFrom o) s ≡ headLines o s

@@ -1,16 +1,21 @@
--- The theorem: of every line of every session that tells of a refused event, the number is 12.
+-- The theorems: of every line of every session that tells of a refused event, the number is 12; and where an event ends
+-- a session, it is 1, 2 or 7.
 use Prim.Native.Nat.{ℕ}
-use mathlib.Core.List.{List}
+use mathlib.Core.Path.{subst}
+use mathlib.Core.List.{List, _∷_}
 use Rattle.lists.specs.Members.{All}
 use Rattle.number.specs.Outcomes.{Outcome, given, refused, Found}
 use Rattle.file_means.proofs.GivesLaws.{Gives}
 use Rattle.session.specs.Sessions.{Head, headAt, headLines, sessionLines}
-use Rattle.session_means.specs.EventRefusals.{OnlyTwelve, EventsRefused}
+use Rattle.lines.specs.Lines.{Line, event, closing}
+use Rattle.events.specs.Events.{Shown}
+use Rattle.session_means.specs.EventRefusals.{OnlyTwelve, EventsRefused, ClosedByEvent, EventsClosed}
+use Rattle.session_means.proofs.EventFits.{ShownFits}
 use Rattle.session_means.proofs.LinesWalk.{Along, HeadFine, head-fine, head-walk}
 
 along-twelve : (h : Head) → Along h (λ e t ls. All OnlyTwelve ls)
 along-twelve h =
-    record { none = λ e t. tt; closes = λ e t n p. (tt, tt); shown = λ e t x ls shows so on. (so .twelve, on) }
+    record { none = λ e t. tt; closes = λ e t n p by. (tt, tt); shown = λ e t x ls shows so on. (so .twelve, on) }
 
 head-lines-twelve : (o : Outcome (Found Head)) (s : List ℕ) → Gives HeadFine o → All OnlyTwelve (headLines o s)
 unfolding headLines
@@ -20,3 +25,22 @@ head-lines-twelve (given h) s fine = head-walk h s fine (λ e t ls. All OnlyTwel
 pub events-refused : EventsRefused
 unfolding sessionLines
 events-refused s = head-lines-twelve (headAt s) s (head-fine s)
+
+shown-closes-none : (h : Head) (x : Shown) (ls : List Line) → ShownFits (h .board) x → All ClosedByEvent ls
+    → All ClosedByEvent (x .0 ∷ ls)
+shown-closes-none h (event n o m d, u) ls so on = (tt, on)
+shown-closes-none h (closing n p, u) ls so on = absurd (so .drawn)
+
+along-closed : (h : Head) → Along h (λ e t ls. All ClosedByEvent ls)
+along-closed h =
+    record {
+      none = λ e t. tt;
+      closes = λ e t n p by. (by, tt);
+      shown = λ e t x ls shows so on. shown-closes-none h x ls so on;
+    }
+
+pub events-closed : EventsClosed
+unfolding sessionLines
+events-closed s h read =
+    rw read (head-walk h s (subst (Gives HeadFine) read (head-fine s)) (λ e t ls. All ClosedByEvent ls)
+    (along-closed (h .value)))

@@ -8,11 +8,11 @@ use Rattle.lines.specs.Lines.{longestLine}
 use Rattle.session.specs.declared.Session as code-session
 use Rattle.session.specs.declared.Handed as code-handed
 use Rattle.session.specs.declared.HandOut.the-variants.{Over}
-use Rattle.session.specs.HandingOut.{nothing, toldHandOut}
+use Rattle.session.specs.HandingOut.{nothing, toldHandOut, NextLine}
 use Rattle.session.specs.Sessions.{lineTexts}
 use Rattle.session.specs.Carried.{Session, Coming, line, no-line, nextOf, toldSession}
 use Rattle.session.proofs.CallLaws.{over-never, call-room, call-over, call-line, came}
-use Rattle.session_means.specs.HandedLines.{Called, Hands, HandsOut, Tells, LinesHandedOut, AllHandedOut}
+use Rattle.session_means.specs.HandedLines.{Hands, HandsOut, Tells, LinesHandedOut, AllHandedOut}
 use Rattle.session_means.proofs.StillLaws.{still, Numbered, still-next, numbered-next}
 use Rattle.session_means.proofs.BeginningLaws.{beginning-still, beginning-numbered}
 
@@ -25,13 +25,13 @@ record From (s : List ℕ) (z : code-session.Session) (ts : List (List ℕ)) (z�
   pub numbered : Numbered (toldSession z′) s
 
 module _ (s : List ℕ) where
-  hands-first : (z y : code-session.Session) (t : List ℕ) → Numbered (toldSession z) s → Hands s z t y
+  hands-first : (z y : code-session.Session) (t : List ℕ) → Numbered (toldSession z) s → Hands NextLine s z t y
       → From s z (t ∷ []) y
   unfolding lineTexts
   hands-first z y t numbered h =
       let c = came z s (h .out) (h .out′) (h .answer) (h .called) (h .bytes) (h .line) in
-      let next : nextOf (toldSession z) s ≡ (toldSession y, line (c .line-told)) =
-      c .next ∙ ap {B = Session × Coming} (λ (x : code-session.Session). (toldSession x, line (c .line-told)))
+      let next : nextOf (toldSession z) s ≡ (toldSession y, line (c .its-line)) =
+      c .next ∙ ap {B = Session × Coming} (λ (x : code-session.Session). (toldSession x, line (c .its-line)))
       (h .after) in
       record {
         told =
@@ -40,8 +40,8 @@ module _ (s : List ℕ) where
         numbered = numbered-next (toldSession z) s numbered _ _ next;
       }
 
-  from-start : (ts : List (List ℕ)) (z z′ : code-session.Session) → Numbered (toldSession z) s → HandsOut s z ts z′
-      → From s z ts z′
+  from-start : (ts : List (List ℕ)) (z z′ : code-session.Session) → Numbered (toldSession z) s
+      → HandsOut NextLine s z ts z′ → From s z ts z′
   from-start [] z z′ numbered same =
       record {
         told = ap (λ (x : code-session.Session). ahead x s) same;
@@ -53,7 +53,7 @@ module _ (s : List ℕ) where
       record { told = one .told ∙ ap {B = List (List ℕ)} (λ ls. t ∷ ls) (rest .told); numbered = rest .numbered }
 
   tells-by : (z : code-session.Session) (out out′ : List ℕ) (r : code-handed.Handed) → Numbered (toldSession z) s
-      → longestLine ≤ length out → Called z s out r out′ → (x : Session × Coming) → nextOf (toldSession z) s ≡ x
+      → longestLine ≤ length out → NextLine z s out r out′ → (x : Session × Coming) → nextOf (toldSession z) s ≡ x
       → Tells (ahead z s) r out′
   unfolding lineTexts
   tells-by z out out′ r numbered room called (y, no-line) is =

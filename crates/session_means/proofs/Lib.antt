@@ -3,6 +3,7 @@ pub mod FromLaws
 pub mod StillLaws
 pub mod BeginningLaws
 pub mod HandedLines
+pub mod FilledBuffers
 pub mod EventFits
 pub mod LinesWalk
 pub mod EventRefusals

@@ -25,7 +25,7 @@ shown-sum h e t (event n o m d, u) ls shows so on = (
 shown-sum h e t (closing n p, u) ls shows so on = absurd (so .drawn)
 
 along-drawn : (h : Head) → Along h (SumsFrom h)
-along-drawn h = record { none = λ e t. tt; closes = λ e t n p. refl; shown = shown-sum h }
+along-drawn h = record { none = λ e t. tt; closes = λ e t n p by. refl; shown = shown-sum h }
 
 pub lines-drawn : LinesDrawn
 unfolding sessionLines

@@ -2,32 +2,35 @@
 -- the state before each fitting the board. The theorems are its instances.
 use Prim.Native.Nat.{ℕ, zero, suc, _/_}
 use mathlib.Core.Path.{_≡_, refl}
+use mathlib.Core.Logic.{_⊎_, inl, inr}
 use mathlib.Core.Bool.{Bool, true, false, cond}
 use mathlib.Core.List.{List, [], _∷_}
 use lib.Dec.{leb, ltb}
 use lib.ListN.{length}
-use Rattle.number.specs.Outcomes.{Outcome, given, refused, Found}
-use Rattle.number.specs.Refusals.{noSuchName}
+use Rattle.number.specs.Outcomes.{Outcome, given, refused, Found, _>>=_, _>>_, unless}
+use Rattle.number.specs.Refusals.{inputEnds, badForm, noSuchName}
 use Rattle.number.specs.Numbers.{numberAt}
+use Rattle.number.proofs.NumberLaws.{number-refusal}
 use Rattle.board.specs.Rules.{boardFine}
 use Rattle.state.specs.declared.State.{State}
 use Rattle.state.specs.States.{freshState, stateFine}
 use Rattle.state.proofs.StateLaws.{fresh-fits}
-use Rattle.board_reader.specs.Reading.{reading}
-use Rattle.file_means.proofs.GivesLaws.{Gives, gives-then, gives-after, wanted-gives}
+use Rattle.board_reader.specs.Reading.{wanted, reading}
+use Rattle.file_means.proofs.GivesLaws.{Gives, gives-then, gives-after}
 use Rattle.file_means.proofs.BoardTrip.{BoardIsFine}
 use Rattle.file_means.proofs.ReadFine.{read-fine}
 use Rattle.lines.specs.Lines.{Line, closing}
 use Rattle.events.specs.Events.{Shown, eventAt, eventLine}
 use Rattle.session.specs.Sessions.{Head, withAllowance, headAt, eventLines, linesFrom, headLines}
 use Rattle.session_means.specs.LinesDrawn.{EventShows}
+use Rattle.session_means.specs.EventRefusals.{ClosedByEvent}
 use Rattle.session_means.proofs.EventFits.{ShownFits, ran-fits, event-fits}
 
 -- what is to be shown of the lines from event e on, in state t: of none, of the line that ends a session, and of an
 -- event's line before others
 pub record Along (h : Head) (Q : ℕ → State → List Line → Type 0) : Type 0 where
   pub none : (e : ℕ) (t : State) → Q e t []
-  pub closes : (e : ℕ) (t : State) (n p : ℕ) → Q e t (closing n p ∷ [])
+  pub closes : (e : ℕ) (t : State) (n p : ℕ) → ClosedByEvent (closing n p) → Q e t (closing n p ∷ [])
   pub shown : (e : ℕ) (t : State) (x : Shown) (ls : List Line) → EventShows h e t x → ShownFits (h .board) x
       → Q (suc e) (x .1) ls → Q e t (x .0 ∷ ls)
 
@@ -35,25 +38,39 @@ pub record Along (h : Head) (Q : ℕ → State → List Line → Type 0) : Type 
 
 module _ (h : Head) (s : List ℕ) (fine : boardFine (h .board) ≡ true) (Q : ℕ → State → List Line → Type 0)
     (so : Along h Q) where
-  -- the event's button is one of the board's
-  abbrev Named : Found ℕ → Type 0
-  Named v = ltb (v .value / 2) (h .board .counts .buttons) ≡ true
+  -- the event's button is one of the board's; or the event is refused by 1, 2 or 7
+  abbrev EventRead : Outcome (Found ℕ) → Type 0
+  EventRead (given v) = ltb (v .value / 2) (h .board .counts .buttons) ≡ true
+  EventRead (refused n p) = ClosedByEvent (closing n p)
 
-  event-named : (at : ℕ) → Gives Named (eventAt (h .board) s at)
-  unfolding eventAt
-  event-named at =
-      wanted-gives Named (λ v. ltb (v / 2) (h .board .counts .buttons)) noSuchName s at (λ v read below. below)
+  event-read : (at : ℕ) → EventRead (eventAt (h .board) s at)
+  unfolding eventAt wanted
+  event-read at = by (numberAt s at) refl
+    where
+      below : (v : Found ℕ) (t : Bool) → ltb (v .value / 2) (h .board .counts .buttons) ≡ t
+          → EventRead (unless t noSuchName at >> given v)
+      below v true e = e
+      below v false e = inr (inr refl)
+
+      by : (o : Outcome (Found ℕ)) → numberAt s at ≡ o
+          → EventRead (o >>= λ v. unless (ltb (v .value / 2) (h .board .counts .buttons)) noSuchName at >> given v)
+      by (given v) is = below v _ refl
+      by (refused n p) is = either (number-refusal s at n p is)
+        where
+          either : ((n ≡ inputEnds) × (p ≡ length s)) ⊎ ((n ≡ badForm) × (p ≡ at)) → EventRead (refused n p)
+          either (inl ends) = inl (ends .0)
+          either (inr bad) = inr (inl (bad .0))
 
   -- event e, in state t that fits, and the lines after it
   event-walk : (e : ℕ) (t : State) (o : Outcome (Found ℕ)) (go : State → ℕ → List Line)
-      → stateFine (h .board .counts) t ≡ true → Gives Named o
+      → stateFine (h .board .counts) t ≡ true → EventRead o
       → ((u : State) (next : ℕ) → stateFine (h .board .counts) u ≡ true → Q (suc (suc e)) u (go u next))
       → Q (suc e) t (eventLines o (λ v. eventLine (h .board) (suc e) t v (h .allowance)) go)
   event-walk e t (given v) go fits named on =
       let x = eventLine (h .board) (suc e) t (v .value) (h .allowance) in
       let after = event-fits (h .board) fine (h .allowance) (suc e) t (v .value) fits named in
       so .shown (suc e) t x _ (v .value, refl) after (on (x .1) (v .next) (after .fits))
-  event-walk e t (refused n p) go fits named on = so .closes (suc e) t n p
+  event-walk e t (refused n p) go fits named on = so .closes (suc e) t n p named
 
   unless-over : (e : ℕ) (t : State) (over : Bool) (ls : List Line) → Q e t ls → Q e t (cond over [] ls)
   unless-over e t true ls all = so .none e t
@@ -66,7 +83,7 @@ module _ (h : Head) (s : List ℕ) (fine : boardFine (h .board) ≡ true) (Q : �
   lines-walk (suc k) t e at fits =
       unless-over (suc e) t (leb (length s) at) _
       (event-walk e t (eventAt (h .board) s at)
-      (λ u next. linesFrom k (h .board) s u (suc (suc e)) next (h .allowance)) fits (event-named at)
+      (λ u next. linesFrom k (h .board) s u (suc (suc e)) next (h .allowance)) fits (event-read at)
       (λ u next after. lines-walk k u (suc e) next after))
 
 -- ---- the session

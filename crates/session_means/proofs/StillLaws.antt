@@ -15,7 +15,7 @@ use Rattle.session.specs.Carried.{nextOf}
 use Rattle.session.proofs.AdvanceLaws.{following-on, following-most}
 use Rattle.session.proofs.AheadLaws.{Ahead, runs-first, makes-event, bad-event, tells-refusal, at-end, is-over, ahead}
 use Rattle.session.proofs.AheadLaws.{event-next, next-less}
-use Rattle.session.specs.ToCome.{toComeAt, toCome}
+use Rattle.session.proofs.ToCome.{toComeAt, toCome}
 use Rattle.session_means.proofs.FromLaws.{from-end, from-event, from-enough}
 
 unfoldable pub stillAt : Stage → Session → List ℕ → List Line

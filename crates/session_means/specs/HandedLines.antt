@@ -1,9 +1,9 @@
 -- The lines that are handed out one after the other are the session's lines, for every input.
---     Begun s z                z is what `begin` answers on the input s
---     Called z s out r out′    `next_line` was called on session z, input s and the lent buffer `out`, answered r and
---                              left the buffer out′
---     Hands s z t y            a call on z hands out the text t, and leaves the session y to carry on
---     HandsOut s z ts z′       calls from z on hand out the texts ts, one after the other, and leave the session z′
+--     Call                     what a call on a session, an input and a lent buffer promises of its answer and of the
+--                              buffer afterwards
+--     Hands C s z t y          a call that promises C hands out the text t on z, and leaves the session y to carry on
+--     HandsOut C s z ts z′     such calls from z on hand out the texts ts, one after the other, and leave the session
+--                              z′
 --     Tells ts r out′          r hands out the first of the texts ts; where there is none, it says so
 --     SoFar s z ts             the texts ts are the first of the session's lines, and whatever buffer with room is lent
 --                              next, what comes is the next of them
@@ -16,48 +16,46 @@ use lib.ListN.{length, take}
 use Rattle.lines.specs.Lines.{longestLine}
 use Rattle.session.specs.declared.Session.{Session}
 use Rattle.session.specs.declared.Handed.{Handed}
-use Rattle.session.specs.declared.HandOut.the-variants.{Line, Over}
+use Rattle.session.specs.declared.HandOut.the-variants.{Written, Over}
 use Rattle.session.specs.Sessions.{sessionLines, lineTexts}
-use Rattle.session.specs.Carried.{beginning, toldSession}
-use Rattle.session.specs.HandingOut.{nextLine, toldHanded}
+use Rattle.session.specs.Carried.{Begins}
+use Rattle.session.specs.HandingOut.{NextLine}
 
-abbrev pub Begun : List ℕ → Session → Type 0
-Begun s z = toldSession z ≡ beginning s
+abbrev pub Call : Type 1
+Call = Session → List ℕ → List ℕ → Handed → List ℕ → Type 0
 
-abbrev pub Called : Session → List ℕ → List ℕ → Handed → List ℕ → Type 0
-Called z s out r out′ = toldHanded r out′ ≡ nextLine (toldSession z) s out
-
-pub record Hands (s : List ℕ) (z : Session) (t : List ℕ) (y : Session) : Type 0 where
+pub record Hands (C : Call) (s : List ℕ) (z : Session) (t : List ℕ) (y : Session) : Type 0 where
   pub out : List ℕ
   pub out′ : List ℕ
   pub answer : Handed
   pub bytes : ℕ
-  pub called : Called z s out answer out′
-  pub line : answer .answer ≡ Line bytes
+  pub called : C z s out answer out′
+  pub line : answer .answer ≡ Written bytes
   pub text : take bytes out′ ≡ t
   pub after : answer .session ≡ y
 
-abbrev pub HandsOut : List ℕ → Session → List (List ℕ) → Session → Type 0
-HandsOut s z [] z′ = z ≡ z′
-HandsOut s z (t ∷ ts) z′ = (y : Session) × (Hands s z t y × HandsOut s y ts z′)
+abbrev pub HandsOut : Call → List ℕ → Session → List (List ℕ) → Session → Type 0
+HandsOut C s z [] z′ = z ≡ z′
+HandsOut C s z (t ∷ ts) z′ = (y : Session) × (Hands C s z t y × HandsOut C s y ts z′)
 
 abbrev pub Tells : List (List ℕ) → Handed → List ℕ → Type 0
 Tells [] r out′ = r .answer ≡ Over
-Tells (t ∷ ts) r out′ = (r .answer ≡ Line (length t)) × (take (length t) out′ ≡ t)
+Tells (t ∷ ts) r out′ = (r .answer ≡ Written (length t)) × (take (length t) out′ ≡ t)
 
 pub record SoFar (s : List ℕ) (z : Session) (ts : List (List ℕ)) : Type 0 where
   pub rest : List (List ℕ)
   pub all : lineTexts (sessionLines s) ≡ ts ++ rest
-  pub next : (out out′ : List ℕ) (r : Handed) → longestLine ≤ length out → Called z s out r out′ → Tells rest r out′
+  pub next : (out out′ : List ℕ) (r : Handed) → longestLine ≤ length out → NextLine z s out r out′ → Tells rest r out′
 
 abbrev pub LinesHandedOut : Type 0
-LinesHandedOut = (s : List ℕ) (z z′ : Session) (ts : List (List ℕ)) → Begun s z → HandsOut s z ts z′ → SoFar s z′ ts
+LinesHandedOut =
+    (s : List ℕ) (z z′ : Session) (ts : List (List ℕ)) → Begins s z → HandsOut NextLine s z ts z′ → SoFar s z′ ts
 
 abbrev pub AllHandedOut : Type 0
 AllHandedOut =
     (s : List ℕ) (z z′ : Session) (ts : List (List ℕ)) (out out′ : List ℕ) (r : Handed)
-    → Begun s z
-    → HandsOut s z ts z′
-    → Called z′ s out r out′
+    → Begins s z
+    → HandsOut NextLine s z ts z′
+    → NextLine z′ s out r out′
     → r .answer ≡ Over
     → ts ≡ lineTexts (sessionLines s)

@@ -1,4 +1,5 @@
 -- The statements, in reading order.
 pub mod HandedLines
+pub mod FilledBuffers
 pub mod EventRefusals
 pub mod LinesDrawn

@@ -18,6 +18,7 @@ use Rattle.bits.proofs.BoolLaws.{both-true, true-both}
 use Rattle.state.specs.declared.State.{State}
 use Rattle.state.specs.States.{freshState, isDrawn, isPushed, withDrawn, withDropped, withPushed, withReleased}
 use Rattle.state.specs.States.{stateFine, usable}
+use Rattle.state.specs.Fourteen.{MembersBelow}
 
 -- ---- a method changes its own relay or button and nothing else
 
@@ -60,10 +61,6 @@ module _ (s : State) (b : ℕ) where
   drawn-release r = refl
 
 -- ---- a state fits a board exactly if every drawn relay is below R and every pushed button below B
-
-pub record MembersBelow (c : Counts) (s : State) : Type 0 where
-  pub drawn-below : (r : ℕ) → isDrawn s r ≡ true → r < c .relays
-  pub pushed-below : (b : ℕ) → isPushed s b ≡ true → b < c .buttons
 
 both-within : (c : Counts) (s : State) → stateFine c s ≡ true → (within (s .drawn) (c .relays) ≡ true)
     × (within (s .pushed) (c .buttons) ≡ true)

@@ -1,2 +1,3 @@
--- The definitions that the contracts cite.
+-- The definitions that the contracts cite; then what they say of 14.
 pub mod States
+pub mod Fourteen

@@ -4,7 +4,8 @@ use lib.ListN.{length}
 use borrow.Author.Needs.{needs}
 use Rattle.lines.specs.Lines.{longestLine}
 use Rattle.session.specs.Carried.{toldSession}
-use Rattle.session.specs.ToCome.{toCome}
+use Rattle.session.proofs.ToCome.{toCome}
+use Rattle.session.proofs.CallLaws.{call-advances}
 use Rattle.session_cases.proofs.print_lines.Statement.{statement}
 use Rattle.session_cases.proofs.print_lines.Tie as tie
 use mathlib.Core.Path.{_≡_, sym}
@@ -18,24 +19,31 @@ abbrev μ-loop : tie.MeasureT-loop
 
 array-share-prefix-line : tie.Need-array-share-prefix-line Inv-loop μ-loop
 array-share-prefix-line c =
-    let at-hand-out = c .before .before .before .before in
+    let at-next-line = c .before .before .before .before in
+    let at-loop = at-next-line .before .before in
     omega (
       arith,
-      at-hand-out .hand-out .ensures _ (c .before .answer .given .1) .0,
-      at-hand-out .before .before .loop .inv,
+      call-advances (at-loop .loop .session) _ (at-loop .loop .line) _ (at-next-line .next-line .result)
+          (at-next-line .next-line .ensures) _ (c .before .answer .given .1) .0,
+      at-loop .loop .inv,
     )
 
 slice-aggregate-write-all : tie.Need-slice-aggregate-write-all Inv-loop μ-loop
 slice-aggregate-write-all c =
-    let at-hand-out = c .before .before .before .before .before in
-    let long : length (at-hand-out .hand-out .last .1 .1 .0) ≡ longestLine = search needs in
-    let advances = at-hand-out .hand-out .ensures _ (c .before .before .answer .given .1) in
-    sym (length-take-le _ _ (omega (arith, advances .0, at-hand-out .before .before .loop .inv, long)))
+    let at-next-line = c .before .before .before .before .before in
+    let at-loop = at-next-line .before .before in
+    let long : length (at-next-line .next-line .last .1 .1 .0) ≡ longestLine = search needs in
+    let advances =
+    call-advances (at-loop .loop .session) _ (at-loop .loop .line) _ (at-next-line .next-line .result)
+    (at-next-line .next-line .ensures) _ (c .before .before .answer .given .1) in
+    sym (length-take-le _ _ (omega (arith, advances .0, at-loop .loop .inv, long)))
 
 loop-less : tie.Need-loop-less Inv-loop μ-loop
 loop-less c =
-    let at-hand-out = c .before .before .before .before .before .before .before in
-    at-hand-out .hand-out .ensures _ (c .before .before .before .before .answer .given .1) .1
+    let at-next-line = c .before .before .before .before .before .before .before in
+    let at-loop = at-next-line .before .before in
+    call-advances (at-loop .loop .session) _ (at-loop .loop .line) _ (at-next-line .next-line .result)
+    (at-next-line .next-line .ensures) _ (c .before .before .before .before .answer .given .1) .1
 
 pub print-lines-spec : {M : Type 1} → statement M
 print-lines-spec =

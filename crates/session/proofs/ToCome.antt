@@ -1,9 +1,9 @@
--- How many lines can come at most. Only for the loop of a program that asks for line after line: it ends by this
+-- How many lines can come at most. A program that asks for line after line, or for buffer after buffer, ends by this
 -- number.
 --     toComeAt k n        how many at the stage k, where n bytes of the input are left
 --     toCome z s          how many of the session z on the input s
---     Advances z s n r    where the answer r to a call on z hands out a line, the line fits a buffer of n bytes, and
---                         less is to come after it
+--     Advances z s n r    where the answer r to a call on z hands out lines, they fit a buffer of n bytes, and less is
+--                         to come after them
 use Prim.Native.Nat.{ℕ, suc, _-_, _<_, _≤_}
 use mathlib.Core.Path.{_≡_}
 use mathlib.Core.List.{List}
@@ -24,4 +24,4 @@ toCome z s = toComeAt (z .stage) (length s - z .place)
 
 abbrev pub Advances : code-session.Session → List ℕ → ℕ → code-handed.Handed → Type 0
 Advances z s n r =
-    (k : ℕ) → r .answer ≡ said.Line k → (k ≤ n) × (toCome (toldSession (r .session)) s < toCome (toldSession z) s)
+    (k : ℕ) → r .answer ≡ said.Written k → (k ≤ n) × (toCome (toldSession (r .session)) s < toCome (toldSession z) s)

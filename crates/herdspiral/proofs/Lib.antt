@@ -1,2 +1,0 @@
--- Laws for this crate's proofs.
-pub mod PartLaws

@@ -1,0 +1,328 @@
+-- Laws of filling a buffer: the loop of `next_lines` has handed out the first of the lines that fit, and each call of
+-- `line_at` hands out the next of them, or ends it.
+use Prim.Native.Nat.{ℕ, zero, suc, _+_, _-_, _<_, _≤_}
+use native.Mathlib.Omega.{arith}
+use mathlib.Core.Path.{_≡_, refl, sym, ap, subst, _∙_}
+use mathlib.Core.Logic.{inl, inr, _⊎_}
+use mathlib.Core.List.{List, [], _∷_, _++_, append-nil, append-assoc}
+use lib.Dec.{leb}
+use lib.ListN.{length, take, drop, length-append, length-drop, take-append-drop}
+use lib.Seq.{take-all, drop-length, drop-drop, take-at, drop-at}
+use borrow.Author.Tests.{le-leb, lt-leb, leb-true, leb-false}
+use borrow.Rule.Slice.PartMut.{midOf, putMid}
+use denote.Enum.Declared.{tagOf}
+use types.Run.{OneOf}
+use Rattle.bits.proofs.BoolLaws.{by-test}
+use Rattle.number.specs.Outcomes.{Outcome, given, refused}
+use Rattle.number.specs.Refusals.{bufferTooShort}
+use Rattle.lines.specs.Lines.{Line, lineText, longestLine}
+use Rattle.lines.proofs.LineLaws.{line-length-some, line-length-most}
+use Rattle.session.specs.declared.Handed as code-handed
+use Rattle.session.specs.declared.HandOut as code-handout
+use Rattle.session.specs.declared.HandOut.the-variants as said
+use Rattle.session.specs.Sessions.{lineTexts, printed}
+use Rattle.session.specs.Carried.{Session, Coming, line, no-line, nextOf, toldSession}
+use Rattle.session.specs.HandingOut.{HandOut, written, nothing, Handed, handedBy, nextLine, toldHandOut}
+use Rattle.session.specs.HandingOut.{toldHanded}
+use Rattle.session.specs.Filling.{fitsOn, fitting, filledBy, nextLines, behind, summed}
+use Rattle.session.proofs.NextLineLaws.{next-line-short, next-line-room}
+use Rattle.session.proofs.HandOut.{the-type}
+use Rattle.number.proofs.Told.{told-injective}
+use Rattle.session.proofs.ToldLaws.{hand-out-told}
+use Rattle.session.proofs.CallLaws.{over-never}
+use Rattle.session.proofs.FitLaws.{bytesOf, bytes-append, bytes-one, fitting-short, fitting-next}
+
+-- ---- a part of the buffer that was lent, and is back
+
+module _ (out : List ℕ) (at : ℕ) where
+  part-rest : length (drop at out) ≡ length out - at
+  part-rest = length-drop at out
+
+  pub part-lent : midOf at (length out - at) out ≡ drop at out
+  part-lent = take-all (length out - at) (drop at out) (omega (arith, part-rest))
+
+  pub part-back : (o : List ℕ) → putMid at (length out - at) out o ≡ take at out ++ o
+  part-back o =
+      let none : drop (length out - at) (drop at out) ≡ [] =
+      ap (λ (n : ℕ). drop n (drop at out)) (sym part-rest) ∙ drop-length (drop at out) in
+      ap (λ (x : List ℕ). take at out ++ (o ++ x)) none ∙ ap (λ (x : List ℕ). take at out ++ x) (append-nil o)
+
+  pub line-at-by : (z : Session) (s o out′ : List ℕ) (r : code-handed.Handed)
+      → toldHanded r o ≡ nextLine z s (midOf at (length out - at) out) → out′ ≡ putMid at (length out - at) out o
+      → toldHanded r out′ ≡ behind (take at out) (nextLine z s (drop at out))
+  line-at-by z s o out′ r called back =
+      let lent = called ∙ ap (nextLine z s) part-lent in
+      ap (toldHanded r) (back ∙ part-back o) ∙ ap (behind (take at out)) lent
+
+-- ---- the answer
+
+pub summed-some : (n : ℕ) (o : Outcome HandOut) → (n ≡ 0 → ⊥) → given (written n) ≡ summed n o
+summed-some zero o some = absurd (some refl)
+summed-some (suc n) o some = refl
+
+-- ---- the lines handed out so far
+
+-- `used` bytes of the buffer hold lines, and z comes after them; the rest of the buffer is as lent
+pub record FilledTo (z₀ : Session) (s out₀ : List ℕ) (z : Session) (out : List ℕ) (used : ℕ) : Type 0 where
+  pub lines : List Line
+  pub rest : Session × List Line
+  pub most : ℕ
+  pub enough : length out₀ - used ≤ most
+  pub left : fitting most z s (length out₀ - used) ≡ rest
+  pub all : fitting (length out₀) z₀ s (length out₀) ≡ (rest .0, lines ++ rest .1)
+  pub bytes : used ≡ length (bytesOf lines)
+  pub text : out ≡ bytesOf lines ++ drop used out₀
+  pub within : used ≤ length out₀
+
+pub filled-none : (z : Session) (s out : List ℕ) → FilledTo z s out z out 0
+unfolding lineTexts printed
+filled-none z s out =
+    record {
+      lines = [];
+      rest = fitting (length out) z s (length out);
+      most = length out;
+      enough = omega arith;
+      left = ap (fitting (length out) z s) (omega arith);
+      all = refl;
+      bytes = refl;
+      text = refl;
+      within = omega arith;
+    }
+
+-- what a call of `next_line` on the buffer p does
+data Ways (z : Session) (s p : List ℕ) : Type 0 where
+  no-room : length p < longestLine
+      → nextLine z s p ≡ record { session = z; answer = refused bufferTooShort 0; out = p } → Ways z s p
+  no-more : (y : Session) → longestLine ≤ length p → nextOf z s ≡ (y, no-line)
+      → nextLine z s p ≡ record { session = y; answer = given nothing; out = p } → Ways z s p
+  one-line : (y : Session) (l : Line) → longestLine ≤ length p → nextOf z s ≡ (y, line l)
+      → nextLine z s p
+      ≡ record {
+        session = y;
+        answer = given (written (length (lineText l)));
+        out = lineText l ++ drop (length (lineText l)) p;
+      }
+      → Ways z s p
+
+module _ (z : Session) (s p : List ℕ) where
+  handed-by : longestLine ≤ length p → (x : Session × Coming) → nextOf z s ≡ x → nextLine z s p ≡ handedBy x p
+  handed-by room x is = sym (next-line-room z s p room) ∙ ap (λ (y : Session × Coming). handedBy y p) is
+
+  room-ways : longestLine ≤ length p → (x : Session × Coming) → nextOf z s ≡ x → Ways z s p
+  unfolding handedBy
+  room-ways room (y, no-line) is = no-more y room is (handed-by room _ is)
+  room-ways room (y, line l) is = one-line y l room is (handed-by room _ is)
+
+  ways : Ways z s p
+  ways =
+      by-test (leb longestLine (length p)) (λ room. room-ways (leb-true longestLine (length p) room) (nextOf z s) refl)
+      (λ short.
+      let less = leb-false longestLine (length p) short in
+      no-room less (sym (next-line-short z s p less)))
+
+pub line-is : {m n : ℕ} → _≡_ {A = Outcome HandOut} (given (written m)) (given (written n)) → m ≡ n
+line-is e = cc
+
+line-not-refused : {m n p : ℕ} → _≡_ {A = Outcome HandOut} (given (written m)) (refused n p) → ⊥
+line-not-refused e = let z : _≡_ {A = ℕ} 0 1 = cc in omega arith
+
+pub line-not-nothing : {m : ℕ} → _≡_ {A = Outcome HandOut} (given (written m)) (given nothing) → ⊥
+line-not-nothing e = let z : _≡_ {A = ℕ} 0 1 = cc in omega arith
+
+-- ---- the whole call
+
+-- why no line comes where n bytes are left: there is none, or no room
+abbrev Why : ℕ → Outcome HandOut → Type 0
+Why n o = ((longestLine ≤ n) × (o ≡ given nothing)) ⊎ ((n < longestLine) × (o ≡ refused bufferTooShort 0))
+
+module _ (z₀ : Session) (s out₀ : List ℕ) where
+  pub lines-room : longestLine ≤ length out₀
+      → filledBy (fitting (length out₀) z₀ s (length out₀)) out₀ ≡ nextLines z₀ s out₀
+  unfolding nextLines
+  lines-room room = rw (le-leb longestLine (length out₀) room)
+
+  pub lines-short : length out₀ < longestLine
+      → record { session = z₀; answer = refused bufferTooShort 0; out = out₀ } ≡ nextLines z₀ s out₀
+  unfolding nextLines
+  lines-short short = rw (lt-leb longestLine (length out₀) short)
+
+  module _ (y : Session) (o : Outcome HandOut) where
+    -- where a line fits, the buffer has room
+    some-room : (l : Line) (ls : List Line) → fitting (length out₀) z₀ s (length out₀) ≡ (y, l ∷ ls)
+        → longestLine ≤ length out₀
+    some-room l ls fits =
+        by-test (leb longestLine (length out₀)) (leb-true longestLine (length out₀))
+        (λ short.
+        let none = fitting-short z₀ s (length out₀) (length out₀) (leb-false longestLine (length out₀) short) in
+        absurd (omega (arith, ap (λ (x : Session × List Line). length (x .1)) (sym none ∙ fits))))
+
+    -- the lines ls are those that fit, and o says why no more came
+    lines-end : (ls : List Line) → fitting (length out₀) z₀ s (length out₀) ≡ (y, ls)
+        → Why (length out₀ - length (bytesOf ls)) o
+        → record {
+          session = y;
+          answer = summed (length (bytesOf ls)) o;
+          out = bytesOf ls ++ drop (length (bytesOf ls)) out₀;
+        } ≡ nextLines z₀ s out₀
+    unfolding lineTexts printed filledBy
+    lines-end [] fits (inl (room, is)) =
+        rw is (ap (λ (x : Session × List Line). filledBy x out₀) (sym fits) ∙ lines-room (omega (arith, room)))
+    lines-end [] fits (inr (short, is)) =
+        let less : length out₀ < longestLine = omega (arith, short) in
+        let same : y ≡ z₀ =
+        ap (λ (x : Session × List Line). x .0) (sym fits ∙ fitting-short z₀ s (length out₀) (length out₀) less) in
+        rw (is, same) (lines-short less)
+    lines-end (l ∷ ls) fits why =
+        let some : length (lineText l ++ bytesOf ls) ≡ 0 → ⊥ =
+        λ none. omega (arith, length-append (lineText l) (bytesOf ls), line-length-some l, none) in
+        rw (← summed-some (length (lineText l ++ bytesOf ls)) o some)
+        (ap (λ (x : Session × List Line). filledBy x out₀) (sym fits) ∙ lines-room (some-room l ls fits))
+
+module _ (z₀ : Session) (s out₀ : List ℕ) (z : Session) (out : List ℕ) (used : ℕ)
+    (f : FilledTo z₀ s out₀ z out used) where
+  -- the first bytes are the lines, and those behind them as lent
+  lines-first : take used out ≡ bytesOf (f .lines)
+  lines-first =
+      ap (take used) (f .text) ∙ take-at (bytesOf (f .lines)) (drop used out₀) used (sym (f .bytes))
+
+  rest-lent : drop used out ≡ drop used out₀
+  rest-lent = ap (drop used) (f .text) ∙ drop-at (bytesOf (f .lines)) (drop used out₀) used (sym (f .bytes))
+
+  pub filled-to-length : length out ≡ length out₀
+  filled-to-length =
+      omega (
+        arith,
+        ap length (f .text),
+        length-append (bytesOf (f .lines)) (drop used out₀),
+        length-drop used out₀,
+        f .bytes,
+        f .within,
+      )
+
+  room-left : length (drop used out) ≡ length out₀ - used
+  room-left = ap length rest-lent ∙ length-drop used out₀
+
+  -- the lines that fit in what is left, where x comes next
+  left-next : longestLine ≤ length (drop used out) → (x : Session × Coming) → nextOf z s ≡ x
+      → f .rest ≡ fitsOn x (λ y l. fitting (f .most - 1) y s (length out₀ - used - length (lineText l)))
+  left-next room x is =
+      sym (f .left)
+      ∙ fitting-next z s (length out₀ - used) (f .most) (omega (arith, room, room-left)) (f .enough) x is
+
+  -- ---- a line is added
+
+  module _ (y : Session) (l : Line) (room : longestLine ≤ length (drop used out)) (is : nextOf z s ≡ (y, line l)) where
+    bytes-on : bytesOf (f .lines ++ (l ∷ [])) ≡ bytesOf (f .lines) ++ lineText l
+    bytes-on = bytes-append (f .lines) (l ∷ []) ∙ ap (λ (x : List ℕ). bytesOf (f .lines) ++ x) (bytes-one l)
+
+    text-on : take used out ++ (lineText l ++ drop (length (lineText l)) (drop used out))
+        ≡ bytesOf (f .lines ++ (l ∷ [])) ++ drop (used + length (lineText l)) out₀
+    text-on =
+        rw (lines-first, rest-lent, drop-drop (length (lineText l)) used out₀, bytes-on)
+        (sym (append-assoc (bytesOf (f .lines)) (lineText l) (drop (used + length (lineText l)) out₀)))
+
+    filled-line : FilledTo z₀ s out₀ y (take used out ++ (lineText l ++ drop (length (lineText l)) (drop used out)))
+        (used + length (lineText l))
+    filled-line =
+        let less : length out₀ - used - length (lineText l) ≡ length out₀ - (used + length (lineText l)) =
+        omega arith in
+        let x = fitting (f .most - 1) y s (length out₀ - used - length (lineText l)) in
+        record {
+          lines = f .lines ++ (l ∷ []);
+          rest = x;
+          most = f .most - 1;
+          enough = omega (arith, f .enough, line-length-some l);
+          left = ap (fitting (f .most - 1) y s) (sym less);
+          all =
+              f .all
+              ∙ ap {B = Session × List Line} (λ (w : Session × List Line). (w .0, f .lines ++ w .1))
+              (left-next room (y, line l) is)
+              ∙ ap {B = Session × List Line} (λ (ls : List Line). (x .0, ls))
+              (sym (append-assoc (f .lines) (l ∷ []) (x .1)));
+          bytes =
+              omega (arith, f .bytes, ap length bytes-on, length-append (bytesOf (f .lines)) (lineText l));
+          text = text-on;
+          within = omega (arith, room, room-left, line-length-most l);
+        }
+
+  -- ---- what a call of `line_at` comes to
+
+  module _ (r : code-handed.Handed) (out′ : List ℕ)
+      (called : toldHanded r out′ ≡ behind (take used out) (nextLine z s (drop used out))) where
+    came-to : (h : Handed) → nextLine z s (drop used out) ≡ h → toldHanded r out′ ≡ behind (take used out) h
+    came-to h is = called ∙ ap (behind (take used out)) is
+
+    pub record Goes (n : ℕ) : Type 0 where
+      pub grows : 0 < n
+      pub filled-on : FilledTo z₀ s out₀ (toldSession (r .session)) out′ (used + n)
+
+    goes-by : (n : ℕ) → r .answer ≡ said.Written n → Ways z s (drop used out) → Goes n
+    goes-by n is (no-room short e) =
+        absurd (line-not-refused (ap toldHandOut (sym is) ∙ ap (λ (h : Handed). h .answer) (came-to _ e)))
+    goes-by n is (no-more y room none e) =
+        absurd (line-not-nothing (ap toldHandOut (sym is) ∙ ap (λ (h : Handed). h .answer) (came-to _ e)))
+    goes-by n is (one-line y l room next e) =
+        let told = came-to _ e in
+        let long : n ≡ length (lineText l) = line-is (ap toldHandOut (sym is) ∙ ap (λ (h : Handed). h .answer) told) in
+        record {
+          grows = omega (arith, long, line-length-some l);
+          filled-on =
+              rw (ap (λ (h : Handed). h .session) told, ap (λ (h : Handed). h .out) told, long)
+              (filled-line y l room next);
+        }
+
+    pub line-goes : (n : ℕ) → r .answer ≡ said.Written n → Goes n
+    line-goes n is = goes-by n is (ways z s (drop used out))
+
+    -- ---- the end: no line, or no room for one
+
+    -- no further line fits, and the buffer is as it was before the call
+    record Ends : Type 0 where
+      none : f .rest ≡ (toldSession (r .session), [])
+      buffer : out′ ≡ out
+      why : Why (length out₀ - used) (toldHandOut (r .answer))
+
+    ends-with : (y : Session) (o : Outcome HandOut) → f .rest ≡ (y, []) → Why (length out₀ - used) o
+        → toldHanded r out′ ≡ behind (take used out) (record { session = y; answer = o; out = drop used out }) → Ends
+    ends-with y o none why told =
+        record {
+          none =
+              none
+              ∙ ap {B = Session × List Line} (λ (x : Session). (x, [])) (ap (λ (h : Handed). h .session) (sym told));
+          buffer = ap (λ (h : Handed). h .out) told ∙ take-append-drop used out;
+          why = subst (Why (length out₀ - used)) (ap (λ (h : Handed). h .answer) (sym told)) why;
+        }
+
+    ends-by : ((n : ℕ) → r .answer ≡ said.Written n → ⊥) → Ways z s (drop used out) → Ends
+    ends-by never (no-room short e) =
+        let less : length out₀ - used < longestLine = omega (arith, short, room-left) in
+        ends-with z (refused bufferTooShort 0)
+        (sym (f .left) ∙ fitting-short z s (length out₀ - used) (f .most) less) (inr (less, refl)) (came-to _ e)
+    ends-by never (no-more y room none e) =
+        ends-with y (given nothing) (left-next room (y, no-line) none) (inl (omega (arith, room, room-left), refl))
+        (came-to _ e)
+    ends-by never (one-line y l room next e) =
+        absurd (never (length (lineText l))
+        (told-injective toldHandOut hand-out-told (r .answer) (said.Written (length (lineText l)))
+        (ap (λ (h : Handed). h .answer) (came-to _ e))))
+
+    pub line-ends : ((n : ℕ) → r .answer ≡ said.Written n → ⊥) → (a : code-handout.HandOut)
+        → toldHandOut a ≡ summed used (toldHandOut (r .answer))
+        → toldHanded (record { session = r .session; answer = a }) out′ ≡ nextLines z₀ s out₀
+    line-ends never a told =
+        let end = ends-by never (ways z s (drop used out)) in
+        let fits =
+        f .all
+        ∙ ap {B = Session × List Line} (λ (w : Session × List Line). (w .0, f .lines ++ w .1)) (end .none)
+        ∙ ap {B = Session × List Line} (λ (ls : List Line). (toldSession (r .session), ls)) (append-nil (f .lines)) in
+        rw (told, end .buffer, f .text, f .bytes)
+        (lines-end z₀ s out₀ (toldSession (r .session)) (toldHandOut (r .answer)) (f .lines) fits
+        (subst (λ (n : ℕ). Why (length out₀ - n) (toldHandOut (r .answer))) (f .bytes) (end .why)))
+
+-- the answer to `let .. else` is no line
+pub tag-never-line : (a : code-handout.HandOut) → OneOf (1 ∷ 2 ∷ []) (tagOf the-type a) → (n : ℕ)
+    → a ≡ said.Written n → ⊥
+tag-never-line (said.Written m) (inl e) n is = absurd (omega (arith, e))
+tag-never-line (said.Written m) (inr e) n is = absurd (omega (arith, e))
+tag-never-line said.Over other n is = over-never n is
+tag-never-line (said.Refused q) other n is = let z : _≡_ {A = ℕ} 0 1 = cc in omega arith

@@ -1,0 +1,76 @@
+-- `session::next_lines` meets its contract: what was handed out so far are the first of the lines that fit.
+use Prim.Native.Nat.{_-_}
+use mathlib.Core.Path.{_≡_, _∙_}
+use native.Mathlib.Omega.{arith}
+use lib.ListN.{length}
+use borrow.Author.Needs.{needs}
+use Rattle.session.specs.Carried.{toldSession}
+use Rattle.session.proofs.next_lines.Statement.{statement}
+use Rattle.session.proofs.next_lines.Tie as tie
+use Rattle.session.proofs.FillLaws.{FilledTo, filled-none, filled-to-length, line-goes, line-ends}
+use Rattle.session.proofs.FillLaws.{tag-never-line}
+
+abbrev Inv-loop : tie.InvT-loop
+Inv-loop s out₀ session₀ used₀ out session used = FilledTo (toldSession session₀) s out₀ (toldSession session) out used
+
+abbrev μ-loop : tie.MeasureT-loop
+μ-loop s out₀ session₀ used₀ out session used = length out₀ - used
+
+line-at-requires : tie.Need-line-at-requires Inv-loop μ-loop
+line-at-requires c κs =
+    let inv = c .before .loop .inv in
+    omega (arith, filled-to-length _ _ _ _ _ _ inv, inv .within)
+
+same-length : tie.Need-same-length Inv-loop μ-loop
+same-length c =
+    let at-line-at = c .before .before .before .before .before in
+    let at-loop = at-line-at .before .before in
+    let kept : length (at-line-at .line-at .last .1 .1 .0) ≡ length (at-loop .loop .out) = search needs in
+    kept ∙ filled-to-length _ _ _ _ _ _ (at-loop .loop .inv)
+
+returns : tie.Need-returns Inv-loop μ-loop
+returns c =
+    let at-line-at = c .before .before .before .before .before in
+    let at-loop = at-line-at .before .before in
+    line-ends _ _ _ _ _ _ (at-loop .loop .inv) (at-line-at .line-at .result) _ (at-line-at .line-at .ensures)
+    (tag-never-line _ (c .before .match .keys2)) (c .sum-up .result) (c .sum-up .ensures)
+
+add-used : tie.Need-add-used Inv-loop μ-loop
+add-used c =
+    let at-line-at = c .before .before .before .before .before .before in
+    let at-loop = at-line-at .before .before in
+    let goes =
+    line-goes _ _ _ _ _ _ (at-loop .loop .inv) (at-line-at .line-at .result) _ (at-line-at .line-at .ensures) _
+    (c .before .answer .given .1) in
+    omega (arith, goes .filled-on .within)
+
+loop-less : tie.Need-loop-less Inv-loop μ-loop
+loop-less c =
+    let at-line-at = c .before .before .before .before .before .before in
+    let at-loop = at-line-at .before .before in
+    let goes =
+    line-goes _ _ _ _ _ _ (at-loop .loop .inv) (at-line-at .line-at .result) _ (at-line-at .line-at .ensures) _
+    (c .before .answer .given .1) in
+    omega (arith, goes .filled-on .within, goes .grows)
+
+loop-again : tie.Need-loop-again Inv-loop μ-loop
+loop-again c =
+    let at-line-at = c .before .before .before .before .before .before in
+    let at-loop = at-line-at .before .before in
+    line-goes _ _ _ _ _ _ (at-loop .loop .inv) (at-line-at .line-at .result) _ (at-line-at .line-at .ensures) _
+    (c .before .answer .given .1) .filled-on
+
+pub next-lines-spec : {M : Type 1} → statement M
+next-lines-spec =
+    tie.close
+    (tie.spec
+    Inv-loop
+    μ-loop
+    (λ c. filled-none _ _ _)
+    line-at-requires
+    (λ c. search needs) (λ c κs. search needs)
+    same-length
+    returns
+    add-used
+    loop-less
+    loop-again)
