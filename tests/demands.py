@@ -1,5 +1,6 @@
 """The front page quotes the user: the head of each demand's statement (crates/demands/specs/) has the demand word for word, as
-docs/RULES.md has it, sentence by sentence; under each sentence it names the fields that state it, and it names every field."""
+docs/RULES.md has it, sentence by sentence; under each sentence it names the fields that state it, and it names every field. And
+what any definition's file quotes of a demand ("Demand 3: ..") stands there word for word."""
 import os
 import re
 import sys
@@ -39,6 +40,22 @@ def fields(page, record):
     return {name for name, _ in own}.union(*(fields(page, inner) for _, inner in own if f"pub record {inner} " in page))
 
 
+def quoted_of(page):
+    """What the comments of a page quote of the demands: pairs of the demand's number and the words. A quotation is of the demand
+    named before it in its sentence."""
+    comments = " ".join(" ".join(re.findall(r"^ *--(.*)$", page, re.M)).split())
+    found = []
+    for named in re.finditer(r"\bDemand (\d)\b", comments):
+        pieces = comments[named.end():].split('"')
+        for before, said in zip(pieces[0::2], pieces[1::2]):
+            if re.search(r"\.( |$)", before):
+                break
+            found.append((int(named.group(1)), said))
+            if said.endswith("."):
+                break
+    return found
+
+
 checks = []
 demands = asked(repository.text("docs", "RULES.md"))
 checks.append(("docs/RULES.md quotes three demands", len(demands) == 3))
@@ -54,4 +71,13 @@ for number, (demand, name) in enumerate(zip(demands, STATEMENTS), 1):
         checks.append((f"{name} has the field {field} that its head names", field in there))
     for field in re.findall(r"^  pub ([\w-]+) : ", page.partition(f"pub record {name} ")[2], re.M):
         checks.append((f"{name}'s head names the field {field}", field in named))
+for crate in repository.crates():
+    for name in repository.files(crate, "specs"):
+        page = repository.text(name)
+        quotations = quoted_of(page)
+        if re.search(r"\bDemand \d", page):
+            checks.append((f"{name} quotes the demand that it names", bool(quotations)))
+        for number, said in quotations:
+            stands = 0 < number <= len(demands) and said in demands[number - 1]
+            checks.append((f'{name} quotes demand {number} word for word: "{said}"', stands))
 sys.exit(repository.report(checks))

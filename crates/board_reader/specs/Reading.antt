@@ -9,8 +9,8 @@
 --     boardFrom c o                    the board of counts c with the parts that were read
 --     boardAt s                        the board at the start of the input, and the place just after it
 --     longestInput                     the longest input that is read
---     answered o                       the answer, by what was read: "a refused read returns number, place and the
---                                      empty board"
+--     answered o                       the answer, by what was read: "A refused read returns number, place and the
+--                                      empty board (T 2, else 0)"
 --     reading s                        what reading answers
 --     toldReadAnswer, toldBoardRead    the answers' cases in the rule book's numbers
 --     Reads s r                        promise: `read` of the bytes s answers r

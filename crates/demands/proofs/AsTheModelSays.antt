@@ -6,7 +6,7 @@ use Rattle.file_means.proofs.BytesAfter.{bytes-after}
 use Rattle.file_means.proofs.FileRefusals.{file-accepted}
 use Rattle.judge_means.proofs.Circuits.{paths-are-chains, live-is-carrying}
 use Rattle.judge_means.proofs.Exactness.{judges-keep, as-published}
-use Rattle.judge_means.proofs.Eleven.{the-winding}
+use Rattle.judge_means.proofs.Eleven.{the-winding, every-relay-wound}
 use Rattle.moves_means.proofs.SingleMoves.{move-exactly}
 use Rattle.moves_means.proofs.ByChains.{regular-by-chains, steel-by-chains}
 use Rattle.moves_means.proofs.OneRelay.{changes-one-relay}
@@ -24,6 +24,7 @@ as-the-model-says = record {
   winding = the-winding;
   current = as-published _ judges-keep;
   sorts = every-relay-sort;
+  wound = every-relay-wound;
   regular = regular-by-chains;
   steel = steel-by-chains;
   moves = move-exactly;

@@ -1,4 +1,5 @@
--- The table of specs/Starred.antt holds: each call is computed from the definitions.
+-- The table of specs/Starred.antt holds: what each call's promise says is computed from the definitions, and so is what
+-- a session prints.
 use mathlib.Core.Path.{refl}
 use Rattle.number.specs.Numbers.{below, form, placed, numberAt}
 use Rattle.kinds.specs.Kinds.{kindOf}
@@ -41,6 +42,10 @@ unfolding kindOf below form placed numberAt member including excluding within ev
     ran running digitsOf decimal lineText eventAt pressing ranLine pressedLine eventLine withAllowance headAt
     linesFrom headLines sessionLines lineTexts printed sessionText
 starred-boards =
-    refl & refl & refl & refl & refl & refl & refl & refl & refl & refl & refl & refl & refl & refl & refl & refl
-    & refl & refl & refl & refl & refl & refl & refl & refl & refl & refl & refl & refl & refl & refl & refl & refl
-    & refl & refl & tt
+    (λ x told. told) & (λ a k told. told) & (λ v told. told) & (λ v told. told) & (λ v told. told)
+    & (λ a k told. told) & (λ a k told. told) & (λ v told. told) & (λ v told. told) & (λ v told. told)
+    & (λ v told. told) & (λ v told. told) & (λ a told. told) & (λ a told. told) & (λ a told. told)
+    & (λ v told. told) & (λ x told. told) & (λ a k told. told) & (λ x told. told) & (λ x told. told)
+    & (λ x told. told) & (λ x told. told) & refl & (λ v told. told) & (λ a told. told) & (λ a k told. told)
+    & (λ a k told. told) & (λ a k told. told) & (λ a k told. told) & (λ a k told. told) & (λ a k told. told)
+    & (λ x told. told) & (λ x told. told) & refl & tt

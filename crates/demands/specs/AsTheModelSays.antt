@@ -4,10 +4,10 @@
 --         exactly by it, within the allowance; `moves`: a relay is moved exactly by the model's guards
 --     "A relay draws when a chain of conducting parts that meets no terminal twice runs from plus to minus through its
 --     winding, and drops when there is none."
---         `regular`, of the relay's `winding`; `sorts`: each relay is regular or steel-core; `changes`: a move changes
---         that relay and nothing else
+--         `regular`, of the relay's `winding`; `sorts`: each relay is regular or steel-core; `wound`: it has the
+--         windings of its sort; `changes`: a move changes that relay and nothing else
 --     "A steel-core relay moves only on its drawing or dropping winding."
---         `steel`
+--         `steel`, of the two windings that `wound` gives it
 --     "Board files keep their meaning both ways: write then read gives the board, read then write gives the bytes
 --     read."
 --         `written-read`, `read-written`; `rest-stays`: behind the bytes written a buffer is as lent; `file-read`: a
@@ -16,7 +16,8 @@
 --     "A run moves the lowest relay that can move until it is idle or must stop."
 --         `runs`; and what a session prints of its runs: `lines`, `all-lines`, in buffers `filled`, `all-filled`;
 --         `events`, `closed`, `drawn`
--- Each field is a statement over the calls, put into words in the file that defines it.
+-- Each field is put into words in the file that defines it. `paths`, `carrying`, `winding`, `sorts` and `wound` are of
+-- boards and states, `events`, `closed` and `drawn` of the session's lines; the others are over the calls.
 --     AsTheModelSays    the demand
 use Rattle.board.specs.Same.{SameExactly}
 use Rattle.board.specs.BreaksNoRule.{EveryRelaySort}
@@ -26,7 +27,7 @@ use Rattle.file_means.specs.FileRefusals.{FileAccepted}
 use Rattle.judge.specs.Judging.{Judges}
 use Rattle.judge_means.specs.Circuits.{PathsAreChains, LiveIsCarrying}
 use Rattle.judge_means.specs.Exactness.{AsPublished}
-use Rattle.judge_means.specs.Eleven.{TheWinding}
+use Rattle.judge_means.specs.Eleven.{TheWinding, EveryRelayWound}
 use Rattle.moves_means.specs.SingleMoves.{MoveExactly}
 use Rattle.moves_means.specs.ByChains.{RegularByChains, SteelByChains}
 use Rattle.moves_means.specs.OneRelay.{ChangesOneRelay}
@@ -40,11 +41,13 @@ pub record AsTheModelSays : Type 0 where
   -- the chains to minus are the published model's paths, and a winding is live exactly if it is current carrying
   pub paths : PathsAreChains
   pub carrying : LiveIsCarrying
-  -- the winding judged is the relay's; it is called live or dead exactly by that current, within the allowance
+  -- the winding judged is exactly the relay's; it is called live or dead exactly by that current, within the allowance
   pub winding : TheWinding
   pub current : AsPublished Judges
-  -- each relay is regular or steel-core and not both, so that the next two fields are all cases
+  -- each relay is regular or steel-core and not both, and has the windings of its sort, so that the next two fields are
+  -- all cases
   pub sorts : EveryRelaySort
+  pub wound : EveryRelayWound
   -- a relay draws, drops, rests exactly if the chains through its windings say so, which is exactly by the
   -- published guards
   pub regular : RegularByChains

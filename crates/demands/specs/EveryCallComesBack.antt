@@ -22,10 +22,10 @@
 --                                 refused exactly by the first line of the table that holds, from left to right, and
 --                                 a number by itself exactly by its form (1, 2); 11, 14 and 15 are given exactly if
 --                                 their lines hold
---     AsLent                      "A refused read returns number, place and the empty board. A refused call returns the
---                                 number, place 0 and the state it was given, if it takes one; a refused run also 0
---                                 moves and relay 255, a refused judgement no verdict, effort 0 and length 0, a refused
---                                 write 0 bytes written. Log and output buffer stay as lent."
+--     AsLent                      "A refused read returns number, place and the empty board (T 2, else 0). A refused
+--                                 call returns the number, place 0 and the state it was given, if it takes one; a
+--                                 refused run also 0 moves and relay 255, a refused judgement no verdict, effort 0 and
+--                                 length 0, a refused write 0 bytes written. Log and output buffer stay as lent."
 --     EveryCallComesBack          the demand
 use Prim.Native.Nat.{ℕ, _+_}
 use mathlib.Core.Path.{_≡_}

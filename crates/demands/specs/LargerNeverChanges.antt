@@ -16,7 +16,7 @@
 -- The words:
 --     JudgedExactly J       what the demand asks of a judge J
 --     AlwaysSays f          the judge that answers f, whatever it is asked
---     NoWordAlways          no judge that answers always the same is live exactly, or dead exactly, if the winding is
+--     NoWordAlways          a judge that answers always the same meets neither `LiveExactly` nor `DeadExactly`
 --     LargerNeverChanges    the demand, of the promise of `judge::judge` and of that of `runs::run`
 use mathlib.Core.Path.{_≡_}
 use Rattle.search.specs.declared.Finding.{Finding}

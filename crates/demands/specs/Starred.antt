@@ -15,7 +15,9 @@
 --       runs b s log w e m t r l    `run` over the lent log: the word e, m moves, the state t, the relay r, and the
 --                                   log l afterwards
 --       prints s x                  a session and all that it prints
---     RowHolds x                    the row's call comes to its answer
+--     RowHolds x                    whatever the row's call answers under its promise, it is the row's answer; what a
+--                                   session prints is computed (`lines` and `all-lines` of `AsTheModelSays` say that
+--                                   the calls hand out just these lines)
 --     starred                       the rows that the rule book stars
 --     besides                       rows that it does not star, and H2, with rows of ours: two relays that can move
 --                                   at once, logs that are just long enough
@@ -35,16 +37,20 @@ use Rattle.board.specs.declared.Board.{Board}
 use Rattle.board.specs.Parts.{padded, emptyBoard}
 use Rattle.state.specs.declared.State.{State}
 use Rattle.state.specs.States.{freshState, withDrawn, withPushed, withReleased}
-use Rattle.board_reader.specs.Reading.{reading}
-use Rattle.search.specs.Verdicts.{Verdict, settled, unsettled}
+use Rattle.board_reader.specs.declared.BoardRead.{BoardRead}
+use Rattle.board_reader.specs.Reading.{toldBoardRead, Reads}
+use Rattle.search.specs.declared.Verdict as code-verdict
+use Rattle.search.specs.Verdicts.{Verdict, settled, unsettled, toldVerdict}
 use Rattle.judge.specs.declared.Which.{Which}
 use Rattle.judge.specs.declared.Which.the-variants.{First, Second}
-use Rattle.judge.specs.Judging.{judging}
+use Rattle.judge.specs.Judging.{Judges}
 use Rattle.moves.specs.Steps as step
-use Rattle.moves.specs.Moving.{moving}
+use Rattle.moves.specs.declared.Moved.{Moved}
+use Rattle.moves.specs.Moving.{toldMoved, Moves}
 use Rattle.runs.specs.Looks.{Ending, idle, spent, undecided, conflict}
 use Rattle.runs.specs.Runs.{noRelay}
-use Rattle.runs.specs.Running.{running}
+use Rattle.runs.specs.declared.Ran.{Ran}
+use Rattle.runs.specs.Running.{toldRan, Runs}
 use Rattle.session.specs.Sessions.{sessionText}
 
 abbrev pub part : Kind → ℕ → ℕ → Part
@@ -130,11 +136,13 @@ pub data Row : Type 0 where
   prints : List ℕ → List ℕ → Row
 
 abbrev pub RowHolds : Row → Type 0
-RowHolds (reads s b o) = reading s ≡ (b, o)
-RowHolds (judges b s k w j) = judging b s 0 k w ≡ j
-RowHolds (moves b s w t m) = moving b s 0 w ≡ (t, given m)
+RowHolds (reads s b o) = (x : BoardRead) → Reads s x → toldBoardRead x ≡ (b, o)
+RowHolds (judges b s k w j) = (v : code-verdict.Verdict) → Judges b s 0 k w v → toldVerdict v ≡ j
+RowHolds (moves b s w t m) = (a : Moved) → Moves b s 0 w a → toldMoved a ≡ (t, given m)
 RowHolds (runs b s log w e m t r l) =
-    running b s log w ≡ record { word = given e; moves = m; state = t; relay = r; log = l }
+    (a : Ran) (k : List ℕ)
+    → Runs b s log w a k
+    → toldRan a k ≡ record { word = given e; moves = m; state = t; relay = r; log = l }
 RowHolds (prints s x) = sessionText s ≡ x
 
 -- H0 .. H6 and the number `80 00`, in the rule book's order

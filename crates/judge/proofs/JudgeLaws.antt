@@ -34,13 +34,14 @@ module _ (b : Board) (s : State) (r : ℕ) (n : Which) where
   unfolding windingFor
   winding-for-sought o fine fits is = rw (usable-fine b s fine fits, is) refl
 
-  -- where a winding is judged, the board breaks no rule and the winding is the relay's
+  -- where a winding is judged, neither 15 nor 14 holds, and the winding is the relay's
   pub winding-for-given : (e : Winding) → windingFor b s r n ≡ given e → (boardFine b ≡ true)
-      × (windingOf n r (partsOf b) ≡ some e)
+      × (stateFine (b .counts) s ≡ true) × (windingOf n r (partsOf b) ≡ some e)
   unfolding windingFor
   winding-for-given e taken =
       let both = both-given (usable b s) (orNoSuchWinding (windingOf n r (partsOf b))) e taken in
-      (usable-given b s (both .0) .0, asked-given (windingOf n r (partsOf b)) e (both .1))
+      let fit = usable-given b s (both .0) in
+      (fit .0, fit .1, asked-given (windingOf n r (partsOf b)) e (both .1))
 
   -- where 11 is given, neither 15 nor 14 holds, and the winding is not there
   pub winding-for-eleven : windingFor b s r n ≡ refused noSuchWinding 0 → (boardFine b ≡ true)

@@ -1,8 +1,8 @@
--- The call `judge` refuses by 11 exactly if its line holds and neither 15 nor 14 does, and the winding judged is that
--- of the relay and the only one. Both go by how many parts are that winding: 1 or 0.
+-- The theorems of specs/Eleven.antt, by how many parts are that winding: 1 or 0. Where it is 1, the winding is found,
+-- and it is the relay's, of the kind that the relay's sort asks for.
 use Prim.Native.Nat.{ℕ, _+_, _<_, _≤_}
 use native.Mathlib.Omega.{arith}
-use mathlib.Core.Path.{_≡_, refl, sym, ap, _∙_}
+use mathlib.Core.Path.{_≡_, refl, sym, ap, ap₂, _∙_}
 use mathlib.Core.Logic.{_⊎_, _↔_, inl, inr, ⊎-map, ⊎-elim}
 use mathlib.Core.Bool.{Bool, true, false}
 use mathlib.Core.List.{List, [], _∷_}
@@ -10,12 +10,14 @@ use mathlib.Core.Option.{none, some, Option·none-ne-some, Option·some-injectiv
 use lib.Dec.{eqb, ltb}
 use borrow.Author.Tests.{eqb-true, ne-eqb, ltb-true, ltb-false}
 use Rattle.lists.specs.Members.{_∈_}
-use Rattle.bits.proofs.BoolLaws.{both-true, by-test}
+use Rattle.bits.proofs.BoolLaws.{both-true, either-true, by-test, by-less}
 use Rattle.number.specs.Outcomes.{Outcome, given, refused}
 use Rattle.number.specs.Refusals.{noSuchWinding}
 use Rattle.number.proofs.OutcomeLaws.{refused-never}
 use Rattle.kinds.specs.declared.Kind.{Kind}
-use Rattle.kinds.specs.Kinds.{kindNumber, nameOf, buttonKind, regularKind, drawingKind, droppingKind}
+use Rattle.kinds.specs.declared.Kind.the-variants.{Regular, Drawing, Dropping}
+use Rattle.kinds.specs.Kinds.{kindNumber, nameOf, kindOf, buttonKind, regularKind, drawingKind, droppingKind}
+use Rattle.kinds.proofs.KindLaws.{kind-of-parts}
 use Rattle.board.specs.declared.Part.{Part}
 use Rattle.board.specs.declared.Counts.{Counts}
 use Rattle.board.specs.declared.Board.{Board}
@@ -36,7 +38,8 @@ use Rattle.judge.specs.RelayWindings.{isFirst, isWinding, windingOf}
 use Rattle.judge.specs.Judging.{windingFor, Judges}
 use Rattle.judge.proofs.SoughtLaws.{endsOf, winding-here, winding-past, winding-none}
 use Rattle.judge.proofs.JudgeLaws.{winding-for-sought, winding-for-given, winding-for-eleven, judging-by}
-use Rattle.judge_means.specs.Eleven.{LineEleven, ElevenExactly, TheWinding}
+use Rattle.judge_means.specs.Eleven.{LineEleven, ElevenExactly, ItsWinding, TheWinding, RegularWound, SteelWound}
+use Rattle.judge_means.specs.Eleven.{EveryRelayWound}
 use Rattle.judge_means.proofs.Exactness.{FindingBy, live-by, dead-by, undecided-by, verdict-finding}
 use Rattle.lists.proofs.CountedLaws.{worth, counted, member-counted, counted-only}
 
@@ -69,10 +72,13 @@ unfolding windingsOf
 first-sum r [] = refl
 first-sum r (p ∷ ps) = omega (arith, first-worth r (p .kind), first-sum r ps)
 
-second-sum : (r : ℕ) (ps : List Part) → these Second r ps ≡ windingsOf droppingKind r ps
+windings-counted : (j r : ℕ) (ps : List Part) → counted (λ (p : Part). carries j r (p .kind)) ps ≡ windingsOf j r ps
 unfolding windingsOf
-second-sum r [] = refl
-second-sum r (p ∷ ps) = omega (arith, second-sum r ps)
+windings-counted j r [] = refl
+windings-counted j r (p ∷ ps) = omega (arith, windings-counted j r ps)
+
+second-sum : (r : ℕ) (ps : List Part) → these Second r ps ≡ windingsOf droppingKind r ps
+second-sum r ps = windings-counted droppingKind r ps
 
 module _ (r : ℕ) (ps : List Part) where
   -- of a relay of one sort each winding is there at most once
@@ -206,6 +212,124 @@ module _ (b : Board) (r : ℕ) (n : Which) (fine : boardFine b ≡ true) where
     λ line. counted-missing n r (partsOf b) (line-none line),
   )
 
+  -- ---- its winding
+
+  -- the winding found is the relay's, and the only one
+  found-its : (e : Winding) → windingOf n r (partsOf b) ≡ some e → ItsWinding b r n e
+  found-its e answer =
+      let f = some-found n r (partsOf b) e answer in
+      let same = Option·some-injective (endsOf (f .part)) e (sym (f .found) ∙ answer) in
+      record {
+        part = f .part;
+        on-board = f .among;
+        is-winding = f .is-winding;
+        ends = (ap (λ (w : Winding). w .a) same, ap (λ (w : Winding). w .b) same);
+        only =
+            λ p among on. counted-only (its n r) (partsOf b) fine-most p (f .part) among (f .among) on
+            (f .is-winding);
+      }
+
+  -- where some part is that winding, the relay has it
+  counted-its : 1 ≤ these n r (partsOf b) → (e : Winding) × ItsWinding b r n e
+  counted-its here =
+      ⊎-elim (λ f. (endsOf (f .part), found-its (endsOf (f .part)) (f .found)))
+      (λ m. absurd (omega (arith, here, m .no-part))) (sought n r (partsOf b))
+
+  -- where the line of 11 does not hold, the relay has that winding
+  pub its-there : ¬ (LineEleven b r n) → (e : Winding) × ItsWinding b r n e
+  its-there no-line =
+      by-less (these n r (partsOf b)) 1 (λ few. absurd (no-line (none-line (omega (arith, few))))) counted-its
+
+module _ (b : Board) (r : ℕ) (n : Which) where
+  its-counted : (e : Winding) → ItsWinding b r n e → 1 ≤ these n r (partsOf b)
+  its-counted e i = member-counted (its n r) (partsOf b) (i .part) (i .on-board) (i .is-winding)
+
+  -- the relay's winding is found
+  its-found : (e : Winding) → ItsWinding b r n e → windingOf n r (partsOf b) ≡ some e
+  its-found e i =
+      ⊎-elim (λ f. f .found ∙ ap some (same-ends f (i .only (f .part) (f .among) (f .is-winding))))
+      (λ m. absurd (omega (arith, m .no-part, its-counted e i))) (sought n r (partsOf b))
+    where
+      same-ends : (f : Found n r (partsOf b)) → f .part ≡ i .part → endsOf (f .part) ≡ e
+      same-ends f same j =
+          record {
+            a = (ap (λ (p : Part). p .a) same ∙ i .ends .0) j;
+            b = (ap (λ (p : Part). p .b) same ∙ i .ends .1) j;
+          }
+
+  pub its-winding-unique : (e f : Winding) → ItsWinding b r n e → ItsWinding b r n f → e ≡ f
+  its-winding-unique e f i j = Option·some-injective e f (sym (its-found e i) ∙ its-found f j)
+
+  pub its-no-line : boardFine b ≡ true → (e : Winding) → ItsWinding b r n e → ¬ (LineEleven b r n)
+  its-no-line fine e i line = omega (arith, line-none b r n fine line, its-counted e i)
+
+-- ---- the kind of a relay's winding, by the relay's sort
+
+-- where no part of this kind carries the relay, this part does not
+none-carries : (j r : ℕ) (ps : List Part) (p : Part) → windingsOf j r ps ≡ 0 → p ∈ ps
+    → ¬ (carries j r (p .kind) ≡ true)
+none-carries j r ps p no-part among on =
+    omega (
+      arith,
+      no-part,
+      windings-counted j r ps,
+      member-counted (λ (q : Part). carries j r (q .kind)) ps p among on,
+    )
+
+carries-kind : (j r : ℕ) (k : Kind) → carries j r k ≡ true → k ≡ kindOf j r
+unfolding carries
+carries-kind j r k on =
+    let both = both-true (eqb (kindNumber k) j) (eqb (nameOf k) r) on in
+    sym (kind-of-parts k) ∙ ap₂ kindOf (eqb-true (kindNumber k) j (both .0)) (eqb-true (nameOf k) r (both .1))
+
+module _ (b : Board) (r : ℕ) where
+  first-carries : (e : Winding) (i : ItsWinding b r First e)
+      → (carries regularKind r (i .part .kind) ≡ true) ⊎ (carries drawingKind r (i .part .kind) ≡ true)
+  first-carries e i =
+      either-true (carries regularKind r (i .part .kind)) (carries drawingKind r (i .part .kind)) (i .is-winding)
+
+  regular-kind : isRegular r (partsOf b) → (e : Winding) (i : ItsWinding b r First e) → i .part .kind ≡ Regular r
+  unfolding kindOf
+  regular-kind regular e i =
+      ⊎-elim (carries-kind regularKind r (i .part .kind))
+      (λ on. absurd (none-carries drawingKind r (partsOf b) (i .part) (regular .1) (i .on-board) on))
+      (first-carries e i)
+
+  drawing-kind : isSteel r (partsOf b) → (e : Winding) (i : ItsWinding b r First e) → i .part .kind ≡ Drawing r
+  unfolding kindOf
+  drawing-kind steel e i =
+      ⊎-elim
+      (λ on. absurd (none-carries regularKind r (partsOf b) (i .part) (steel .0) (i .on-board) on))
+      (carries-kind drawingKind r (i .part .kind)) (first-carries e i)
+
+  dropping-kind : (e : Winding) (i : ItsWinding b r Second e) → i .part .kind ≡ Dropping r
+  unfolding kindOf
+  dropping-kind e i = carries-kind droppingKind r (i .part .kind) (i .is-winding)
+
+  -- a regular relay has one winding, a steel-core relay two
+  regular-wound : boardFine b ≡ true → isRegular r (partsOf b) → RegularWound b r
+  regular-wound fine regular =
+      let there = counted-its b r First fine (omega (arith, first-sum r (partsOf b), regular .0)) in
+      record {
+        winding = there .0;
+        first = there .1;
+        kind = regular-kind regular (there .0) (there .1);
+        no-second = λ e i. its-no-line b r Second fine e i (inr (refl, regular));
+      }
+
+  steel-wound : boardFine b ≡ true → isSteel r (partsOf b) → SteelWound b r
+  steel-wound fine steel =
+      let draws = counted-its b r First fine (omega (arith, first-sum r (partsOf b), steel .1)) in
+      let drops = counted-its b r Second fine (omega (arith, second-sum r (partsOf b), steel .2)) in
+      record {
+        drawing = draws .0;
+        first = draws .1;
+        first-kind = drawing-kind steel (draws .0) (draws .1);
+        dropping = drops .0;
+        second = drops .1;
+        second-kind = dropping-kind (drops .0) (drops .1);
+      }
+
 -- ---- over the call
 
 -- a finding by the chains is no refusal
@@ -243,16 +367,12 @@ eleven-exactly b s r n w v told = (
 )
 
 pub the-winding : TheWinding
-the-winding b s r n e accepted =
-    let answer = winding-for-given b s r n e accepted in
-    let f = some-found n r (partsOf b) e (answer .1) in
-    let same = Option·some-injective (endsOf (f .part)) e (sym (f .found) ∙ answer .1) in
-    record {
-      part = f .part;
-      on-board = f .among;
-      is-winding = f .is-winding;
-      ends = (ap (λ (w : Winding). w .a) same, ap (λ (w : Winding). w .b) same);
-      only =
-          λ p among on. counted-only (its n r) (partsOf b) (fine-most b r n (answer .0)) p (f .part) among
-          (f .among) on (f .is-winding);
-    }
+the-winding b s r n e = (
+  λ accepted.
+      let answer = winding-for-given b s r n e accepted in
+      (answer .0, answer .1, found-its b r n (answer .0) e (answer .2)),
+  λ (fine, fits, i). winding-for-sought b s r n (some e) fine fits (its-found b r n e i),
+)
+
+pub every-relay-wound : EveryRelayWound
+every-relay-wound b r fine = (regular-wound b r fine, steel-wound b r fine)

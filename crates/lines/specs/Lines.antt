@@ -1,6 +1,7 @@
 -- The lines of a session. Rule book, "The session program": "One line for the first run (event 0), then one for each
 -- event: event number, word, moves, and the sum of 2 to the relay number over drawn relays. An event refused by 12
--- prints its number, `refused` and 12"; "A bad file or event prints `refused`, number, place, and ends".
+-- prints its number, `refused` and 12"; "A bad file (10 counts the whole session) or event (1, 2 or 7) prints
+-- `refused`, number, place, and ends".
 --     Line                         a line:
 --       event e w m d              the line of event e: the word w of its run or what refused it, m moves, and the
 --                                  drawn relays as the word d of bits, which is that sum

@@ -2,10 +2,9 @@
 -- undecided; so what `Comes` says of a relay, by its sort, is what the rule book says of it by chains.
 use Prim.Native.Nat.{ℕ, _<_}
 use native.Mathlib.Omega.{arith}
-use mathlib.Core.Path.{_≡_, sym, subst, _∙_}
+use mathlib.Core.Path.{_≡_, subst}
 use mathlib.Core.Logic.{_⊎_, _↔_, inl, inr}
 use mathlib.Core.Bool.{true}
-use mathlib.Core.Option.{some, Option·some-injective}
 use lib.Dec.{leb}
 use borrow.Author.Tests.{leb-true, leb-false}
 use Rattle.bits.proofs.BoolLaws.{by-test}
@@ -20,10 +19,9 @@ use Rattle.search.specs.declared.Winding.{Winding}
 use Rattle.search.specs.Verdicts as verdict
 use Rattle.judge.specs.declared.Which.{Which}
 use Rattle.judge.specs.declared.Which.the-variants.{First, Second}
-use Rattle.judge.specs.RelayWindings.{windingOf}
-use Rattle.judge.proofs.JudgeLaws.{winding-for-sought}
 use Rattle.judge_means.specs.Exactness.{IsLive}
-use Rattle.judge_means.proofs.Eleven.{the-winding}
+use Rattle.judge_means.specs.Eleven.{ItsWinding}
+use Rattle.judge_means.proofs.Eleven.{its-winding-unique}
 use Rattle.moves.specs.Steps.{Move, drew, dropped, rests, undecided, conflict}
 use Rattle.moves.proofs.MovingLaws.{movable-given}
 use Rattle.moves_means.specs.Guards.{CurrentThrough}
@@ -41,21 +39,20 @@ module _ (b : Board) (w : ℕ) (s : State) (r : ℕ) (fine : boardFine b ≡ tru
     (below : r < b .counts .relays) where
   -- ---- winding n of relay r is e
 
-  module _ (n : Which) (e : Winding) (found : windingOf n r (partsOf b) ≡ some e) where
+  module _ (n : Which) (e : Winding) (its : ItsWinding b r n e) where
     live-current : IsLive b s e ↔ CurrentThrough b s r n
     live-current =
-        let its = the-winding b s r n e (winding-for-sought b s r n (some e) fine fits found) in
         let agree = live-is-carrying b s (e .a) (e .b) fine in (
           λ live. carries-through b s r n e its (agree .0 live),
           λ current. agree .1 (through-carries b s r n e its current),
         )
 
     undecided-needs : Undecided b s e w → NeedsMore b s r w
-    undecided-needs more = record { which = n; winding = e; its-winding = found; more = more }
+    undecided-needs more = record { which = n; winding = e; its-winding = its; more = more }
 
-    needs-undecided : (f : Winding) → windingOf n r (partsOf b) ≡ some f → Undecided b s f w → Undecided b s e w
+    needs-undecided : (f : Winding) → ItsWinding b r n f → Undecided b s f w → Undecided b s e w
     needs-undecided f also more =
-        subst (λ (v : Winding). Undecided b s v w) (Option·some-injective f e (sym also ∙ found)) more
+        subst (λ (v : Winding). Undecided b s v w) (its-winding-unique b r n f e also its) more
 
     enough-decided : ¬ (NeedsMore b s r w) → Decided b s e w
     enough-decided enough =
@@ -63,12 +60,12 @@ module _ (b : Board) (w : ℕ) (s : State) (r : ℕ) (fine : boardFine b ≡ tru
 
   -- ---- a regular relay
 
-  module _ (regular : isRegular r (partsOf b)) (e : Winding) (found : windingOf First r (partsOf b) ≡ some e) where
+  module _ (regular : isRegular r (partsOf b)) (e : Winding) (first : ItsWinding b r First e) where
     regular-undecided : NeedsMore b s r w → Undecided b s e w
     regular-undecided needs = by-which (needs .which) (needs .its-winding)
       where
-        by-which : (n : Which) → windingOf n r (partsOf b) ≡ some (needs .winding) → Undecided b s e w
-        by-which First is = needs-undecided First e found (needs .winding) is (needs .more)
+        by-which : (n : Which) → ItsWinding b r n (needs .winding) → Undecided b s e w
+        by-which First is = needs-undecided First e first (needs .winding) is (needs .more)
         by-which Second is =
             absurd (omega (arith, needs .more, second-missing b w s r fine fits regular .1 (needs .winding) is))
 
@@ -76,7 +73,7 @@ module _ (b : Board) (w : ℕ) (s : State) (r : ℕ) (fine : boardFine b ≡ tru
     regular-enough decided needs = omega (arith, decided, regular-undecided needs)
 
     through : IsLive b s e ↔ CurrentThrough b s r First
-    through = live-current First e found
+    through = live-current First e first
 
     -- one that is decided and not without current is live
     decided-live : (x : verdict.Finding) → FindingSays b s r First x w → ¬ (NeedsMore b s r w)
@@ -90,24 +87,24 @@ module _ (b : Board) (w : ℕ) (s : State) (r : ℕ) (fine : boardFine b ≡ tru
     regular-chains conflict (enough, both) = regular-one b w s r below regular both
     regular-chains drew (enough, one, draw) =
         let guard = regular-guard (partsOf b) regular draw in
-        (enough-decided First e found enough, guard .0, through .1 (guard .1))
+        (enough-decided First e first enough, guard .0, through .1 (guard .1))
     regular-chains dropped (enough, one, drop) =
         let guard = regular-guard (partsOf b) regular drop in
-        (enough-decided First e found enough, guard .0, λ live. guard .1 (through .0 live))
+        (enough-decided First e first enough, guard .0, λ live. guard .1 (through .0 live))
     regular-chains rests (enough, one, no-draw, no-drop) =
-        let first = first-finding b w s r fine fits below in (
-          enough-decided First e found enough,
+        let judged = first-finding b w s r fine fits below in (
+          enough-decided First e first enough,
           by-test (isDrawn s r)
               (λ on. inl (
                 on,
-                decided-live (first .finding) (first .says) enough
+                decided-live (judged .finding) (judged .says) enough
                     (λ still. no-drop (below, inl (regular, (on, still)))),
               ))
               (λ off. inr (off, λ live. no-draw (below, inl (regular, (off, through .0 live))))),
         )
 
     chains-regular : (m : Move) → RegularComes b s r e m w → Comes b s r m w
-    chains-regular undecided more = undecided-needs First e found more
+    chains-regular undecided more = undecided-needs First e first more
     chains-regular conflict never = absurd never
     chains-regular drew (decided, off, live) =
         regular-drew b w s r below regular (regular-enough decided) off (through .0 live)
@@ -120,13 +117,12 @@ module _ (b : Board) (w : ℕ) (s : State) (r : ℕ) (fine : boardFine b ≡ tru
 
   -- ---- a steel relay
 
-  module _ (steel : isSteel r (partsOf b)) (e f : Winding) (first : windingOf First r (partsOf b) ≡ some e)
-      (second : windingOf Second r (partsOf b) ≡ some f) where
+  module _ (steel : isSteel r (partsOf b)) (e f : Winding) (first : ItsWinding b r First e)
+      (second : ItsWinding b r Second f) where
     steel-undecided : NeedsMore b s r w → Undecided b s e w ⊎ Undecided b s f w
     steel-undecided needs = by-which (needs .which) (needs .its-winding)
       where
-        by-which : (n : Which) → windingOf n r (partsOf b) ≡ some (needs .winding) → Undecided b s e w
-            ⊎ Undecided b s f w
+        by-which : (n : Which) → ItsWinding b r n (needs .winding) → Undecided b s e w ⊎ Undecided b s f w
         by-which First is = inl (needs-undecided First e first (needs .winding) is (needs .more))
         by-which Second is = inr (needs-undecided Second f second (needs .winding) is (needs .more))
 
@@ -194,11 +190,11 @@ module _ (b : Board) (w : ℕ) (s : State) (r : ℕ) (fine : boardFine b ≡ tru
 -- ---- the theorems
 
 pub regular-by-chains : RegularByChains
-regular-by-chains b s r w a e m moves taken regular found =
+regular-by-chains b s r w a e m moves taken regular first =
     let fit = movable-given b s r taken in
     let exactly = move-exactly b s r w a m moves taken .0 in (
-      λ says. regular-chains b w s r (fit .0) (fit .1) (fit .2) regular e found m (exactly .0 says),
-      λ comes. exactly .1 (chains-regular b w s r (fit .0) (fit .1) (fit .2) regular e found m comes),
+      λ says. regular-chains b w s r (fit .0) (fit .1) (fit .2) regular e first m (exactly .0 says),
+      λ comes. exactly .1 (chains-regular b w s r (fit .0) (fit .1) (fit .2) regular e first m comes),
     )
 
 pub steel-by-chains : SteelByChains

@@ -9,7 +9,7 @@ use mathlib.Core.Path.{_≡_, refl, sym, ap, subst, _∙_}
 use mathlib.Core.Logic.{inl, inr}
 use mathlib.Core.Bool.{true}
 use mathlib.Core.List.{List}
-use mathlib.Core.Option.{Option, none, some, Option·none-ne-some, Option·some-injective}
+use mathlib.Core.Option.{Option, none, some}
 use lib.Dec.{leb}
 use borrow.Author.Tests.{leb-true, leb-false}
 use Rattle.bits.proofs.BoolLaws.{by-test}
@@ -27,19 +27,18 @@ use Rattle.search.specs.Verdicts.{Verdict, Finding, live, dead, undecided, firs
 use Rattle.search.proofs.VerdictLaws.{weighed-within, weighed-short}
 use Rattle.judge.specs.declared.Which.{Which}
 use Rattle.judge.specs.declared.Which.the-variants.{First, Second}
-use Rattle.judge.specs.RelayWindings.{windingOf}
 use Rattle.judge.specs.Judging.{judging, Judges}
 use Rattle.judge.proofs.JudgeLaws.{winding-for-sought, judging-by}
 use Rattle.judge_means.specs.Exactness.{AcceptedWinding, chainsOf, effortOf}
-use Rattle.judge_means.specs.Eleven.{LineEleven}
+use Rattle.judge_means.specs.Eleven.{LineEleven, ItsWinding}
 use Rattle.judge_means.proofs.Exactness.{liveVerdict, deadVerdict, judges-keep, as-published}
-use Rattle.judge_means.proofs.Eleven.{missing-exactly, the-winding}
+use Rattle.judge_means.proofs.Eleven.{missing-exactly, its-there, its-winding-unique, its-no-line, the-winding}
 use Rattle.moves_means.specs.Guards.{CurrentThrough}
 use Rattle.moves_means.specs.SingleMoves.{NeedsMore}
 use Rattle.moves_means.proofs.CurrentLaws.{through-carries, carries-through}
 
 abbrev pub Within : Board → State → ℕ → Which → ℕ → Type 0
-Within b s r n w = (e : Winding) → windingOf n r (partsOf b) ≡ some e → effortOf b s e ≤ w
+Within b s r n w = (e : Winding) → ItsWinding b r n e → effortOf b s e ≤ w
 
 abbrev pub FindingSays : Board → State → ℕ → Which → Finding → ℕ → Type 0
 FindingSays b s r n live w = Within b s r n w × CurrentThrough b s r n
@@ -51,21 +50,20 @@ pub record HasFinding (b : Board) (s : State) (r : ℕ) (n : Which) (w : ℕ) : 
   pub judged : judging b s r n w .finding ≡ given finding
   pub says : FindingSays b s r n finding w
 
--- ---- winding n of relay r is found, and is e
+-- ---- winding n of relay r is e
 
-module _ (b : Board) (w : ℕ) (s : State) (r : ℕ) (n : Which) (e : Winding)
-    (found : windingOf n r (partsOf b) ≡ some e) where
-  found-within : effortOf b s e ≤ w → Within b s r n w
-  found-within enough f also =
-      subst (λ (x : Winding). effortOf b s x ≤ w) (Option·some-injective e f (sym found ∙ also)) enough
+module _ (b : Board) (w : ℕ) (s : State) (r : ℕ) (n : Which) (e : Winding) (its : ItsWinding b r n e) where
+  its-within : effortOf b s e ≤ w → Within b s r n w
+  its-within enough f also =
+      subst (λ (x : Winding). effortOf b s x ≤ w) (its-winding-unique b r n e f its also) enough
 
   -- the call weighs all chains of the board in the state
   accepted-weighed : AcceptedWinding b s r n e → weighed (shows (e .a) (e .b)) (chainsOf b s) w ≡ judging b s r n w
   unfolding verdictBy
   accepted-weighed taken = judging-by b s r n w (given e) taken
 
-  found-finding : boardFine b ≡ true → stateFine (b .counts) s ≡ true → HasFinding b s r n w
-  found-finding fine fits =
+  its-finding : boardFine b ≡ true → stateFine (b .counts) s ≡ true → HasFinding b s r n w
+  its-finding fine fits =
       by-test (leb (effortOf b s e) w)
       (λ enough. by-first (firstShown (shows (e .a) (e .b)) (chainsOf b s)) refl (leb-true (effortOf b s e) w enough))
       (λ short. let more = leb-false (effortOf b s e) w short in record {
@@ -73,11 +71,11 @@ module _ (b : Board) (w : ℕ) (s : State) (r : ℕ) (n : Which) (e : Winding)
         judged =
             ap (λ (j : Verdict). j .finding) (sym weighs ∙ weighed-short (shows (e .a) (e .b)) (chainsOf b s) w
             more);
-        says = record { which = n; winding = e; its-winding = found; more = more };
+        says = record { which = n; winding = e; its-winding = its; more = more };
       })
     where
       taken : AcceptedWinding b s r n e
-      taken = winding-for-sought b s r n (some e) fine fits found
+      taken = the-winding b s r n e .1 (fine, fits, its)
 
       weighs : weighed (shows (e .a) (e .b)) (chainsOf b s) w ≡ judging b s r n w
       weighs = accepted-weighed taken
@@ -96,8 +94,8 @@ module _ (b : Board) (w : ℕ) (s : State) (r : ℕ) (n : Which) (e : Winding)
             finding = live;
             judged = ap (λ (j : Verdict). j .finding) (sym told);
             says = (
-              found-within enough,
-              carries-through b s r n e (the-winding b s r n e taken)
+              its-within enough,
+              carries-through b s r n e its
                   (as-published _ judges-keep b s r n w e (liveVerdict (effortOf b s e) c) told taken .0 .0 refl .0),
             );
           }
@@ -107,9 +105,9 @@ module _ (b : Board) (w : ℕ) (s : State) (r : ℕ) (n : Which) (e : Winding)
             finding = dead;
             judged = ap (λ (j : Verdict). j .finding) (sym told);
             says = (
-              found-within enough,
+              its-within enough,
               λ current. as-published _ judges-keep b s r n w e (deadVerdict (effortOf b s e)) told
-                  taken .1 .0 refl .0 (through-carries b s r n e (the-winding b s r n e taken) current),
+                  taken .1 .0 refl .0 (through-carries b s r n e its current),
             );
           }
 
@@ -120,15 +118,13 @@ module _ (b : Board) (w : ℕ) (s : State) (r : ℕ) (fine : boardFine b ≡ tru
     -- each winding of a relay has a finding, but the second one of a regular relay
     winding-finding : (n : Which) → r < b .counts .relays → ¬ ((n ≡ Second) × isRegular r (partsOf b))
         → HasFinding b s r n w
-    winding-finding n below there = by-sought (windingOf n r (partsOf b)) refl
+    winding-finding n below there =
+        let wound = its-there b r n fine eleven in
+        its-finding b w s r n (wound .0) (wound .1) fine fits
       where
         eleven : ¬ (LineEleven b r n)
         eleven (inl past) = omega (arith, below, past)
         eleven (inr regular) = there regular
-
-        by-sought : (o : Option Winding) → windingOf n r (partsOf b) ≡ o → HasFinding b s r n w
-        by-sought (some e) found = found-finding b w s r n e found fine fits
-        by-sought none missing = absurd (eleven (missing-exactly b r n fine .0 missing))
 
     pub first-finding : r < b .counts .relays → HasFinding b s r First w
     first-finding below = winding-finding First below (λ x. let z : _≡_ {A = ℕ} 0 1 = cc (x .0) in omega arith)
@@ -144,5 +140,5 @@ module _ (b : Board) (w : ℕ) (s : State) (r : ℕ) (fine : boardFine b ≡ tru
           ap (λ (j : Verdict). j .finding)
               (sym (judging-by b s r Second w (refused noSuchWinding 0) (winding-for-sought b s r Second none fine
               fits missing))),
-          λ e found. absurd (Option·none-ne-some e (sym missing ∙ found)),
+          λ e its. absurd (its-no-line b r Second fine e its (inr (refl, regular))),
         )

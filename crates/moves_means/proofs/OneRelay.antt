@@ -21,6 +21,9 @@ use Rattle.moves_means.specs.SingleMoves.{Comes}
 use Rattle.moves_means.specs.OneRelay.{ElseAsBefore, Changes, ChangesOneRelay}
 use Rattle.moves_means.proofs.SingleMoves.{step-means}
 
+pub made-else : (s : State) (r : ℕ) (m : Move) → ElseAsBefore s r (made s r m)
+made-else s r m = record { relays = made-other s r m; buttons = made-pushed s r m }
+
 module _ (b : Board) (s : State) (r : ℕ) where
   -- what can be drawn is dropped, and what can be dropped is drawn
   can-draw-dropped : CanDraw b s r → isDrawn s r ≡ false
@@ -31,12 +34,9 @@ module _ (b : Board) (s : State) (r : ℕ) where
   can-drop-drawn (below, inl (regular, can)) = can .0
   can-drop-drawn (below, inr (steel, can)) = can .0
 
-  made-else : (m : Move) → ElseAsBefore s r (made s r m)
-  made-else m = record { relays = made-other s r m; buttons = made-pushed s r m }
-
   made-changes : (m : Move) (w : ℕ) → r < room → Comes b s r m w → Changes s r (given m) (made s r m)
-  made-changes drew w fits comes = (can-draw-dropped (comes .2), drawn-draw s r fits, made-else drew)
-  made-changes dropped w fits comes = (can-drop-drawn (comes .2), drawn-drop s r, made-else dropped)
+  made-changes drew w fits comes = (can-draw-dropped (comes .2), drawn-draw s r fits, made-else s r drew)
+  made-changes dropped w fits comes = (can-drop-drawn (comes .2), drawn-drop s r, made-else s r dropped)
   made-changes rests w fits comes = refl
   made-changes undecided w fits comes = refl
   made-changes conflict w fits comes = refl

@@ -8,13 +8,15 @@
 --     RegularComes b s r e m w    what the word m says of a regular relay r with winding e: never conflict
 --     SteelComes b s r e f m w    what it says of a steel relay r with drawing winding e and dropping winding f: what
 --                                 rests is drawn, its dropping winding dead, or dropped, its drawing winding dead
---     RegularByChains             the call's word on a regular relay is m exactly if `RegularComes` holds of m
---     SteelByChains               the call's word on a steel relay is m exactly if `SteelComes` holds of m
+--     RegularByChains             the call's word on a regular relay with first winding e is m exactly if
+--                                 `RegularComes` holds of m
+--     SteelByChains               the call's word on a steel relay with first winding e and second winding f is m
+--                                 exactly if `SteelComes` holds of m
+-- Every relay has these windings, and each is of that kind: `EveryRelayWound` of `judge_means`.
 use Prim.Native.Nat.{ℕ, _<_, _≤_}
 use mathlib.Core.Path.{_≡_}
 use mathlib.Core.Logic.{_⊎_, _↔_}
 use mathlib.Core.Bool.{true, false}
-use mathlib.Core.Option.{some}
 use Rattle.number.specs.Outcomes.{given}
 use Rattle.board.specs.declared.Board.{Board}
 use Rattle.board.specs.Parts.{partsOf}
@@ -23,8 +25,8 @@ use Rattle.state.specs.declared.State.{State}
 use Rattle.state.specs.States.{isDrawn}
 use Rattle.search.specs.declared.Winding.{Winding}
 use Rattle.judge.specs.declared.Which.the-variants.{First, Second}
-use Rattle.judge.specs.RelayWindings.{windingOf}
 use Rattle.judge_means.specs.Exactness.{IsLive, effortOf}
+use Rattle.judge_means.specs.Eleven.{ItsWinding}
 use Rattle.moves.specs.declared.Moved.{Moved}
 use Rattle.moves.specs.Steps.{Move, drew, dropped, rests, undecided, conflict}
 use Rattle.moves.specs.Moving.{movable, toldMoveAnswer, Moves}
@@ -60,7 +62,7 @@ RegularByChains =
     → Moves b s r w a
     → movable b s r ≡ given tt
     → isRegular r (partsOf b)
-    → windingOf First r (partsOf b) ≡ some e
+    → ItsWinding b r First e
     → toldMoveAnswer (a .answer) ≡ given m ↔ RegularComes b s r e m w
 
 abbrev pub SteelByChains : Type 0
@@ -69,6 +71,6 @@ SteelByChains =
     → Moves b s r w a
     → movable b s r ≡ given tt
     → isSteel r (partsOf b)
-    → windingOf First r (partsOf b) ≡ some e
-    → windingOf Second r (partsOf b) ≡ some f
+    → ItsWinding b r First e
+    → ItsWinding b r Second f
     → toldMoveAnswer (a .answer) ≡ given m ↔ SteelComes b s r e f m w

@@ -12,18 +12,16 @@ use Prim.Native.Nat.{ℕ, _<_, _≤_}
 use mathlib.Core.Path.{_≡_}
 use mathlib.Core.Logic.{_↔_}
 use mathlib.Core.Bool.{true}
-use mathlib.Core.Option.{some}
 use Rattle.number.specs.Outcomes.{given, refused}
 use Rattle.number.specs.Refusals.{noSuchWinding}
 use Rattle.board.specs.declared.Board.{Board}
-use Rattle.board.specs.Parts.{partsOf}
 use Rattle.board.specs.Rules.{boardFine}
 use Rattle.state.specs.declared.State.{State}
 use Rattle.state.specs.States.{stateFine}
 use Rattle.search.specs.declared.Winding.{Winding}
 use Rattle.judge.specs.declared.Which.{Which}
-use Rattle.judge.specs.RelayWindings.{windingOf}
 use Rattle.judge_means.specs.Exactness.{effortOf}
+use Rattle.judge_means.specs.Eleven.{ItsWinding}
 use Rattle.moves.specs.declared.Moved.{Moved}
 use Rattle.moves.specs.Steps.{Move, drew, dropped, rests, undecided, conflict, stepOf, made}
 use Rattle.moves.specs.Moving.{movable, toldMoveAnswer, Moves}
@@ -32,7 +30,7 @@ use Rattle.moves_means.specs.Guards.{CanDraw, CanDrop, BothCurrents}
 pub record NeedsMore (b : Board) (s : State) (r w : ℕ) : Type 0 where
   pub which : Which
   pub winding : Winding
-  pub its-winding : windingOf which r (partsOf b) ≡ some winding
+  pub its-winding : ItsWinding b r which winding
   pub more : w < effortOf b s winding
 
 abbrev pub Comes : Board → State → ℕ → Move → ℕ → Type 0

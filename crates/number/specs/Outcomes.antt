@@ -7,7 +7,8 @@
 --     o >>= f         where o gives a, what f makes of a; a refusal leaves at once. A `do` block is a row of these
 --     o >> q          where o gives anything, q; a refusal leaves at once
 --     unless t n p    go on where the test t holds, else refused by n at p
--- "Order: left to right, each number's form before its meaning" is the order of the lines of a `do` block.
+-- The lines of a `do` block stand in the rule book's order: "left to right, each number's form (1, 2) before its
+-- meaning".
 use Prim.Native.Nat.{ℕ}
 use mathlib.Core.Bool.{Bool, cond}
 

@@ -1,4 +1,4 @@
--- Pushing and releasing a button. Rule book, calls: "15, 14, 13, 11, 7, 12, 16, those that apply"; "a refused call
+-- Pushing and releasing a button. Rule book, calls: "15, 14, 13, 11, 7, 12, 16, those that apply"; "A refused call
 -- returns the number, place 0 and the state it was given".
 --     pressable b s n already     what stands against setting button n of board b in state s, where `already` says that
 --                                 it is so: refusals 15, 14, 7, 12

@@ -1,5 +1,5 @@
 -- A look at the relays. Rule book: "A run looks at the relays from 0 up; the first that doesn't rest decides. None: the
--- run is idle. Undecided or conflict: it stops with that word. A move: ..."
+-- run is idle. Undecided or conflict: it stops with that word. A move: .."
 --     Stepper             what each relay comes to in each state. A run goes by this alone, whatever is below it
 --     Ending              the words that a run ends with
 --     Look                what a look comes to: quiet, every relay rests; halts e r, relay r stops the run with the

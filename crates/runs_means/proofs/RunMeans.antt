@@ -13,6 +13,7 @@ use Rattle.moves.specs.Steps as step
 use Rattle.moves.proofs.StepLaws.{made-fits}
 use Rattle.moves_means.specs.Guards.{CanDraw, CanDrop}
 use Rattle.moves_means.proofs.ComesLaws.{comes-exclusive}
+use Rattle.moves_means.proofs.OneRelay.{made-else}
 use Rattle.runs.specs.Looks.{Ending, idle, spent, undecided, conflict, Look, quiet, halts, makes, byteOf, lookFrom}
 use Rattle.runs.specs.Runs.{noRelay, Run, ends, logged, runOf}
 use Rattle.runs.proofs.RunLaws.{run-holds}
@@ -33,6 +34,7 @@ module _ (b : Board) (w : ℕ) where
       rw is (record {
         relay = r;
         made = inl (refl, stopped, refl);
+        else-as-before = made-else s r step.drew;
         guarded = inl (stopped .2 .2);
         lowest = unguarded s r (stopped .1);
       })
@@ -40,6 +42,7 @@ module _ (b : Board) (w : ℕ) where
       rw is (record {
         relay = r;
         made = inr (refl, stopped, refl);
+        else-as-before = made-else s r step.dropped;
         guarded = inr (stopped .2 .2);
         lowest = unguarded s r (stopped .1);
       })

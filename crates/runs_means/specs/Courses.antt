@@ -4,7 +4,8 @@
 --                             both its windings, and none of them needs more than the allowance w
 --     StoppedBy b s r m w     relay r is the first that does not rest in state s, and it comes to m
 --     LowestMove b s c t w    one move, from state s to state t, logged as the byte c: "the first that doesn't rest
---                             decides", and comes to drew or dropped; that relay is changed and nothing else. So the
+--                             decides", and comes to drew or dropped; t is s with that relay drawn, or dropped
+--                             (`withDrawn`, `withDropped`), and "A move changes that relay and nothing else". So the
 --                             guard for drawing or dropping it holds in s, and of no lower relay does one hold
 --     Follows b s cs t w      the moves logged as cs lead from state s to state t, one after the other
 --     Ended b n m s r e w     what the word e says, of a run with room for n moves that made m of them and stopped in
@@ -26,6 +27,7 @@ use Rattle.state.specs.States.{withDrawn, withDropped}
 use Rattle.moves.specs.Steps as step
 use Rattle.moves_means.specs.Guards.{CanDraw, CanDrop, Stable}
 use Rattle.moves_means.specs.SingleMoves.{Comes}
+use Rattle.moves_means.specs.OneRelay.{ElseAsBefore}
 use Rattle.runs.specs.declared.Ran.{Ran}
 use Rattle.runs.specs.Looks.{drawMark, Ending, idle, spent, undecided, conflict}
 use Rattle.runs.specs.Runs.{noRelay}
@@ -42,6 +44,7 @@ pub record LowestMove (b : Board) (s : State) (c : ℕ) (t : State) (w : ℕ) : 
   pub relay : ℕ
   pub made : ((c ≡ relay + drawMark) × StoppedBy b s relay step.drew w × (t ≡ withDrawn s relay))
       ⊎ ((c ≡ relay) × StoppedBy b s relay step.dropped w × (t ≡ withDropped s relay))
+  pub else-as-before : ElseAsBefore s relay t
   pub guarded : CanDraw b s relay ⊎ CanDrop b s relay
   pub lowest : (q : ℕ) → q < relay → ¬ (CanDraw b s q) × ¬ (CanDrop b s q)
 

@@ -1,6 +1,7 @@
--- Demand 3, second half, over the call `runs::run`, whatever it answers under its promise: "of two runs from one board
--- and state the more generous one starts with every move of the other". Where the other ended idle or in conflict, it
--- ends with that word, in that same state, after the same moves.
+-- Demand 3, second half, over the call `runs::run`, whatever it answers under its promise: "So of two accepted runs
+-- from one board and state, the one with no shorter log and no less allowance per winding starts with every move of the
+-- other, and where the other ended idle or in conflict it ends with that word in that same state." It does so after the
+-- same moves.
 --     AcceptedRun b s log    the call is not refused
 --     movesOf a l            the moves made: the log's bytes up to their number
 --     IsStart xs ys          ys starts with xs

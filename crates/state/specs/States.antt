@@ -2,11 +2,11 @@
 -- none of either."
 --     freshState                      none of either
 --     isDrawn s r, isPushed s b       relay r is drawn, button b is pushed
---     withDrawn, withDropped s r      s with relay r drawn, dropped: "a move changes that relay and nothing else"
+--     withDrawn, withDropped s r      s with relay r drawn, dropped: "A move changes that relay and nothing else"
 --     withPushed, withReleased s b    s with button b pushed, released
 --     stateFine c s                   14 does not hold: every drawn relay is below R, every pushed button below B
 --     usable b s                      what every call on a board and a state asks first: refusals 15, 14
---     left s f o                      the state that a call leaves beside what it came to: f a where it gives a; "a
+--     left s f o                      the state that a call leaves beside what it came to: f a where it gives a; "A
 --                                     refused call returns the number, place 0 and the state it was given"
 --     StateFresh r                    promise: `fresh` answers r
 --     StateDraws s n r                promise: `draw` of relay n in state s answers r
