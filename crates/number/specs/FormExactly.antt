@@ -6,10 +6,10 @@
 --     NumberForm s at o    what the bytes of s from place `at` on come to as a number:
 --       whole              bytes with the top bit set, fewer than the longest form has, then a last one without it,
 --                          which is 0 only if it is the only byte: what they are worth, and the place just after them
---       cut                1, "input ends inside or before a wanted number; place: input length": the bytes up to the
---                          input's end, none or fewer than the longest form has, all have the top bit set
---       too-long           2, "number longer than three bytes [..] place: its first byte": the top bit is set on as
---                          many bytes as the longest form has
+--       cut                1, "input ends inside or before a wanted number", at the "input length": the bytes up to
+--                          the input's end, none or fewer than the longest form has, all have the top bit set
+--       too-long           2, "number longer than three bytes", at "its first byte": the top bit is set on as many
+--                          bytes as the longest form has
 --       not-shortest       2, "or not shortest": the last byte is 0, and not the only byte
 --     FormExactly          over the call: it answers o exactly if the bytes come to o
 -- A slice's bytes are below 256 (`Bytes`); lists do not say so by themselves.

@@ -1,4 +1,4 @@
--- When 14 is given. Rule book: "14: state has a relay or button the board lacks". The calls test `stateFine`, and that
+-- When 14 is given. Rule book: "state has a relay or button the board lacks". The calls test `stateFine`, and that
 -- stands for this sentence exactly, whatever the state's words hold.
 --     MembersBelow c s    every drawn relay of s is below R, and every pushed button below B
 --     FourteenExactly     what `State::fits` answers for a state and counts is true exactly if no drawn relay and no
