@@ -1,26 +1,14 @@
--- Laws of boards that break no rule: being fine goes by the counts and the first C parts alone, and what it
--- says of the counts, of each part and of each relay.
-use mathlib.Core.Path.{_≡_, ap₂}
-use mathlib.Core.Bool.{true, _&&_}
-use mathlib.Core.List.{List}
+-- Laws of boards that break no rule: what being fine says of the counts, of each part and of each relay.
+use mathlib.Core.Path.{_≡_}
+use mathlib.Core.Bool.{true}
 use Rattle.windings.specs.Windings.{noneWound}
-use Rattle.board.specs.declared.Counts.{Counts}
-use Rattle.board.specs.declared.Part.{Part}
 use Rattle.board.specs.declared.Board.{Board}
 use Rattle.board.specs.Parts.{partsOf}
-use Rattle.board.specs.Rules.{countsFine, partsFine, boardFine}
-use Rattle.board.specs.Same.{sameBoard}
+use Rattle.board.specs.Rules.{countsFine, boardFine}
 use Rattle.bits.proofs.BoolLaws.{both-true}
 use Rattle.board.specs.Sorts.{Wound}
 use Rattle.board.proofs.RuleLaws.{InRange, counts-in-range}
-use Rattle.board.proofs.SameLaws.{same-board-equal}
 use Rattle.board.proofs.WindingLaws.{partsFit, fine-fit, fine-wound}
-
-pub same-boards-fine : (x y : Board) → sameBoard x y ≡ true → boardFine x ≡ boardFine y
-unfolding boardFine
-same-boards-fine x y same =
-    let equal = same-board-equal x y same in
-    ap₂ (λ (c : Counts) (ps : List Part). countsFine c && partsFine c noneWound ps) (equal .0) (equal .1)
 
 pub fine-range : (b : Board) → boardFine b ≡ true → InRange (b .counts)
 unfolding boardFine

@@ -1,17 +1,12 @@
--- Laws of parts as an array of 256 places: how long it is, that its first places hold the parts, and what the next part
--- does to it. What the reader and the writer of board files need.
-use Prim.Native.Nat.{ℕ, _<_, _≤_}
+-- Laws of parts as an array of 256 places: that its first places hold the parts, and what the next part does to it. What the reader and the writer of board files need.
+use Prim.Native.Nat.{ℕ, _<_}
 use mathlib.Core.Path.{_≡_, ap, _∙_}
 use mathlib.Core.List.{List, [], _∷_, _++_}
 use lib.ListN.{length, take, set}
-use Rattle.lists.proofs.FilledLaws.{filled-length, filled-first, filled-set}
+use Rattle.lists.proofs.FilledLaws.{filled-first, filled-set}
 use Rattle.board.specs.declared.Part.{Part}
 use Rattle.board.specs.declared.Counts.{Counts}
 use Rattle.board.specs.Parts.{partsOf, mostParts, blank, padded}
-
-pub padded-length : (ps : List Part) → length ps ≤ mostParts → length (padded ps) ≡ mostParts
-unfolding padded
-padded-length ps most = filled-length mostParts blank ps most
 
 padded-first : (ps : List Part) → take (length ps) (padded ps) ≡ ps
 unfolding padded

@@ -1,16 +1,13 @@
--- Laws of a list laid into n places, the unused ones filled with d: how long that is, that its first places hold the
--- list, and what the next member does to it. A board's parts and the places of a chain are such lists.
-use Prim.Native.Nat.{ℕ, zero, suc, _-_, _<_, _≤_}
+-- Laws of a list laid into n places, the unused ones filled with d: that its first places hold the list, and what the
+-- next member does to it. A board's parts and the places of a chain are such lists.
+use Prim.Native.Nat.{ℕ, zero, suc, _-_, _<_}
 use native.Mathlib.Omega.{arith}
 use mathlib.Core.Path.{_≡_, sym, ap, _∙_}
 use mathlib.Core.List.{List, [], _∷_, _++_, append-assoc}
-use lib.ListN.{length, take, set, replicate, length-append, length-replicate}
+use lib.ListN.{length, take, set, replicate, length-append}
 use lib.Seq.{take-append-seam, set-append-seam}
 
 module _ {A : Type 0} (n : ℕ) (d : A) where
-  pub filled-length : (l : List A) → length l ≤ n → length (l ++ replicate (n - length l) d) ≡ n
-  filled-length l most = simp (length-append, length-replicate) (omega arith)
-
   pub filled-first : (l : List A) → take (length l) (l ++ replicate (n - length l) d) ≡ l
   filled-first l = take-append-seam l (replicate (n - length l) d)
 

@@ -81,10 +81,6 @@ form-written-more k v s m e =
 pub bytes-rest : (b : ℕ) (s : List ℕ) → Bytes (b ∷ s) → Bytes s
 bytes-rest b s h i = h (suc i)
 
-bytes-more : (b : ℕ) (s : List ℕ) → b < 256 → Bytes s → Bytes (b ∷ s)
-bytes-more b s h r zero = h
-bytes-more b s h r (suc i) = r i
-
 -- what the checker knows of a slice of bytes
 pub Bytes-slice : (s : List ℕ) → ((i : ℕ) → Fits w8 (getD s i 0)) → Bytes s
 Bytes-slice s h i = h i .fits
@@ -230,12 +226,3 @@ encode-long (suc j) (suc k) v l h =
     let m : 128 ≤ v = omega (arith, one-le-pow j 128 (omega arith)) in
     rw (encode-more k v m)
     (omega (arith, encode-long j k (v / 128) (omega arith) (omega arith)))
-
-pub encode-bytes : (k v : ℕ) → Bytes (encode k v)
-unfolding encode
-encode-bytes zero v = λ i. omega arith
-encode-bytes (suc k) v =
-    by-less v 128
-    (λ l. rw (encode-last k v l) (bytes-more v [] (omega arith) (λ i. omega arith)))
-    (λ m. rw (encode-more k v m)
-    (bytes-more (128 + v % 128) (encode k (v / 128)) (omega arith) (encode-bytes k (v / 128))))

@@ -28,7 +28,7 @@ use Rattle.number.proofs.Told.{Told}
 use Rattle.number.proofs.FormLaws.{FormRead, Bytes-slice, Bytes-drop, form-written, form-read, form-within}
 use Rattle.number.proofs.FormLaws.{form-no-further}
 use Rattle.number.proofs.Buffers.{take-drop}
-use Rattle.number.proofs.FormLaws.{encode-last, encode-some, encode-few, encode-short, encode-long, encode-bytes}
+use Rattle.number.proofs.FormLaws.{encode-last, encode-some, encode-few, encode-short, encode-long}
 
 -- ---- outcomes
 
@@ -152,10 +152,6 @@ number-bytes-one v h = encode-last 2 v h
 pub number-bytes-length-two : (v : ℕ) → v < 16384 → length (numberBytes v) ≤ 2
 unfolding numberBytes
 number-bytes-length-two v h = encode-short 1 longest v h
-
-pub number-bytes-are-bytes : (v : ℕ) → Bytes (numberBytes v)
-unfolding numberBytes
-number-bytes-are-bytes v = encode-bytes longest v
 
 -- the length, by the limits that it steps at
 pub number-length-one : (v : ℕ) → v < 128 → 1 ≡ length (numberBytes v)
