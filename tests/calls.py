@@ -3,7 +3,8 @@ way of `current_cases` and `run_cases`: the verdict, the effort, the length and 
 the word of a run, its moves, the state left, the relay that stopped it, and every byte of the log (a run prints the first 40
 moves, and is asked to go on from there). Boards of all sorts in tests/lib/session_boards.py, in states within and beyond them,
 with allowances around the efforts and logs of 0, 1 and around the moves; damaged files; boards handed in that break a rule. No
-model in Python has a part in it: what is around an effort is asked of the second program. Seeded, so each run tries the same
+answer is compared with a model in Python, which only tells which damaged files are read at all; what is around an effort is asked
+of the second program. Seeded, so each run tries the same
 cases; `python3 tests/calls.py SEED BOARDS` tries others, or more (it is 1 and 500 else). Needs cargo, and
 target/bin/current_cases and target/bin/run_cases, which `rt check current_cases run_cases` builds."""
 import collections

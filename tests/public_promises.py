@@ -2,13 +2,15 @@
 the call's arguments in their order, the answer, and what a lent buffer holds afterwards. The relation is defined once, in the
 crate's own specs/, and the proved list of laws of one answer (crates/demands/specs/OneAnswer.antt, proofs/OneAnswer.antt) has a
 line over that name at any arguments, and lines for nothing else. docs/PROMISES.md has a row for it that names the relation, that
-line and at least two must-fail edits, all of which exist."""
+line and at least two must-fail edits, all of which exist, and it names every edit. A call that refuses has its rows in demand 1."""
 import os
 import re
 import sys
 
 sys.path.insert(0, os.path.join(os.path.dirname(os.path.abspath(__file__)), "lib"))
 import repository
+
+REFUSING = "WritesNumber WritesLine Writes Pushes Releases Judges Moves Runs RunLine EventLine NextLine NextLines".split()
 
 page = repository.text("docs", "PROMISES.md")
 rows = {}
@@ -81,8 +83,15 @@ for crate in repository.crates():
         checks.append((f"{name}'s row names two must-fail edits", len([label for label in named if label in edits]) >= 2))
     for label in edits:
         checks.append((f"docs/PROMISES.md names the edit {label} of {crate}", f"`{label}`" in page))
-front = repository.text("crates", "demands", "specs", "EveryCallComesBack.antt").partition("pub record EveryCallComesBack ")[2]
-checks.append(("the list is a field of demand 1", " : OneAnswer\n" in front))
+front = repository.text("crates", "demands", "specs", "EveryCallComesBack.antt")
+bodies = {name: front.partition(f"pub record {name} ")[2].partition("\n\n")[0] for name in ("InOrder", "AsLent", "EveryCallComesBack")}
+checks.append(("the list is a field of demand 1", " : OneAnswer\n" in bodies["EveryCallComesBack"]))
+# What the calls that refuse promise, each with a row for the order of its refusals and one for what it leaves; that of `read` has
+# its order as `FileRefused`, and `read_number` is lent nothing.
+for relation in REFUSING:
+    checks.append((f"InOrder has a row for {relation}", re.search(rf"→ {relation} ", bodies["InOrder"]) is not None))
+for relation in REFUSING + ["Reads"]:
+    checks.append((f"AsLent has a row for {relation}", re.search(rf"→ {relation} ", bodies["AsLent"]) is not None))
 for line in listed:
     checks.append((f"{line} of the list is a public function", line in {line_of(name) for name in public}))
 for name in rows:

@@ -4,17 +4,17 @@
 //! of hex digits, and white space between them as one likes; `@`, `^` or `=`
 //! ends it.
 //!
-//! - `@`, a judgement: a board file, then five numbers in the file's form: the
-//!   drawn relays and the pushed buttons, each as the sum of 2 to its number,
-//!   the relay, its winding (0 the first, else the second), the allowance.
+//! - `@`, a judgement: a board file and, in the file's form of numbers, which
+//!   relays are drawn and which buttons pushed (a bit for each), the relay, its
+//!   winding (0 for the first, else the second) and the allowance.
 //! - `^`, a move: four numbers of three bytes, highest first, which are the
 //!   drawn relays, the pushed buttons, the relay and the allowance; then a
 //!   board handed in.
 //! - `=`, a run: the same with the allowance and the log's length last.
 //!
-//! A board handed in is T, R, B, C (low byte, high byte), then kind, a, b and
-//! name of each part. A kind above 6 stands for 6, since a board's parts have
-//! no other; a byte that is not given is 0.
+//! A board is handed in byte by byte: one each for T, R and B, two for C with
+//! the lower first, and four for a part, in the order of its fields. Kinds
+//! above 6 are taken as 6, as no part has them; missing bytes are 0.
 
 use crate::board::{Kind, Part, MOST_PARTS};
 use crate::calls::{judge_call, move_call, run_call, HandedBoard, HandedState};
@@ -23,8 +23,8 @@ use crate::judge::{Judgement, Verdict};
 use crate::moves::Answer;
 use crate::number::{Reader, Refusal};
 
-/// What every byte of a log is before it is lent.
-const UNTOUCHED: u8 = 0xaa;
+/// A log is lent full of this byte, which no move is logged as.
+const FILLER: u8 = 0x7e;
 
 /// The most moves of a log that are shown.
 const MOST_SHOWN: usize = 40;
@@ -126,7 +126,7 @@ fn move_case(case: &[u8]) -> String {
 /// byte past them that was touched.
 fn run_case(case: &[u8]) -> String {
     let (state, [w, room], board) = handed(case);
-    let mut log = vec![UNTOUCHED; room as usize];
+    let mut log = vec![FILLER; room as usize];
     let ran = run_call(&board, state, w, &mut log);
     let word = match ran.word {
         Ok(word) => word.text().to_string(),
@@ -137,7 +137,7 @@ fn run_case(case: &[u8]) -> String {
     for byte in &log[..moves.min(MOST_SHOWN)] {
         line += &format!(" {byte}");
     }
-    for _ in log[moves..].iter().filter(|&&byte| byte != UNTOUCHED) {
+    for _ in log[moves..].iter().filter(|&&byte| byte != FILLER) {
         line += " and more";
     }
     line

@@ -4,5 +4,6 @@ pub mod SameLaws
 pub mod PaddedLaws
 pub mod FineLaws
 pub mod WindingLaws
-pub mod BreaksNoRule
 pub mod TallyLaws
+pub mod BreaksNoRule
+pub mod SameExactly

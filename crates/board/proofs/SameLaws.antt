@@ -15,7 +15,7 @@ use Rattle.board.specs.declared.Counts.{Counts}
 use Rattle.board.specs.declared.Part.{Part}
 use Rattle.board.specs.declared.Board.{Board}
 use Rattle.board.specs.Parts.{partsOf, mostParts, blank}
-use Rattle.board.specs.Same.{sameCounts, sameKind, samePart, sameParts, sameBoard, SameExactly}
+use Rattle.board.specs.Same.{sameCounts, sameKind, samePart, sameParts, sameBoard}
 use Rattle.lists.proofs.FirstLaws.{first-from, first-past}
 use Rattle.bits.proofs.BoolLaws.{both-true, true-both}
 use Rattle.kinds.proofs.KindLaws.{kind-of-parts}
@@ -145,8 +145,3 @@ equal-same-board x y counts parts =
     true-both
     (ap (sameCounts (x .counts)) (sym counts) ∙ counts-self (x .counts))
     (ap (sameParts (partsOf x)) (sym parts) ∙ list-self (partsOf x))
-
--- the theorem of specs/Same.antt, over the call
-pub same-exactly : SameExactly
-same-exactly x y r is =
-    (λ on. same-board-equal x y (sym is ∙ on), λ equal. is ∙ equal-same-board x y (equal .0) (equal .1))

@@ -4,3 +4,4 @@ pub mod Rules
 pub mod Same
 pub mod Sorts
 pub mod BreaksNoRule
+pub mod SameExactly

@@ -4,10 +4,7 @@
 --     samePart, sameParts     the same part, the same parts one by one
 --     sameBoard x y           boards x and y are the same
 --     SameBoards x y r        promise: `same` of boards x and y answers r
---     SameExactly             what `same` answers is true exactly if the counts are equal and the first C parts are; a
---                             part is its two ends and its kind, which carries what the table gives it
 use mathlib.Core.Path.{_≡_}
-use mathlib.Core.Logic.{_↔_}
 use mathlib.Core.Bool.{Bool, true, false, _&&_}
 use mathlib.Core.List.{List, [], _∷_}
 use lib.Dec.{eqb}
@@ -40,9 +37,3 @@ sameBoard x y = sameCounts (x .counts) (y .counts) && sameParts (partsOf x) (par
 
 abbrev pub SameBoards : Board → Board → Bool → Type 0
 SameBoards x y r = r ≡ sameBoard x y
-
-abbrev pub SameExactly : Type 0
-SameExactly =
-    (x y : Board) (r : Bool)
-    → SameBoards x y r
-    → r ≡ true ↔ (x .counts ≡ y .counts) × (partsOf x ≡ partsOf y)

@@ -1,5 +1,5 @@
 -- Demand 2: each field is a theorem of a wing.
-use Rattle.board.proofs.SameLaws.{same-exactly}
+use Rattle.board.proofs.SameExactly.{same-exactly}
 use Rattle.board.proofs.BreaksNoRule.{every-relay-sort}
 use Rattle.file_means.proofs.RoundTrip.{write-then-read, rest-stays, read-then-write}
 use Rattle.file_means.proofs.BytesAfter.{bytes-after}

@@ -19,7 +19,7 @@
 -- Each field is put into words in the file that defines it. `paths`, `carrying`, `winding`, `sorts` and `wound` are of
 -- boards and states, `events`, `closed` and `drawn` of the session's lines; the others are over the calls.
 --     AsTheModelSays    the demand
-use Rattle.board.specs.Same.{SameExactly}
+use Rattle.board.specs.SameExactly.{SameExactly}
 use Rattle.board.specs.BreaksNoRule.{EveryRelaySort}
 use Rattle.file_means.specs.RoundTrip.{WriteThenRead, RestStays, ReadThenWrite}
 use Rattle.file_means.specs.BytesAfter.{BytesAfter}

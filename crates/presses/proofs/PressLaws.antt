@@ -1,7 +1,7 @@
 -- Laws of the calls that push and release a button: what a refused call gives back, that an answer is known by what it
 -- tells, and what the proofs of `leave`, `push` and `release` need.
 use Prim.Native.Nat.{ℕ}
-use mathlib.Core.Path.{_≡_, refl, sym, ap}
+use mathlib.Core.Path.{_≡_, refl, sym}
 use mathlib.Core.Bool.{Bool, true, false, not}
 use lib.Dec.{ltb}
 use Rattle.number.specs.declared.Refusal.{Refusal}
