@@ -1,8 +1,8 @@
 -- Answers and what they tell: each can be had from the other.
 use Prim.Native.Nat.{ℕ}
 use mathlib.Core.Path.{_≡_, refl}
-use Rattle.number.specs.Outcomes.{Outcome, given, refused}
-use Rattle.number.proofs.Told.{Told}
+use Rattle.number.specs.Outcomes.{Outcome}
+use Rattle.number.proofs.Told.{Told, answerOf, given-or-refused}
 use Rattle.board.specs.declared.Board.{Board}
 use Rattle.board_reader.specs.declared.BoardRead.{BoardRead}
 use Rattle.board_reader.specs.declared.ReadAnswer.{ReadAnswer}
@@ -10,19 +10,11 @@ use Rattle.board_reader.specs.declared.ReadAnswer.the-variants.{Read, Re
 use Rattle.board_reader.specs.Reading.{toldReadAnswer, toldBoardRead}
 
 read-answer-told : Told toldReadAnswer
-read-answer-told = record { untold = untold; back = back; onto = onto }
+read-answer-told = given-or-refused toldReadAnswer Read Refused (λ a. refl) (λ n p. refl) back
   where
-    untold : Outcome ℕ → ReadAnswer
-    untold (given n) = Read n
-    untold (refused n p) = Refused (record { number = n; place = p })
-
-    back : (x : ReadAnswer) → untold (toldReadAnswer x) ≡ x
+    back : (x : ReadAnswer) → answerOf Read Refused (toldReadAnswer x) ≡ x
     back (Read n) = refl
     back (Refused r) = refl
-
-    onto : (y : Outcome ℕ) → toldReadAnswer (untold y) ≡ y
-    onto (given n) = refl
-    onto (refused n p) = refl
 
 pub board-read-told : Told toldBoardRead
 board-read-told = record { untold = untold; back = back; onto = onto }

@@ -9,7 +9,7 @@ use lib.Dec.{eqb, ltb, leb}
 use lib.ListN.{length, take, drop, length-append, length-take}
 use lib.Seq.{take-all}
 use Rattle.number.proofs.OutcomeLaws.{given-injective, refused-never}
-use Rattle.number.proofs.Told.{Told}
+use Rattle.number.proofs.Told.{Told, answerOf, given-or-refused}
 use Rattle.number.specs.Outcomes.{Outcome, given, refused}
 use Rattle.number.specs.Refusals.{brokenBoard, bufferTooShort}
 use Rattle.number.specs.Numbers.{numberBytes}
@@ -232,16 +232,8 @@ write-bytes b out out′ (Refused r) wrote =
 
 -- answers and what they tell
 pub written-told : Told toldWritten
-written-told = record { untold = untold; back = back; onto = onto }
+written-told = given-or-refused toldWritten Bytes Refused (λ a. refl) (λ n p. refl) back
   where
-    untold : Outcome ℕ → Written
-    untold (given n) = Bytes n
-    untold (refused n p) = Refused (record { number = n; place = p })
-
-    back : (x : Written) → untold (toldWritten x) ≡ x
+    back : (x : Written) → answerOf Bytes Refused (toldWritten x) ≡ x
     back (Bytes n) = refl
     back (Refused r) = refl
-
-    onto : (y : Outcome ℕ) → toldWritten (untold y) ≡ y
-    onto (given n) = refl
-    onto (refused n p) = refl

@@ -1,8 +1,6 @@
 -- Lines, answers, and what they tell: each can be had from the other.
-use Prim.Native.Nat.{ℕ}
 use mathlib.Core.Path.{_≡_, refl}
-use Rattle.number.specs.Outcomes.{Outcome, given, refused}
-use Rattle.number.proofs.Told.{Told}
+use Rattle.number.proofs.Told.{Told, answerOf, given-or-refused}
 use Rattle.runs.proofs.RunningLaws.{ending-told}
 use Rattle.lines.specs.declared.Line as code
 use Rattle.lines.specs.declared.Line.the-variants.{Event, Closing}
@@ -26,16 +24,8 @@ line-told = record { untold = untold; back = back; onto = onto }
     onto (closing n p) = refl
 
 pub line-written-told : Told toldLineWritten
-line-written-told = record { untold = untold; back = back; onto = onto }
+line-written-told = given-or-refused toldLineWritten Length Refused (λ a. refl) (λ n p. refl) back
   where
-    untold : Outcome ℕ → LineWritten
-    untold (given n) = Length n
-    untold (refused n p) = Refused (record { number = n; place = p })
-
-    back : (x : LineWritten) → untold (toldLineWritten x) ≡ x
+    back : (x : LineWritten) → answerOf Length Refused (toldLineWritten x) ≡ x
     back (Length n) = refl
     back (Refused r) = refl
-
-    onto : (y : Outcome ℕ) → toldLineWritten (untold y) ≡ y
-    onto (given n) = refl
-    onto (refused n p) = refl

@@ -8,7 +8,7 @@ use borrow.Author.Tests.{lt-ltb, le-ltb, ltb-true}
 use Rattle.number.specs.Outcomes.{Outcome, given, refused}
 use Rattle.number.specs.Refusals.{noSuchWinding}
 use Rattle.number.proofs.OutcomeLaws.{both-given, asked}
-use Rattle.number.proofs.Told.{Told}
+use Rattle.number.proofs.Told.{Told, answerOf, given-or-refused}
 use Rattle.board.specs.declared.Board.{Board}
 use Rattle.board.specs.Rules.{boardFine}
 use Rattle.state.specs.declared.State.{State}
@@ -80,19 +80,11 @@ move-told = record { untold = untold; back = back; onto = onto }
     onto conflict = refl
 
 move-answer-told : Told toldMoveAnswer
-move-answer-told = record { untold = untold; back = back; onto = onto }
+move-answer-told = given-or-refused toldMoveAnswer (λ m. Says (move-told .untold m)) Refused (λ m. ap given (move-told .onto m)) (λ n p. refl) back
   where
-    untold : Outcome Move → MoveAnswer
-    untold (given m) = Says (move-told .untold m)
-    untold (refused n p) = Refused (record { number = n; place = p })
-
-    back : (x : MoveAnswer) → untold (toldMoveAnswer x) ≡ x
+    back : (x : MoveAnswer) → answerOf (λ m. Says (move-told .untold m)) Refused (toldMoveAnswer x) ≡ x
     back (Says m) = ap Says (move-told .back m)
     back (Refused r) = refl
-
-    onto : (y : Outcome Move) → toldMoveAnswer (untold y) ≡ y
-    onto (given m) = λ i. given (move-told .onto m i)
-    onto (refused n p) = refl
 
 pub moved-told : Told toldMoved
 moved-told = record { untold = untold; back = back; onto = onto }

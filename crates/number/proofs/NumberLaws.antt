@@ -24,7 +24,7 @@ use Rattle.number.specs.Refusals.{inputEnds, badForm, bufferTooShort}
 use Rattle.number.specs.Numbers.{Bytes, form, placed, numberAt, encode, numberBytes, numberWriting, toldNumber}
 use Rattle.number.specs.Numbers.{toldNumberWritten, longest, largest}
 use Rattle.number.proofs.OutcomeLaws.{refused-never, given-injective}
-use Rattle.number.proofs.Told.{Told}
+use Rattle.number.proofs.Told.{Told, answerOf, given-or-refused}
 use Rattle.number.proofs.FormLaws.{FormRead, Bytes-slice, Bytes-drop, form-written, form-read, form-within}
 use Rattle.number.proofs.FormLaws.{form-no-further}
 use Rattle.number.proofs.Buffers.{take-drop}
@@ -220,31 +220,15 @@ number-stored v out out′ at bytes h a r e w = rw (e, w) (sym (number-written v
 -- ---- answers and what they tell
 
 pub number-told : Told toldNumber
-number-told = record { untold = untold; back = back; onto = onto }
+number-told = given-or-refused toldNumber (λ f. Read (f .value) (f .next)) Refused (λ a. refl) (λ n p. refl) back
   where
-    untold : Outcome (Found ℕ) → Number
-    untold (given f) = Read (f .value) (f .next)
-    untold (refused n p) = Refused (record { number = n; place = p })
-
-    back : (x : Number) → untold (toldNumber x) ≡ x
+    back : (x : Number) → answerOf (λ f. Read (f .value) (f .next)) Refused (toldNumber x) ≡ x
     back (Read v n) = refl
     back (Refused r) = refl
 
-    onto : (y : Outcome (Found ℕ)) → toldNumber (untold y) ≡ y
-    onto (given f) = refl
-    onto (refused n p) = refl
-
 pub number-written-told : Told toldNumberWritten
-number-written-told = record { untold = untold; back = back; onto = onto }
+number-written-told = given-or-refused toldNumberWritten Next NumberWritten.Refused (λ a. refl) (λ n p. refl) back
   where
-    untold : Outcome ℕ → NumberWritten
-    untold (given n) = Next n
-    untold (refused n p) = NumberWritten.Refused (record { number = n; place = p })
-
-    back : (x : NumberWritten) → untold (toldNumberWritten x) ≡ x
+    back : (x : NumberWritten) → answerOf Next NumberWritten.Refused (toldNumberWritten x) ≡ x
     back (Next n) = refl
     back (NumberWritten.Refused r) = refl
-
-    onto : (y : Outcome ℕ) → toldNumberWritten (untold y) ≡ y
-    onto (given n) = refl
-    onto (refused n p) = refl

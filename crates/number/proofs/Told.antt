@@ -3,6 +3,8 @@
 use Prim.Native.Nat.{ℕ}
 use mathlib.Core.Path.{_≡_, sym, ap, _∙_}
 use mathlib.Core.List.{List}
+use Rattle.number.specs.declared.Refusal.{Refusal}
+use Rattle.number.specs.Outcomes.{Outcome, given, refused}
 
 pub record Told {A B : Type 0} (told : A → B) : Type 0 where
   pub untold : B → A
@@ -11,6 +13,23 @@ pub record Told {A B : Type 0} (told : A → B) : Type 0 where
 
 pub told-injective : {A B : Type 0} (told : A → B) → Told told → (x y : A) → told x ≡ told y → x ≡ y
 told-injective told both x y e = sym (both .back x) ∙ ap (both .untold) e ∙ both .back y
+
+-- an answer that is a thing or a refusal, by the two constructors of its type
+abbrev pub answerOf : {A R : Type 0} → (A → R) → (Refusal → R) → Outcome A → R
+answerOf thing refusal (given a) = thing a
+answerOf thing refusal (refused n p) = refusal (record { number = n; place = p })
+
+pub given-or-refused : {A R : Type 0} (told : R → Outcome A) (thing : A → R) (refusal : Refusal → R)
+    → ((a : A) → told (thing a) ≡ given a)
+    → ((n p : ℕ) → told (refusal (record { number = n; place = p })) ≡ refused n p)
+    → ((x : R) → answerOf thing refusal (told x) ≡ x)
+    → Told told
+given-or-refused {A} told thing refusal gives refuses back =
+    record { untold = answerOf thing refusal; back = back; onto = onto }
+  where
+    onto : (o : Outcome A) → told (answerOf thing refusal o) ≡ o
+    onto (given a) = gives a
+    onto (refused n p) = refuses n p
 
 -- an answer, with what it leaves in a lent log or buffer
 abbrev pub ToldLent : {A R : Type 0} → (R → List ℕ → A) → Type 0

@@ -7,7 +7,7 @@ use lib.Dec.{ltb}
 use Rattle.number.specs.declared.Refusal.{Refusal}
 use Rattle.number.specs.Outcomes.{Outcome, given, refused, unless, _>>_}
 use Rattle.number.specs.Refusals.{noSuchName, alreadySo, stateBeyondBoard, brokenBoard}
-use Rattle.number.proofs.Told.{Told}
+use Rattle.number.proofs.Told.{Told, answerOf, given-or-refused}
 use Rattle.board.specs.declared.Board.{Board}
 use Rattle.board.specs.Rules.{boardFine}
 use Rattle.state.specs.declared.State.{State}
@@ -64,19 +64,11 @@ release-refused b s t n m p = left-refused s _ t _ m p (pressable-place b s n _ 
 -- ---- the answer's cases are told apart
 
 press-told : Told toldPress
-press-told = record { untold = untold; back = back; onto = onto }
+press-told = given-or-refused toldPress (λ u. Done) Refused (λ a. refl) (λ n p. refl) back
   where
-    untold : Outcome (Unit {0}) → Press
-    untold (given u) = Done
-    untold (refused n p) = Refused (record { number = n; place = p })
-
-    back : (x : Press) → untold (toldPress x) ≡ x
+    back : (x : Press) → answerOf (λ u. Done) Refused (toldPress x) ≡ x
     back Done = refl
     back (Refused r) = refl
-
-    onto : (y : Outcome (Unit {0})) → toldPress (untold y) ≡ y
-    onto (given u) = refl
-    onto (refused n p) = refl
 
 pub pressed-told : Told toldPressed
 pressed-told = record { untold = untold; back = back; onto = onto }
