@@ -1,13 +1,13 @@
 -- What fills the lent buffers, one after the other, is all that the session prints, for every input.
---     SomeLines l ls out r out′
---                              r hands out the line l, and after it the first of the lines ls, as many as fit: no line
---                              is left, or what is handed out leaves less room than the longest line
---     HandsSome ls out r out′  r hands out at least the first of the lines ls; where there is none, it says so, and the
---                              buffer stays as lent
---     FilledSoFar s z t        the bytes t are the first of the session's lines, one after the other, cut at a line's
---                              end; and whatever buffer with room is lent next, what comes are the next of them
---     BuffersFilled            whatever buffers were filled from the beginning on, it is so of all their bytes
---     AllFilled                and once a call says that there is none, these are all that the session prints
+--     SomeLines l ls out r out′    r hands out the line l, and after it the first of the lines ls, as many as fit: no
+--                                  line is left, or what is handed out leaves less room than the longest line
+--     HandsSome ls out r out′      r hands out at least the first of the lines ls; where there is none, it says so, and
+--                                  the buffer stays as lent
+--     FilledSoFar s z t            the bytes t are the first of the session's lines, one after the other, cut at a
+--                                  line's end; and whatever buffer with room is lent next, what comes are the next of
+--                                  them
+--     BuffersFilled                whatever buffers were filled from the beginning on, it is so of all their bytes
+--     AllFilled                    and once a call says that there is none, these are all that the session prints
 use Prim.Native.Nat.{ℕ, _+_, _<_, _≤_}
 use mathlib.Core.Path.{_≡_}
 use mathlib.Core.List.{List, [], _∷_, _++_}
