@@ -6,7 +6,7 @@ use mathlib.Core.Path.{_≡_, refl, sym, ap, _∙_}
 use mathlib.Core.List.{List}
 use lib.Dec.{leb}
 use lib.ListN.{length, take, drop}
-use lib.Seq.{take-append-seam}
+use lib.Seq.{take-append-seam, drop-append-seam}
 use borrow.Author.Tests.{leb-true, leb-false}
 use Rattle.bits.proofs.BoolLaws.{by-test}
 use Rattle.number.specs.Outcomes.{given}
@@ -54,6 +54,10 @@ module _ (z : code-session.Session) (s out out′ : List ℕ) (r : code-handed.H
         told-injective toldHandOut hand-out-told (r .answer) said.Over
         (ap (λ (h : Handed). h .answer) (next-by no-line is))
 
+    pub call-lent : nextOf (toldSession z) s ≡ (y, no-line) → out′ ≡ out
+    unfolding handedBy
+    call-lent is = ap (λ (h : Handed). h .out) (next-by no-line is)
+
     pub call-line : (l : Line) → nextOf (toldSession z) s ≡ (y, line l)
         → (r .answer ≡ said.Written (length (lineText l))) × (take (length (lineText l)) out′ ≡ lineText l)
     unfolding handedBy
@@ -64,6 +68,14 @@ module _ (z : code-session.Session) (s out out′ : List ℕ) (r : code-handed.H
           ap (λ (h : Handed). take (length (lineText l)) (h .out)) told ∙ take-append-seam (lineText l)
               (drop (length (lineText l)) out),
         )
+
+    -- the buffer stays behind the line
+    pub call-stays : (l : Line) → nextOf (toldSession z) s ≡ (y, line l)
+        → drop (length (lineText l)) out′ ≡ drop (length (lineText l)) out
+    unfolding handedBy
+    call-stays l is =
+        ap (λ (h : Handed). drop (length (lineText l)) (h .out)) (next-by (line l) is)
+        ∙ drop-append-seam (lineText l) (drop (length (lineText l)) out)
 
   -- what a call that hands out a line says of the session
   pub record Came (n : ℕ) : Type 0 where

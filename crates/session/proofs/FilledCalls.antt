@@ -7,7 +7,7 @@ use mathlib.Core.List.{List, [], _∷_}
 use mathlib.Core.Logic.{inl, inr, _⊎_}
 use lib.Dec.{leb}
 use lib.ListN.{length, take, drop}
-use lib.Seq.{take-at}
+use lib.Seq.{take-at, drop-at}
 use borrow.Author.Tests.{leb-true, leb-false}
 use Rattle.bits.proofs.BoolLaws.{by-test}
 use Rattle.number.specs.Outcomes.{given}
@@ -23,7 +23,7 @@ use Rattle.session.proofs.ToCome.{Advances}
 use Rattle.session.proofs.AheadLaws.{line-never, none-same}
 use Rattle.number.proofs.Told.{told-injective}
 use Rattle.session.proofs.ToldLaws.{hand-out-told}
-use Rattle.session.proofs.FitLaws.{bytesOf, fitting-next, fitting-within}
+use Rattle.session.proofs.FitLaws.{bytesOf, Full, fitting-next, fitting-within, fitting-full}
 use Rattle.session.proofs.FillLaws.{line-is, line-not-nothing, lines-short, lines-room}
 
 module _ (z : code-session.Session) (s out out′ : List ℕ) (r : code-handed.Handed)
@@ -75,6 +75,7 @@ module _ (z : code-session.Session) (s out out′ : List ℕ) (r : code-handed.H
     pub lines-fit : fitting (length out) (toldSession z) s (length out) ≡ (toldSession (r .session), lines-told)
     pub lines-bytes : n ≡ length (bytesOf lines-told)
     pub lines-text : take n out′ ≡ bytesOf lines-told
+    pub lines-stay : drop n out′ ≡ drop n out
 
   came-lines-by : (n : ℕ) → r .answer ≡ said.Written n → (x : Session × List Line)
       → fitting (length out) (toldSession z) s (length out) ≡ x → CameLines n
@@ -95,16 +96,26 @@ module _ (z : code-session.Session) (s out out′ : List ℕ) (r : code-handed.H
         lines-text =
             ap (λ (h : Handed). take n (h .out)) told
             ∙ take-at (bytesOf (l ∷ ls)) (drop (length (bytesOf (l ∷ ls))) out) n (sym long);
+        lines-stay =
+            ap (λ (h : Handed). drop n (h .out)) told
+            ∙ drop-at (bytesOf (l ∷ ls)) (drop (length (bytesOf (l ∷ ls))) out) n (sym long)
+            ∙ ap (λ (k : ℕ). drop k out) (sym long);
       }
 
   pub came-lines : (n : ℕ) → r .answer ≡ said.Written n → CameLines n
   came-lines n is = came-lines-by n is (fitting (length out) (toldSession z) s (length out)) refl
 
+  -- they are as many as fit
+  pub came-full : (n : ℕ) (is : r .answer ≡ said.Written n)
+      → Full s (length out) (toldSession (r .session), came-lines n is .lines-told)
+  came-full n is =
+      rw (came-lines n is .lines-fit) at (fitting-full s (length out) (toldSession z) (length out) (omega arith))
+
   -- lines that were handed out fit the buffer, and leave less to come
   pub filled-advances : Advances z s (length out) r
   filled-advances n is =
       let c = came-lines n is in
-      let within = rw (c .lines-fit) at (fitting-within s (length out) (toldSession z) (length out)) in
+      let within = rw (c .lines-fit) at (fitting-within s (length out) (toldSession z) (length out) (omega arith)) in
       (omega (arith, within .0, c .lines-bytes), omega (arith, within .1, c .lines-some))
 
   -- ---- nothing comes
@@ -123,6 +134,17 @@ module _ (z : code-session.Session) (s out out′ : List ℕ) (r : code-handed.H
 
   pub filled-over : r .answer ≡ said.Over → (c : Session × Coming) → nextOf (toldSession z) s ≡ c → c .1 ≡ no-line
   filled-over is = over-by is (fitting (length out) (toldSession z) s (length out)) refl
+
+  -- the buffer is as lent
+  lent-by : r .answer ≡ said.Over → (x : Session × List Line)
+      → fitting (length out) (toldSession z) s (length out) ≡ x → out′ ≡ out
+  unfolding filledBy
+  lent-by is (y, []) fits = ap (λ (h : Handed). h .out) (filled-by nothing (ap toldHandOut is) _ fits)
+  lent-by is (y, m ∷ ls) fits =
+      absurd (line-not-nothing (sym (told-answer _ (filled-by nothing (ap toldHandOut is) _ fits)) ∙ ap toldHandOut is))
+
+  pub filled-lent : r .answer ≡ said.Over → out′ ≡ out
+  filled-lent is = lent-by is (fitting (length out) (toldSession z) s (length out)) refl
 
   -- where there is room and no lines come, none is left in the session to carry on
   stays-by : r .answer ≡ said.Over → (x : Session × List Line)

@@ -1,12 +1,12 @@
 -- The theorems: what has filled the buffers so far are the first of the session's lines, the next buffer takes the
 -- next, and once nothing comes they are all.
-use Prim.Native.Nat.{ℕ, _<_}
+use Prim.Native.Nat.{ℕ, _+_, _<_, _≤_}
 use native.Mathlib.Omega.{arith}
 use mathlib.Core.Path.{_≡_, refl, sym, ap, ap₂, subst, _∙_}
 use mathlib.Core.List.{List, [], _∷_, _++_, append-nil, append-assoc}
 use mathlib.Core.Logic.{inl, inr, _⊎_}
-use lib.ListN.{length, take}
-use Rattle.lines.specs.Lines.{Line}
+use lib.ListN.{length}
+use Rattle.lines.specs.Lines.{Line, longestLine}
 use Rattle.session.specs.declared.Session as code-session
 use Rattle.session.specs.declared.Handed as code-handed
 use Rattle.session.specs.declared.HandOut.the-variants.{Written, Over}
@@ -14,57 +14,63 @@ use Rattle.session.specs.Sessions.{sessionLines, sessionText, lineTexts, printe
 use Rattle.session.specs.Carried.{Session, Coming, line, no-line, nextOf, toldSession, Begins}
 use Rattle.session.specs.Filling.{fitting, NextLines}
 use Rattle.session.proofs.AheadLaws.{line-never}
-use Rattle.session.proofs.FitLaws.{bytesOf, bytes-append, fitting-holds}
-use Rattle.session.proofs.FilledCalls.{came-lines, filled-answers, filled-over}
-use Rattle.session_means.specs.HandedLines.{Hands, HandsOut}
+use Rattle.session.proofs.FitLaws.{bytesOf, Full, bytes-append, fitting-holds}
+use Rattle.session.proofs.FilledCalls.{came-lines, came-full, filled-answers, filled-over, filled-lent}
+use Rattle.session_means.specs.HandedLines.{Hands, HandsOut, PutsText}
 use Rattle.session_means.specs.FilledBuffers.{HandsSome, BuffersFilled, AllFilled}
 use Rattle.session_means.proofs.StillLaws.{still, Numbered, still-next, numbered-next}
 use Rattle.session_means.proofs.BeginningLaws.{beginning-still, beginning-numbered}
 
+-- of the lines that are left, none fits behind the lines ls in n bytes
+abbrev Filled : ℕ → List Line → List Line → Type 0
+Filled n ls left = (left ≡ []) ⊎ (n < length (bytesOf ls) + longestLine)
+
 -- the lines ls are the first that z has still to tell, and y has the rest
-abbrev First : List ℕ → Session → List Line → Session → Type 0
-First s z ls y = (still z s ≡ ls ++ still y s) × Numbered y s
+abbrev FirstLines : List ℕ → Session → List Line → Session → Type 0
+FirstLines s z ls y = (still z s ≡ ls ++ still y s) × Numbered y s
 
 module _ (s : List ℕ) where
   first-line : (z y x : Session) (l : Line) (ls : List Line) → Numbered z s → nextOf z s ≡ (y, line l)
-      → (Numbered y s → First s y ls x) → First s z (l ∷ ls) x
+      → (Numbered y s → FirstLines s y ls x) → FirstLines s z (l ∷ ls) x
   first-line z y x l ls numbered is rest =
       let so = rest (numbered-next z s numbered y l is) in
       (still-next z s numbered (y, line l) is ∙ ap {B = List Line} (λ ms. l ∷ ms) (so .0), so .1)
 
   -- the lines that fit are the first
-  fitting-first : (k : ℕ) (z : Session) (n : ℕ) → Numbered z s → First s z (fitting k z s n .1) (fitting k z s n .0)
+  fitting-first : (k : ℕ) (z : Session) (n : ℕ) → n ≤ k → Numbered z s
+      → FirstLines s z (fitting k z s n .1) (fitting k z s n .0)
   fitting-first =
-      fitting-holds s (λ z n x. Numbered z s → First s z (x .1) (x .0)) (λ z n numbered. (refl, numbered))
+      fitting-holds s (λ z n x. Numbered z s → FirstLines s z (x .1) (x .0)) (λ z n why numbered. (refl, numbered))
       (λ z y l n x is room rest numbered. first-line z y (x .0) l (x .1) numbered is rest)
 
   came-first : (z : code-session.Session) (out out′ : List ℕ) (r : code-handed.Handed)
       (called : NextLines z s out r out′) (n : ℕ) (is : r .answer ≡ Written n) → Numbered (toldSession z) s
-      → First s (toldSession z) (came-lines z s out out′ r called n is .lines-told) (toldSession (r .session))
+      → FirstLines s (toldSession z) (came-lines z s out out′ r called n is .lines-told) (toldSession (r .session))
   came-first z out out′ r called n is numbered =
       rw (came-lines z s out out′ r called n is .lines-fit) at
-      (fitting-first (length out) (toldSession z) (length out) numbered)
+      (fitting-first (length out) (toldSession z) (length out) (omega arith) numbered)
 
   -- from z to y these lines are told, and t are their bytes
-  record Told (z : code-session.Session) (t : List ℕ) (y : code-session.Session) : Type 0 where
+  record LinesTold (z : code-session.Session) (t : List ℕ) (y : code-session.Session) : Type 0 where
     lines : List Line
-    first : First s (toldSession z) lines (toldSession y)
+    first : FirstLines s (toldSession z) lines (toldSession y)
     text : t ≡ bytesOf lines
 
   hands-told : (z y : code-session.Session) (t : List ℕ) → Numbered (toldSession z) s → Hands NextLines s z t y
-      → Told z t y
+      → LinesTold z t y
   hands-told z y t numbered h =
       let c = came-lines z s (h .out) (h .out′) (h .answer) (h .called) (h .bytes) (h .line) in
       record {
         lines = c .lines-told;
         first =
-            subst (λ (x : code-session.Session). First s (toldSession z) (c .lines-told) (toldSession x)) (h .after)
+            subst (λ (x : code-session.Session). FirstLines s (toldSession z) (c .lines-told) (toldSession x))
+            (h .after)
             (came-first z (h .out) (h .out′) (h .answer) (h .called) (h .bytes) (h .line) numbered);
         text = sym (h .text) ∙ c .lines-text;
       }
 
   told-on : (ts : List (List ℕ)) (z z′ : code-session.Session) → Numbered (toldSession z) s
-      → HandsOut NextLines s z ts z′ → Told z (printed ts) z′
+      → HandsOut NextLines s z ts z′ → LinesTold z (printed ts) z′
   unfolding lineTexts printed
   told-on [] z z′ numbered same =
       record {
@@ -90,34 +96,54 @@ module _ (s : List ℕ) where
 
   -- ---- the next buffer
 
+  -- where nothing comes, nothing is left
+  none-by : (z : Session) → Numbered z s → (c : Session × Coming) → c .1 ≡ no-line → nextOf z s ≡ c → still z s ≡ []
+  none-by z numbered (y, no-line) is next = still-next z s numbered _ next
+  none-by z numbered (y, line l) is next = absurd (line-never l (sym is))
+
+  none-left : (z : Session) → Numbered z s → nextOf z s .1 ≡ no-line → still z s ≡ []
+  none-left z numbered is = none-by z numbered (nextOf z s) is refl
+
+  full-still : (n : ℕ) (z : Session) (ls : List Line) → Numbered z s → Full s n (z, ls) → Filled n ls (still z s)
+  full-still n z ls numbered (inl none) = inl (none-left z numbered none)
+  full-still n z ls numbered (inr less) = inr less
+
   module _ (z : code-session.Session) (out out′ : List ℕ) (r : code-handed.Handed) (called : NextLines z s out r out′)
       (numbered : Numbered (toldSession z) s) where
-    -- where nothing comes, nothing is left
-    none-by : (c : Session × Coming) → c .1 ≡ no-line → nextOf (toldSession z) s ≡ c → still (toldSession z) s ≡ []
-    none-by (y, no-line) is next = still-next (toldSession z) s numbered _ next
-    none-by (y, line l) is next = absurd (line-never l (sym is))
-
     over-none : r .answer ≡ Over → still (toldSession z) s ≡ []
-    over-none is = none-by (nextOf (toldSession z) s) (filled-over z s out out′ r called is _ refl) refl
+    over-none is = none-left (toldSession z) numbered (filled-over z s out out′ r called is _ refl)
 
-    some-by : (n : ℕ) → r .answer ≡ Written n → (ls rest all : List Line) → 0 < length ls → all ≡ ls ++ rest
-        → take n out′ ≡ bytesOf ls → HandsSome all r out′
-    some-by n is [] rest all some split text = absurd (omega arith)
-    some-by n is (l ∷ ls) rest all some split text =
-        rw split (record { more = ls; left = rest; bytes = n; next = refl; answer = is; text = text })
+    puts : (n : ℕ) (is : r .answer ≡ Written n)
+        → PutsText (bytesOf (came-lines z s out out′ r called n is .lines-told)) out r out′
+    puts n is =
+        let c = came-lines z s out out′ r called n is in
+        record {
+          answer = is ∙ ap Written (c .lines-bytes);
+          begins = rw (← c .lines-bytes) (c .lines-text);
+          stays = rw (← c .lines-bytes) (c .lines-stay);
+        }
 
-    next-by : (r .answer ≡ Over) ⊎ ((n : ℕ) × (r .answer ≡ Written n)) → HandsSome (still (toldSession z) s) r out′
-    next-by (inl over) = rw (over-none over) over
+    some-by : (ls rest all : List Line) → 0 < length ls → all ≡ ls ++ rest → PutsText (bytesOf ls) out r out′
+        → Filled (length out) ls rest → HandsSome all out r out′
+    some-by [] rest all some split text full = absurd (omega arith)
+    some-by (l ∷ ls) rest all some split text full =
+        rw split (record { more = ls; left = rest; next = refl; text = text; full = full })
+
+    next-by : (r .answer ≡ Over) ⊎ ((n : ℕ) × (r .answer ≡ Written n)) → HandsSome (still (toldSession z) s) out r out′
+    next-by (inl over) = rw (over-none over) (over, filled-lent z s out out′ r called over)
     next-by (inr (n, is)) =
         let c = came-lines z s out out′ r called n is in
-        some-by n is (c .lines-told) (still (toldSession (r .session)) s) (still (toldSession z) s) (c .lines-some)
-        (came-first z out out′ r called n is numbered .0) (c .lines-text)
+        let first = came-first z out out′ r called n is numbered in
+        some-by (c .lines-told) (still (toldSession (r .session)) s) (still (toldSession z) s) (c .lines-some)
+        (first .0) (puts n is)
+        (full-still (length out) (toldSession (r .session)) (c .lines-told) (first .1)
+        (came-full z s out out′ r called n is))
 
 -- ---- from the beginning on
 
 module _ (s : List ℕ) (z z′ : code-session.Session) (ts : List (List ℕ)) (begun : Begins s z)
     (handed : HandsOut NextLines s z ts z′) where
-  from-begin : Told s z (printed ts) z′
+  from-begin : LinesTold s z (printed ts) z′
   from-begin =
       told-on s ts z z′ (subst (λ (x : Session). Numbered x s) (sym begun) (beginning-numbered s)) handed
 

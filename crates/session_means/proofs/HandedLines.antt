@@ -11,7 +11,8 @@ use Rattle.session.specs.declared.HandOut.the-variants.{Over}
 use Rattle.session.specs.HandingOut.{nothing, toldHandOut, NextLine}
 use Rattle.session.specs.Sessions.{lineTexts}
 use Rattle.session.specs.Carried.{Session, Coming, line, no-line, nextOf, toldSession}
-use Rattle.session.proofs.CallLaws.{over-never, call-room, call-over, call-line, came}
+use Rattle.session.proofs.CallLaws.{over-never, call-room, call-over, call-lent, call-line, call-stays}
+use Rattle.session.proofs.CallLaws.{came}
 use Rattle.session_means.specs.HandedLines.{Hands, HandsOut, Tells, LinesHandedOut, AllHandedOut}
 use Rattle.session_means.proofs.StillLaws.{still, Numbered, still-next, numbered-next}
 use Rattle.session_means.proofs.BeginningLaws.{beginning-still, beginning-numbered}
@@ -54,12 +55,21 @@ module _ (s : List ℕ) where
 
   tells-by : (z : code-session.Session) (out out′ : List ℕ) (r : code-handed.Handed) → Numbered (toldSession z) s
       → longestLine ≤ length out → NextLine z s out r out′ → (x : Session × Coming) → nextOf (toldSession z) s ≡ x
-      → Tells (ahead z s) r out′
+      → Tells (ahead z s) out r out′
   unfolding lineTexts
   tells-by z out out′ r numbered room called (y, no-line) is =
-      rw (still-next (toldSession z) s numbered _ is) (call-over z s out out′ r called room y is)
+      rw (still-next (toldSession z) s numbered _ is) (
+        call-over z s out out′ r called room y is,
+        call-lent z s out out′ r called room y is,
+      )
   tells-by z out out′ r numbered room called (y, line l) is =
-      rw (still-next (toldSession z) s numbered _ is) (call-line z s out out′ r called room y l is)
+      let handed = call-line z s out out′ r called room y l is in
+      rw (still-next (toldSession z) s numbered _ is)
+      (record {
+        answer = handed .0;
+        begins = handed .1;
+        stays = call-stays z s out out′ r called room y l is;
+      })
 
 pub lines-handed-out : LinesHandedOut
 lines-handed-out s z z′ ts begun out =
@@ -73,14 +83,14 @@ lines-handed-out s z z′ ts begun out =
           refl;
     }
 
-none-left : (rest : List (List ℕ)) (r : code-handed.Handed) (out′ : List ℕ) → Tells rest r out′ → r .answer ≡ Over
-    → rest ≡ []
-none-left [] r out′ tells over = refl
-none-left (t ∷ ts) r out′ tells over = absurd (over-never (length t) (sym over ∙ tells .0))
+none-left : (rest : List (List ℕ)) (out out′ : List ℕ) (r : code-handed.Handed) → Tells rest out r out′
+    → r .answer ≡ Over → rest ≡ []
+none-left [] out out′ r tells over = refl
+none-left (t ∷ ts) out out′ r tells over = absurd (over-never (length t) (sym over ∙ tells .answer))
 
 pub all-handed-out : AllHandedOut
 all-handed-out s z z′ ts out out′ r begun handed called over =
     let so = lines-handed-out s z z′ ts begun handed in
     let room = call-room z′ s out out′ r called nothing (ap toldHandOut over) in
-    let none = none-left (so .rest) r out′ (so .next out out′ r room called) over in
+    let none = none-left (so .rest) out out′ r (so .next out out′ r room called) over in
     sym (so .all ∙ ap (λ (rest : List (List ℕ)). ts ++ rest) none ∙ append-nil ts)

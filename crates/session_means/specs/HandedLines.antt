@@ -4,7 +4,10 @@
 --     Hands C s z t y          a call that promises C hands out the text t on z, and leaves the session y to carry on
 --     HandsOut C s z ts z′     such calls from z on hand out the texts ts, one after the other, and leave the session
 --                              z′
---     Tells ts r out′          r hands out the first of the texts ts; where there is none, it says so
+--     PutsText t out r out′    r says how many bytes the text t has; they begin the buffer, and the rest of it stays:
+--                              "Written bytes begin the buffer; the rest stays."
+--     Tells ts out r out′      r hands out the first of the texts ts; where there is none, it says so, and the buffer
+--                              stays as lent
 --     SoFar s z ts             the texts ts are the first of the session's lines, and whatever buffer with room is lent
 --                              next, what comes is the next of them
 --     LinesHandedOut           whatever calls have handed out from the beginning on, it is so
@@ -12,7 +15,7 @@
 use Prim.Native.Nat.{ℕ, _≤_}
 use mathlib.Core.Path.{_≡_}
 use mathlib.Core.List.{List, [], _∷_, _++_}
-use lib.ListN.{length, take}
+use lib.ListN.{length, take, drop}
 use Rattle.lines.specs.Lines.{longestLine}
 use Rattle.session.specs.declared.Session.{Session}
 use Rattle.session.specs.declared.Handed.{Handed}
@@ -38,14 +41,20 @@ abbrev pub HandsOut : Call → List ℕ → Session → List (List ℕ) → Sess
 HandsOut C s z [] z′ = z ≡ z′
 HandsOut C s z (t ∷ ts) z′ = (y : Session) × (Hands C s z t y × HandsOut C s y ts z′)
 
-abbrev pub Tells : List (List ℕ) → Handed → List ℕ → Type 0
-Tells [] r out′ = r .answer ≡ Over
-Tells (t ∷ ts) r out′ = (r .answer ≡ Written (length t)) × (take (length t) out′ ≡ t)
+pub record PutsText (t out : List ℕ) (r : Handed) (out′ : List ℕ) : Type 0 where
+  pub answer : r .answer ≡ Written (length t)
+  pub begins : take (length t) out′ ≡ t
+  pub stays : drop (length t) out′ ≡ drop (length t) out
+
+abbrev pub Tells : List (List ℕ) → List ℕ → Handed → List ℕ → Type 0
+Tells [] out r out′ = (r .answer ≡ Over) × (out′ ≡ out)
+Tells (t ∷ ts) out r out′ = PutsText t out r out′
 
 pub record SoFar (s : List ℕ) (z : Session) (ts : List (List ℕ)) : Type 0 where
   pub rest : List (List ℕ)
   pub all : lineTexts (sessionLines s) ≡ ts ++ rest
-  pub next : (out out′ : List ℕ) (r : Handed) → longestLine ≤ length out → NextLine z s out r out′ → Tells rest r out′
+  pub next : (out out′ : List ℕ) (r : Handed) → longestLine ≤ length out → NextLine z s out r out′
+      → Tells rest out r out′
 
 abbrev pub LinesHandedOut : Type 0
 LinesHandedOut =

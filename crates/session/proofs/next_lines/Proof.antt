@@ -8,7 +8,7 @@ use Rattle.session.specs.Carried.{toldSession}
 use Rattle.session.proofs.next_lines.Statement.{statement}
 use Rattle.session.proofs.next_lines.Tie as tie
 use Rattle.session.proofs.FillLaws.{FilledTo, filled-none, filled-to-length, line-goes, line-ends}
-use Rattle.session.proofs.FillLaws.{tag-never-line}
+use Rattle.session.proofs.FillLaws.{Goes, tag-never-line}
 
 abbrev Inv-loop : tie.InvT-loop
 Inv-loop s out₀ session₀ used₀ out session used = FilledTo (toldSession session₀) s out₀ (toldSession session) out used
@@ -35,30 +35,20 @@ returns c =
     line-ends _ _ _ _ _ _ (at-loop .loop .inv) (at-line-at .line-at .result) _ (at-line-at .line-at .ensures)
     (tag-never-line _ (c .before .match .keys2)) (c .sum-up .result) (c .sum-up .ensures)
 
+-- a line was handed out
+abbrev line-call : tie.After-known-told Inv-loop μ-loop → tie.After-line-at Inv-loop μ-loop
+line-call c = c .before .before .before .before .before .before
+
+goes : (c : tie.After-known-told Inv-loop μ-loop)
+    → Goes _ _ _ _ _ _ (line-call c .before .before .loop .inv) (line-call c .line-at .result) _
+    (line-call c .line-at .ensures) (c .before .answer .given .0 .0)
+goes c = line-goes _ _ _ _ _ _ _ _ _ (line-call c .line-at .ensures) _ (c .before .answer .given .1)
+
 add-used : tie.Need-add-used Inv-loop μ-loop
-add-used c =
-    let at-line-at = c .before .before .before .before .before .before in
-    let at-loop = at-line-at .before .before in
-    let goes =
-    line-goes _ _ _ _ _ _ (at-loop .loop .inv) (at-line-at .line-at .result) _ (at-line-at .line-at .ensures) _
-    (c .before .answer .given .1) in
-    omega (arith, goes .filled-on .within)
+add-used c = omega (arith, goes c .filled-on .within)
 
 loop-less : tie.Need-loop-less Inv-loop μ-loop
-loop-less c =
-    let at-line-at = c .before .before .before .before .before .before in
-    let at-loop = at-line-at .before .before in
-    let goes =
-    line-goes _ _ _ _ _ _ (at-loop .loop .inv) (at-line-at .line-at .result) _ (at-line-at .line-at .ensures) _
-    (c .before .answer .given .1) in
-    omega (arith, goes .filled-on .within, goes .grows)
-
-loop-again : tie.Need-loop-again Inv-loop μ-loop
-loop-again c =
-    let at-line-at = c .before .before .before .before .before .before in
-    let at-loop = at-line-at .before .before in
-    line-goes _ _ _ _ _ _ (at-loop .loop .inv) (at-line-at .line-at .result) _ (at-line-at .line-at .ensures) _
-    (c .before .answer .given .1) .filled-on
+loop-less c = omega (arith, goes c .filled-on .within, goes c .grows)
 
 pub next-lines-spec : {M : Type 1} → statement M
 next-lines-spec =
@@ -73,4 +63,4 @@ next-lines-spec =
     returns
     add-used
     loop-less
-    loop-again)
+    (λ c. goes c .filled-on))
