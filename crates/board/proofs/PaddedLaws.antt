@@ -1,4 +1,5 @@
--- Laws of parts as an array of 256 places: that its first places hold the parts, and what the next part does to it. What the reader and the writer of board files need.
+-- Laws of parts as an array of 256 places: that its first places hold the parts, and what the next part does to it.
+-- What the reader and the writer of board files need.
 use Prim.Native.Nat.{ℕ, _<_}
 use mathlib.Core.Path.{_≡_, ap, _∙_}
 use mathlib.Core.List.{List, [], _∷_, _++_}
