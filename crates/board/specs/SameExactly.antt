@@ -1,5 +1,5 @@
--- When two boards are the same, over the call `board::same`. Rule book: "Boards are compared by their counts and first C
--- parts, each part by its kind and the fields the table gives it."
+-- When two boards are the same, over the call `board::same`. Rule book: "Boards are compared by their counts and first
+-- C parts, each part by its kind and the fields the table gives it."
 --     SameExactly    `same` says of two boards that they are the same exactly if their counts are equal and their first
 --                    C parts are
 use mathlib.Core.Path.{_≡_}

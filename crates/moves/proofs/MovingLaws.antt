@@ -80,7 +80,9 @@ move-told = record { untold = untold; back = back; onto = onto }
     onto conflict = refl
 
 move-answer-told : Told toldMoveAnswer
-move-answer-told = given-or-refused toldMoveAnswer (λ m. Says (move-told .untold m)) Refused (λ m. ap given (move-told .onto m)) (λ n p. refl) back
+move-answer-told =
+    given-or-refused toldMoveAnswer (λ m. Says (move-told .untold m)) Refused (λ m. ap given (move-told .onto m))
+    (λ n p. refl) back
   where
     back : (x : MoveAnswer) → answerOf (λ m. Says (move-told .untold m)) Refused (toldMoveAnswer x) ≡ x
     back (Says m) = ap Says (move-told .back m)
