@@ -8,7 +8,7 @@ use lib.Dec.{leb, ltb}
 use borrow.Author.Tests.{le-leb, lt-leb, leb-true, eq-eqb, ne-eqb}
 use Rattle.number.specs.Outcomes.{Outcome, given, refused, Found, found, _>>_, unless}
 use Rattle.number.specs.Refusals.{noSuchName}
-use Rattle.number.specs.Numbers.{numberAt, toldNumber}
+use Rattle.number.specs.Numbers.{numberAt, toldNumber, ReadsNumber}
 use Rattle.number.specs.declared.Number.{Number}
 use Rattle.number.specs.declared.Number.the-variants.{Read, Refused}
 use Rattle.number.specs.declared.Refusal.{Refusal}
@@ -53,7 +53,7 @@ pub number-stopped : {A : Type 0} (a : A) (x : ReadAnswer) (n : Number) (r : Ref
 number-stopped a x n r h e = ap (foundAt a) (h ∙ ap (λ (m : Number). placeOf (toldNumber m)) e)
 
 pub number-refused : (ok : ℕ → Bool) (n : ℕ) (s : List ℕ) (at : ℕ) (x : Number) (r : Refusal) → x ≡ Refused r
-    → toldNumber x ≡ numberAt s at → toldNumber x ≡ wanted ok n s at
+    → ReadsNumber s at x → toldNumber x ≡ wanted ok n s at
 number-refused ok n s at x r e h =
     ap toldNumber e ∙ sym (wanted-refused ok n s at (r .number) (r .place) (told-refused (numberAt s at) x r e h))
 

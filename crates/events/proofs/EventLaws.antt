@@ -11,7 +11,7 @@ use Rattle.presses.specs.declared.Press.the-variants.{Done, Refused}
 use Rattle.presses.specs.declared.Pressed.{Pressed}
 use Rattle.presses.specs.Presses.{pushing, releasing, toldPressed}
 use Rattle.runs.specs.declared.Ran.{Ran}
-use Rattle.runs.specs.Running.{running, toldRan}
+use Rattle.runs.specs.Running.{toldRan, Runs}
 use Rattle.lines.specs.Lines.{event}
 use Rattle.events.specs.Events.{Shown, pressing, sessionLog, tells, ranLine, pressedLine, eventLine}
 
@@ -26,7 +26,7 @@ module _ (b : Board) (t : State) (v : ℕ) where
 
 module _ (b : Board) (w e : ℕ) where
   -- a run is told by its word, its moves and its drawn relays, whatever its log holds
-  pub run-shown : (t : State) (r : Ran) (log : List ℕ) → toldRan r log ≡ running b t sessionLog w
+  pub run-shown : (t : State) (r : Ran) (log : List ℕ) → Runs b t sessionLog w r log
       → tells e (toldRan r log) ≡ ranLine b e t w
   unfolding ranLine
   run-shown t r log ran = ap (tells e) ran

@@ -12,7 +12,7 @@ use Rattle.number.specs.declared.Number.{Number}
 use Rattle.number.specs.declared.Number.the-variants.{Read, Refused}
 use Rattle.number.specs.Outcomes.{refused, found}
 use Rattle.number.specs.Refusals.{noSuchName}
-use Rattle.number.specs.Numbers.{numberAt, toldNumber}
+use Rattle.number.specs.Numbers.{ReadsNumber}
 use Rattle.board_reader.specs.Reading.{longestInput}
 use Rattle.board_reader.proofs.FieldLaws.{wanted-refused, wanted-fails, wanted-passes, told-found, told-refused}
 use Rattle.session.specs.declared.Stage.the-variants as stage
@@ -61,7 +61,7 @@ module _ (z : Session) (s : List ℕ) where
   event-none done = rw (le-leb (length s) (z .place) done)
 
   -- an event is there, and x is what reading its number came to
-  module _ (x : Number) (there : z .place < length s) (read : toldNumber x ≡ numberAt s (z .place)) where
+  module _ (x : Number) (there : z .place < length s) (read : ReadsNumber s (z .place) x) where
     event-by : eventOf z (eventAt (z .board) s (z .place)) ≡ nextEvent z s
     unfolding nextEvent
     event-by = rw (lt-leb (length s) (z .place) there)

@@ -18,7 +18,7 @@ use Rattle.session.specs.declared.Session as code-session
 use Rattle.session.specs.declared.Handed as code-handed
 use Rattle.session.specs.declared.HandOut.the-variants as said
 use Rattle.session.specs.Carried.{Session, Coming, line, no-line, nextOf, toldSession}
-use Rattle.session.specs.HandingOut.{HandOut, written, Handed, handedBy, nextLine, toldHandOut}
+use Rattle.session.specs.HandingOut.{HandOut, written, Handed, handedBy, toldHandOut, NextLine}
 use Rattle.session.specs.HandingOut.{toldHanded}
 use Rattle.session.proofs.ToCome.{Advances}
 use Rattle.session.proofs.AheadLaws.{next-less}
@@ -33,7 +33,7 @@ line-bytes : {m n : ℕ} → said.Written m ≡ said.Written n → m ≡ n
 line-bytes e = cc
 
 module _ (z : code-session.Session) (s out out′ : List ℕ) (r : code-handed.Handed)
-    (called : toldHanded r out′ ≡ nextLine (toldSession z) s out) where
+    (called : NextLine z s out r out′) where
   -- a call that is not refused has room
   pub call-room : (a : HandOut) → toldHandOut (r .answer) ≡ given a → longestLine ≤ length out
   call-room a is =

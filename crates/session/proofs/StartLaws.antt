@@ -6,14 +6,14 @@ use Rattle.number.specs.declared.Refusal.{Refusal}
 use Rattle.number.specs.declared.Number as number
 use Rattle.number.specs.declared.Number.the-variants as number-was
 use Rattle.number.specs.Outcomes.{Outcome, refused, _>>=_}
-use Rattle.number.specs.Numbers.{numberAt, toldNumber}
+use Rattle.number.specs.Numbers.{numberAt, toldNumber, ReadsNumber}
 use Rattle.board.specs.declared.Board.{Board}
 use Rattle.board.specs.Parts.{emptyBoard}
 use Rattle.state.specs.declared.State.{State}
 use Rattle.state.specs.States.{freshState}
 use Rattle.board_reader.specs.declared.BoardRead.{BoardRead}
 use Rattle.board_reader.specs.declared.ReadAnswer.the-variants as board-was
-use Rattle.board_reader.specs.Reading.{reading, toldReadAnswer, toldBoardRead}
+use Rattle.board_reader.specs.Reading.{toldReadAnswer, Reads}
 use Rattle.session.specs.declared.Stage.the-variants as stage
 use Rattle.session.specs.Sessions.{withAllowance, headAt}
 use Rattle.session.specs.Carried.{begunFrom, beginning, toldSession}
@@ -37,12 +37,12 @@ module _ (b : Board) (x : number.Number) where
   begun-unread q is = rw is
 
 -- the head of a session, by what reading its board came to
-module _ (s : List ℕ) (r : BoardRead) (read : toldBoardRead r ≡ reading s) where
+module _ (s : List ℕ) (r : BoardRead) (read : Reads s r) where
   head-by : headAt s ≡ (toldReadAnswer (r .answer) >>= (λ at. withAllowance (r .board) (numberAt s at)))
   unfolding headAt
   head-by = ap (λ (x : Board × Outcome ℕ). x .1 >>= (λ at. withAllowance (x .0) (numberAt s at))) (sym read)
 
-  pub beginning-board : (at : ℕ) (x : number.Number) → r .answer ≡ board-was.Read at → toldNumber x ≡ numberAt s at
+  pub beginning-board : (at : ℕ) (x : number.Number) → r .answer ≡ board-was.Read at → ReadsNumber s at x
       → begunFrom (withAllowance (r .board) (toldNumber x)) ≡ beginning s
   unfolding beginning
   beginning-board at x is number =

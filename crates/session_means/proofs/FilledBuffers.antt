@@ -59,13 +59,13 @@ module _ (s : List ℕ) where
   hands-told : (z y : code-session.Session) (t : List ℕ) → Numbered (toldSession z) s → Hands NextLines s z t y
       → LinesTold z t y
   hands-told z y t numbered h =
-      let c = came-lines z s (h .out) (h .out′) (h .answer) (h .called) (h .bytes) (h .line) in
+      let c = came-lines z s (h .out) (h .out′) (h .answer) (h .called) (h .bytes) (h .wrote) in
       record {
         lines = c .lines-told;
         first =
             subst (λ (x : code-session.Session). FirstLines s (toldSession z) (c .lines-told) (toldSession x))
             (h .after)
-            (came-first z (h .out) (h .out′) (h .answer) (h .called) (h .bytes) (h .line) numbered);
+            (came-first z (h .out) (h .out′) (h .answer) (h .called) (h .bytes) (h .wrote) numbered);
         text = sym (h .text) ∙ c .lines-text;
       }
 

@@ -30,7 +30,7 @@ module _ (s : List ℕ) where
       → From s z (t ∷ []) y
   unfolding lineTexts
   hands-first z y t numbered h =
-      let c = came z s (h .out) (h .out′) (h .answer) (h .called) (h .bytes) (h .line) in
+      let c = came z s (h .out) (h .out′) (h .answer) (h .called) (h .bytes) (h .wrote) in
       let next : nextOf (toldSession z) s ≡ (toldSession y, line (c .its-line)) =
       c .next ∙ ap {B = Session × Coming} (λ (x : code-session.Session). (toldSession x, line (c .its-line)))
       (h .after) in

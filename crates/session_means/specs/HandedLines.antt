@@ -33,7 +33,7 @@ pub record Hands (C : Call) (s : List ℕ) (z : Session) (t : List ℕ) (y : Ses
   pub answer : Handed
   pub bytes : ℕ
   pub called : C z s out answer out′
-  pub line : answer .answer ≡ Written bytes
+  pub wrote : answer .answer ≡ Written bytes
   pub text : take bytes out′ ≡ t
   pub after : answer .session ≡ y
 
