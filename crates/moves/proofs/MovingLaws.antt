@@ -5,10 +5,10 @@ use mathlib.Core.Path.{_≡_, refl, ap}
 use mathlib.Core.Bool.{true}
 use lib.Dec.{ltb}
 use borrow.Author.Tests.{lt-ltb, le-ltb, ltb-true}
-use Rattle.number.specs.Outcomes.{Outcome, given, refused}
+use Rattle.number.specs.Outcomes.{given, refused}
 use Rattle.number.specs.Refusals.{noSuchWinding}
 use Rattle.number.proofs.OutcomeLaws.{both-given, asked}
-use Rattle.number.proofs.Told.{Told, answerOf, given-or-refused}
+use Rattle.number.proofs.Told.{Told, answerOf, given-or-refused, beside-told}
 use Rattle.board.specs.declared.Board.{Board}
 use Rattle.board.specs.Rules.{boardFine}
 use Rattle.state.specs.declared.State.{State}
@@ -18,7 +18,6 @@ use Rattle.moves.specs.declared.Move as code-move
 use Rattle.moves.specs.declared.Move.the-variants.{Drew, Dropped, Rests, Undecided, Conflict}
 use Rattle.moves.specs.declared.MoveAnswer.{MoveAnswer}
 use Rattle.moves.specs.declared.MoveAnswer.the-variants.{Says, Refused}
-use Rattle.moves.specs.declared.Moved.{Moved}
 use Rattle.moves.specs.Steps.{Move, drew, dropped, rests, undecided, conflict, stepOf, made, toldMove}
 use Rattle.moves.specs.Moving.{movable, moving, toldMoveAnswer, toldMoved}
 
@@ -89,13 +88,6 @@ move-answer-told =
     back (Refused r) = refl
 
 pub moved-told : Told toldMoved
-moved-told = record { untold = untold; back = back; onto = onto }
-  where
-    untold : State × Outcome Move → Moved
-    untold (s, o) = record { state = s; answer = move-answer-told .untold o }
-
-    back : (x : Moved) → untold (toldMoved x) ≡ x
-    back x = λ i. record { state = x .state; answer = move-answer-told .back (x .answer) i }
-
-    onto : (y : State × Outcome Move) → toldMoved (untold y) ≡ y
-    onto (s, o) = λ i. (s, move-answer-told .onto o i)
+moved-told =
+    beside-told toldMoveAnswer move-answer-told (λ s a. record { state = s; answer = a })
+    (λ x. x .state) (λ x. x .answer) (λ x. refl) (λ s a. refl)

@@ -31,6 +31,25 @@ given-or-refused {A} told thing refusal gives refuses back =
     onto (given a) = gives a
     onto (refused n p) = refuses n p
 
+-- an answer beside a thing that is told as it is, by the constructor of the struct that holds both and by its fields
+pub beside-told : {S A B R : Type 0} (told : A → B) → Told told → (struct : S → A → R) (first : R → S) (second : R → A)
+    → ((x : R) → struct (first x) (second x) ≡ x)
+    → ((s : S) (a : A) → _≡_ {A = S × A} (first (struct s a), second (struct s a)) (s, a))
+    → Told {B = S × B} (λ x. (first x, told (second x)))
+beside-told {S} {A} {B} {R} told both struct first second whole parts =
+    record { untold = untold; back = back; onto = onto }
+  where
+    untold : S × B → R
+    untold (s, o) = struct s (both .untold o)
+
+    back : (x : R) → untold (first x, told (second x)) ≡ x
+    back x = ap (struct (first x)) (both .back (second x)) ∙ whole x
+
+    onto : (y : S × B) → _≡_ {A = S × B} (first (untold y), told (second (untold y))) y
+    onto (s, o) =
+        ap {B = S × B} (λ (p : S × A). (p .0, told (p .1))) (parts s (both .untold o))
+        ∙ ap {B = S × B} (λ (q : B). (s, q)) (both .onto o)
+
 -- an answer, with what it leaves in a lent log or buffer
 abbrev pub ToldLent : {A R : Type 0} → (R → List ℕ → A) → Type 0
 ToldLent {A} {R} told = Told (λ (x : R × List ℕ). told (x .0) (x .1))

@@ -7,14 +7,13 @@ use lib.Dec.{ltb}
 use Rattle.number.specs.declared.Refusal.{Refusal}
 use Rattle.number.specs.Outcomes.{Outcome, given, refused, unless, _>>_}
 use Rattle.number.specs.Refusals.{noSuchName, alreadySo, stateBeyondBoard, brokenBoard}
-use Rattle.number.proofs.Told.{Told, answerOf, given-or-refused}
+use Rattle.number.proofs.Told.{Told, answerOf, given-or-refused, beside-told}
 use Rattle.board.specs.declared.Board.{Board}
 use Rattle.board.specs.Rules.{boardFine}
 use Rattle.state.specs.declared.State.{State}
 use Rattle.state.specs.States.{stateFine, usable, left}
 use Rattle.presses.specs.declared.Press.{Press}
 use Rattle.presses.specs.declared.Press.the-variants.{Done, Refused}
-use Rattle.presses.specs.declared.Pressed.{Pressed}
 use Rattle.presses.specs.Presses.{pressable, pushing, releasing, toldPress, toldPressed}
 
 -- ---- a refused call gives back the state it was given, at place 0
@@ -71,16 +70,9 @@ press-told = given-or-refused toldPress (λ u. Done) Refused (λ a. refl) (λ n 
     back (Refused r) = refl
 
 pub pressed-told : Told toldPressed
-pressed-told = record { untold = untold; back = back; onto = onto }
-  where
-    untold : State × Outcome (Unit {0}) → Pressed
-    untold (s, o) = record { state = s; answer = press-told .untold o }
-
-    back : (x : Pressed) → untold (toldPressed x) ≡ x
-    back x = λ i. record { state = x .state; answer = press-told .back (x .answer) i }
-
-    onto : (y : State × Outcome (Unit {0})) → toldPressed (untold y) ≡ y
-    onto (s, o) = λ i. (s, press-told .onto o i)
+pressed-told =
+    beside-told toldPress press-told (λ s a. record { state = s; answer = a })
+    (λ x. x .state) (λ x. x .answer) (λ x. refl) (λ s a. refl)
 
 -- ---- one law for each way out of `leave`, and one for `push` and `release`
 
