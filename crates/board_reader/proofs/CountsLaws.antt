@@ -4,14 +4,14 @@ use Prim.Native.Nat.{ℕ, _≤_}
 use mathlib.Core.Path.{_≡_, ap, _∙_}
 use mathlib.Core.Bool.{true}
 use mathlib.Core.List.{List}
-use Rattle.number.specs.Outcomes.{Outcome, refused, Found, found}
-use Rattle.number.specs.Refusals.{outOfRange}
+use Rattle.refusals.specs.Outcomes.{Outcome, refused, Found, found}
+use Rattle.refusals.specs.Refusals.{outOfRange}
 use Rattle.board.specs.declared.Counts.{Counts}
 use Rattle.board.specs.Parts.{mostParts}
 use Rattle.board.specs.Rules.{leastTerminals, mostTerminals, mostRelays, mostButtons, inRange, countsFine}
 use Rattle.bits.proofs.BoolLaws.{true-both}
 use Rattle.board_reader.specs.Reading.{wanted, countsAt}
-use Rattle.number.proofs.OutcomeLaws.{given-injective, handed}
+use Rattle.refusals.proofs.OutcomeLaws.{given-injective, handed}
 use Rattle.board_reader.proofs.FieldLaws.{wanted-found, range-bounds}
 
 -- a count at a place, from low to high

@@ -6,19 +6,19 @@ use mathlib.Core.Bool.{Bool, true, false}
 use mathlib.Core.List.{List}
 use lib.Dec.{leb, ltb}
 use borrow.Author.Tests.{le-leb, lt-leb, leb-true, eq-eqb, ne-eqb}
-use Rattle.number.specs.Outcomes.{Outcome, given, refused, Found, found, _>>_, unless}
-use Rattle.number.specs.Refusals.{noSuchName}
+use Rattle.refusals.specs.Outcomes.{Outcome, given, refused, Found, found, _>>_, unless}
+use Rattle.refusals.specs.Refusals.{noSuchName}
 use Rattle.number.specs.Numbers.{numberAt, toldNumber, ReadsNumber}
 use Rattle.number.specs.declared.Number.{Number}
 use Rattle.number.specs.declared.Number.the-variants.{Read, Refused}
-use Rattle.number.specs.declared.Refusal.{Refusal}
+use Rattle.refusals.specs.declared.Refusal.{Refusal}
 use Rattle.board.specs.declared.Counts.{Counts}
 use Rattle.bits.proofs.BoolLaws.{both-true}
 use Rattle.board.specs.Rules.{inRange, limitOf}
 use Rattle.board_reader.specs.declared.ReadAnswer.{ReadAnswer}
 use Rattle.board_reader.specs.Reading.{wanted, nameAt, toldReadAnswer}
 use Rattle.board_reader.specs.Steps.{foundAt, placeOf}
-use Rattle.number.proofs.OutcomeLaws.{given-injective, handed, passed}
+use Rattle.refusals.proofs.OutcomeLaws.{given-injective, handed, passed}
 
 module _ (ok : ℕ → Bool) (n : ℕ) (s : List ℕ) (at : ℕ) where
   pub wanted-refused : (k p : ℕ) → numberAt s at ≡ refused k p → wanted ok n s at ≡ refused k p

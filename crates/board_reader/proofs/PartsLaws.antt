@@ -6,8 +6,8 @@ use mathlib.Core.Path.{_≡_, refl, sym, ap, _∙_}
 use mathlib.Core.Bool.{true, false}
 use mathlib.Core.List.{List, [], _∷_, _++_, append-nil, append-assoc}
 use lib.ListN.{length, set, replicate, length-append}
-use Rattle.number.specs.Outcomes.{Outcome, given, refused, Found, found, _>>=_}
-use Rattle.number.specs.Refusals.{windingLacking}
+use Rattle.refusals.specs.Outcomes.{Outcome, given, refused, Found, found, _>>=_}
+use Rattle.refusals.specs.Refusals.{windingLacking}
 use Rattle.windings.specs.declared.WoundSoFar.{WoundSoFar}
 use Rattle.windings.specs.Windings.{noneWound, gained, complete}
 use Rattle.board.specs.declared.Counts.{Counts}
@@ -20,7 +20,7 @@ use Rattle.board_reader.specs.Steps.{foundAt}
 use Rattle.board_reader.specs.declared.ReadAnswer.{ReadAnswer}
 use Rattle.board_reader.specs.declared.ReadAnswer.the-variants.{Read, Refused}
 use Rattle.board_reader.specs.declared.BoardRead.{BoardRead}
-use Rattle.number.specs.declared.Refusal.{Refusal}
+use Rattle.refusals.specs.declared.Refusal.{Refusal}
 
 -- parts that were read before those of an outcome
 abbrev readAfter : List Part → Outcome (Found (List Part)) → Outcome (Found (List Part))

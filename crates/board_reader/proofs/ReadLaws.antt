@@ -5,14 +5,14 @@ use mathlib.Core.List.{List}
 use lib.Dec.{leb}
 use lib.ListN.{length}
 use borrow.Author.Tests.{le-leb, lt-leb}
-use Rattle.number.specs.Outcomes.{Outcome, given, refused, Found, found, _>>_, unless}
-use Rattle.number.specs.Refusals.{inputTooLong}
+use Rattle.refusals.specs.Outcomes.{Outcome, given, refused, Found, found, _>>_, unless}
+use Rattle.refusals.specs.Refusals.{inputTooLong}
 use Rattle.windings.specs.Windings.{noneWound}
 use Rattle.board.specs.declared.Counts.{Counts}
 use Rattle.board.specs.declared.Board.{Board}
 use Rattle.board.specs.Parts.{emptyBoard}
 use Rattle.board_reader.specs.Reading.{countsAt, partsAt, boardFrom, boardAt, longestInput, answered, reading}
-use Rattle.number.proofs.OutcomeLaws.{refused-never}
+use Rattle.refusals.proofs.OutcomeLaws.{refused-never}
 
 module _ (s : List ℕ) where
   pub reading-long : longestInput < length s → answered (refused inputTooLong 0) ≡ reading s

@@ -1,6 +1,6 @@
 -- Answers and what they tell: each can be had from the other.
 use mathlib.Core.Path.{_≡_, refl}
-use Rattle.number.proofs.Told.{Told, answerOf, given-or-refused, beside-told}
+use Rattle.refusals.proofs.Told.{Told, answerOf, given-or-refused, beside-told}
 use Rattle.board_reader.specs.declared.ReadAnswer.{ReadAnswer}
 use Rattle.board_reader.specs.declared.ReadAnswer.the-variants.{Read, Refused}
 use Rattle.board_reader.specs.Reading.{toldReadAnswer, toldBoardRead}

@@ -20,9 +20,9 @@ use mathlib.Core.Bool.{Bool, cond}
 use mathlib.Core.List.{List, [], _∷_}
 use lib.Dec.{ltb, leb, eqb}
 use lib.ListN.{length}
-use Rattle.number.specs.Outcomes.{Outcome, given, refused, Found, found, _>>=_, _>>_, unless}
-use Rattle.number.specs.Refusals.{outOfRange, noSuchKind, noSuchTerminal, endsEqual, noSuchName, windingTaken}
-use Rattle.number.specs.Refusals.{windingLacking, inputTooLong}
+use Rattle.refusals.specs.Outcomes.{Outcome, given, refused, Found, found, _>>=_, _>>_, unless}
+use Rattle.refusals.specs.Refusals.{outOfRange, noSuchKind, noSuchTerminal, endsEqual, noSuchName, windingTaken}
+use Rattle.refusals.specs.Refusals.{windingLacking, inputTooLong}
 use Rattle.number.specs.Numbers.{numberAt}
 use Rattle.windings.specs.declared.WoundSoFar.{WoundSoFar}
 use Rattle.kinds.specs.Kinds.{kindOf, lastKind}

@@ -4,7 +4,7 @@
 --     placeOf o                       where a thing that was read ends
 --     toldPartRead, toldCountsRead    what was read of a part, and of the counts, as an outcome
 use Prim.Native.Nat.{ℕ}
-use Rattle.number.specs.Outcomes.{Outcome, given, refused, Found, found}
+use Rattle.refusals.specs.Outcomes.{Outcome, given, refused, Found, found}
 use Rattle.board.specs.declared.Part.{Part}
 use Rattle.board.specs.declared.Counts.{Counts}
 use Rattle.board_reader.specs.Reading.{toldReadAnswer}

@@ -5,7 +5,7 @@ use board::Counts;
 use number::Number;
 ghost use mathlib.Core.Path.{_≡_};
 ghost use Rattle.number.specs.Numbers.{toldNumber};
-ghost use Rattle.number.specs.Refusals.{outOfRange};
+ghost use Rattle.refusals.specs.Refusals.{outOfRange};
 ghost use Rattle.board_reader.specs.Reading.{wanted, countsAt, toldReadAnswer};
 ghost use Rattle.board_reader.specs.Steps.{placeOf, toldCountsRead};
 ghost use Rattle.board.specs.Rules.{inRange};
@@ -36,7 +36,7 @@ fn no_counts(number: Number) -> CountsRead
 fn read_count(s: &[u8], at: usize, low: u32, high: u32) -> Number
     ensures { λ r. ⌜ toldNumber r ≡ wanted (inRange low high) outOfRange (now (s .entry)) at ⌝ }
 {
-    fields::read_within(s, at, low, high, number::OUT_OF_RANGE)
+    fields::read_within(s, at, low, high, refusals::OUT_OF_RANGE)
 }
 
 // T, R, B and C at the start of the input.

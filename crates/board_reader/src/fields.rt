@@ -1,11 +1,11 @@
 // Reading one number of a board file: its form first, then its meaning.
 use crate::ReadAnswer;
 use number::Number;
-use number::Refusal;
+use refusals::Refusal;
 ghost use mathlib.Core.Path.{_≡_};
 ghost use lib.Dec.{ltb};
 ghost use Rattle.number.specs.Numbers.{toldNumber};
-ghost use Rattle.number.specs.Outcomes.{refused};
+ghost use Rattle.refusals.specs.Outcomes.{refused};
 ghost use Rattle.board.specs.Rules.{inRange};
 ghost use Rattle.board_reader.specs.Reading.{wanted, toldReadAnswer};
 ghost use Rattle.board_reader.specs.Steps.{placeOf};

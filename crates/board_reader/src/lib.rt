@@ -7,7 +7,7 @@ mod fields;
 mod parts;
 
 use board::Board;
-use number::Refusal;
+use refusals::Refusal;
 
 // The longest input that is read.
 pub const LONGEST_INPUT: usize = 65_536;
@@ -29,7 +29,7 @@ pub fn read(s: &[u8]) -> BoardRead
     ensures { λ r. ⌜ Reads (now (s .entry)) r ⌝ }
 {
     if LONGEST_INPUT < s.len() {
-        return parts::no_board(fields::refuse(number::INPUT_TOO_LONG, 0));
+        return parts::no_board(fields::refuse(refusals::INPUT_TOO_LONG, 0));
     }
     let counts_read = counts::read_counts(s);
     let answer = counts_read.answer;

@@ -11,7 +11,7 @@ use windings::WoundSoFar;
 ghost use mathlib.Core.Path.{_≡_};
 ghost use Prim.Native.Nat.{_≤_};
 ghost use Rattle.number.specs.Numbers.{toldNumber};
-ghost use Rattle.number.specs.Refusals.{noSuchTerminal};
+ghost use Rattle.refusals.specs.Refusals.{noSuchTerminal};
 ghost use Rattle.windings.specs.Windings.{noneWound};
 ghost use Rattle.board.specs.Parts.{mostParts, emptyBoard};
 ghost use Rattle.board.specs.Rules.{terminalFine};
@@ -53,7 +53,7 @@ fn read_terminal(s: &[u8], at: usize, counts: Counts) -> Number
     ensures { λ r. ⌜ toldNumber r ≡ wanted (terminalFine counts) noSuchTerminal (now (s .entry)) at ⌝ }
 {
     let limit = bits::wide(counts.terminals);
-    fields::read_below(s, at, limit, number::NO_SUCH_TERMINAL)
+    fields::read_below(s, at, limit, refusals::NO_SUCH_TERMINAL)
 }
 
 // The relay or button of a part of this kind number, refused by 7 unless it is there; a wire has none.
@@ -64,14 +64,14 @@ fn read_name(s: &[u8], at: usize, counts: Counts, kind: u32) -> Number
         return Number::Read(0, at);
     }
     let limit = bits::wide(board::limit(counts, kind));
-    fields::read_below(s, at, limit, number::NO_SUCH_NAME)
+    fields::read_below(s, at, limit, refusals::NO_SUCH_NAME)
 }
 
 // The part at a place, after parts that gave these windings.
 fn read_part(s: &[u8], at: usize, counts: Counts, windings: WoundSoFar) -> PartRead
     ensures { λ r. ⌜ toldPartRead r ≡ partAt counts windings (now (s .entry)) at ⌝ }
 {
-    let kind_read = fields::read_within(s, at, 0, kinds::LAST_KIND, number::NO_SUCH_KIND);
+    let kind_read = fields::read_within(s, at, 0, kinds::LAST_KIND, refusals::NO_SUCH_KIND);
     let Number::Read(kind_number, a_at) = kind_read else {
         return no_field(kind_read);
     };
@@ -84,7 +84,7 @@ fn read_part(s: &[u8], at: usize, counts: Counts, windings: WoundSoFar) -> PartR
         return no_field(b_read);
     };
     if a == b {
-        return no_part(fields::refuse(number::ENDS_EQUAL, b_at));
+        return no_part(fields::refuse(refusals::ENDS_EQUAL, b_at));
     }
     let name_read = read_name(s, name_at, counts, kind_number);
     let Number::Read(name, next) = name_read else {
@@ -92,7 +92,7 @@ fn read_part(s: &[u8], at: usize, counts: Counts, windings: WoundSoFar) -> PartR
     };
     let kind = Kind::of(kind_number, name as u8);
     if !windings.free(kind) {
-        return no_part(fields::refuse(number::WINDING_TAKEN, name_at));
+        return no_part(fields::refuse(refusals::WINDING_TAKEN, name_at));
     }
     let part = Part {
         a: a as u8,
@@ -131,7 +131,7 @@ pub fn read_parts(s: &[u8], start: usize, counts: Counts) -> BoardRead
         i += 1;
     }
     if !windings.complete(counts.relays) {
-        return no_board(fields::refuse(number::WINDING_LACKING, at));
+        return no_board(fields::refuse(refusals::WINDING_LACKING, at));
     }
     BoardRead {
         board: Board { counts, parts },

@@ -8,10 +8,10 @@ use borrow.Author.Tests.{ltb-true, leb-true, leb-false}
 use lib.Dec.{eqb, ltb, leb}
 use lib.ListN.{length, take, drop, length-append, length-take}
 use lib.Seq.{take-all}
-use Rattle.number.proofs.OutcomeLaws.{given-injective, refused-never}
-use Rattle.number.proofs.Told.{Told, answerOf, given-or-refused}
-use Rattle.number.specs.Outcomes.{Outcome, given, refused}
-use Rattle.number.specs.Refusals.{brokenBoard, bufferTooShort}
+use Rattle.refusals.proofs.OutcomeLaws.{given-injective, refused-never}
+use Rattle.refusals.proofs.Told.{Told, answerOf, given-or-refused}
+use Rattle.refusals.specs.Outcomes.{Outcome, given, refused}
+use Rattle.refusals.specs.Refusals.{brokenBoard, bufferTooShort}
 use Rattle.number.specs.Numbers.{numberBytes}
 use Rattle.number.proofs.NumberLaws.{number-bytes-one, number-bytes-length-two}
 use Rattle.kinds.specs.declared.Kind.{Kind}

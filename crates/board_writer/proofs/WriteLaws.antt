@@ -9,15 +9,15 @@ use lib.Dec.{eqb}
 use lib.ListN.{length, getD, take, drop, length-append}
 use lib.Seq.{sets, length-sets}
 use borrow.Author.Tests.{le-leb, lt-leb, eq-eqb, ne-eqb}
-use Rattle.number.specs.declared.Refusal.{Refusal}
+use Rattle.refusals.specs.declared.Refusal.{Refusal}
 use Rattle.number.specs.declared.NumberWritten.{NumberWritten}
 use Rattle.number.specs.declared.NumberWritten.the-variants.{Next, Refused}
-use Rattle.number.specs.Outcomes.{Outcome, given, refused}
-use Rattle.number.specs.Refusals.{brokenBoard, bufferTooShort}
+use Rattle.refusals.specs.Outcomes.{Outcome, given, refused}
+use Rattle.refusals.specs.Refusals.{brokenBoard, bufferTooShort}
 use Rattle.number.specs.Numbers.{numberBytes, numberWriting, toldNumberWritten, largest}
 use Rattle.number.proofs.Buffers.{sets-append, sets-at-zero}
 use Rattle.number.proofs.NumberLaws.{number-written}
-use Rattle.number.proofs.OutcomeLaws.{given-injective, refused-never}
+use Rattle.refusals.proofs.OutcomeLaws.{given-injective, refused-never}
 use Rattle.kinds.specs.declared.Kind.{Kind}
 use Rattle.kinds.specs.Kinds.{kindNumber, nameOf}
 use Rattle.board.specs.declared.Part.{Part}

@@ -1,13 +1,13 @@
 // Writing a board file: into a lent buffer of any length the board's bytes, or a refusal with no byte written.
 ghost use mathlib.Core.Path.{_≡_};
-ghost use Rattle.number.specs.Outcomes.{refused};
+ghost use Rattle.refusals.specs.Outcomes.{refused};
 ghost use Rattle.board_writer.specs.Writing.{toldWritten, Writes};
 
 mod bytes;
 mod lengths;
 
 use board::Board;
-use number::Refusal;
+use refusals::Refusal;
 
 // No board's file is longer, so a buffer of this length is never refused by 16.
 pub const LONGEST_FILE: usize = 1029;
@@ -30,14 +30,14 @@ pub fn write(board: Board, out: &mut [u8]) -> Written
     ensures { λ r. ⌜ Writes board (now (out .entry)) r (now (out .exit)) ⌝ }
 {
     if !board::check(board) {
-        return refuse(number::BROKEN_BOARD);
+        return refuse(refusals::BROKEN_BOARD);
     }
     let counts = board.counts;
     let parts = board.parts;
     let count = counts.parts;
     let length = lengths::counts_length(counts) + lengths::parts_length(parts, count);
     if out.len() < length {
-        return refuse(number::BUFFER_TOO_SHORT);
+        return refuse(refusals::BUFFER_TOO_SHORT);
     }
     let at = bytes::write_counts(counts, out);
     bytes::write_parts(parts, count, out, at);

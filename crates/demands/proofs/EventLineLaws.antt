@@ -8,9 +8,9 @@ use mathlib.Core.List.{List, []}
 use lib.Dec.{ltb}
 use lib.ListN.{length, length-replicate}
 use borrow.Author.Tests.{le-leb, ltb-true}
-use Rattle.number.specs.Outcomes.{Outcome, given, refused}
-use Rattle.number.specs.Refusals.{noSuchName}
-use Rattle.number.proofs.OutcomeLaws.{refused-never, both-given, passed}
+use Rattle.refusals.specs.Outcomes.{Outcome, given, refused}
+use Rattle.refusals.specs.Refusals.{noSuchName}
+use Rattle.refusals.proofs.OutcomeLaws.{refused-never, both-given, passed}
 use Rattle.board.specs.declared.Board.{Board}
 use Rattle.state.specs.declared.State.{State}
 use Rattle.state.specs.States.{isPushed, withPushed, withReleased, stateFine, usable, left}

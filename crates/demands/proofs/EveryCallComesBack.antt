@@ -2,7 +2,7 @@
 use Prim.Native.Nat.{ℕ}
 use mathlib.Core.Path.{_≡_, sym, ap, _∙_}
 use mathlib.Core.List.{List}
-use Rattle.number.specs.Outcomes.{Outcome, given, refused, _>>_}
+use Rattle.refusals.specs.Outcomes.{Outcome, given, refused, _>>_}
 use Rattle.number.proofs.FormExactly.{form-exactly}
 use Rattle.board.specs.declared.Board.{Board}
 use Rattle.state.specs.declared.State.{State}
@@ -27,7 +27,7 @@ use Rattle.session.specs.Carried.{toldSession}
 use Rattle.session.specs.declared.Session.{Session}
 use Rattle.session.specs.declared.Handed as code-handed
 use Rattle.session.specs.HandingOut.{Handed, toldHandOut, toldHanded}
-use Rattle.number.proofs.Told.{told-injective}
+use Rattle.refusals.proofs.Told.{told-injective}
 use Rattle.session.proofs.ToldLaws.{session-told}
 use Rattle.demands.specs.EveryCallComesBack.{against, InOrder, AsLent, EveryCallComesBack}
 use Rattle.demands.specs.EveryCallComesBack.{wordOf}

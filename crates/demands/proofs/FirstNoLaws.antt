@@ -6,11 +6,11 @@ use mathlib.Core.List.{List, [], _∷_}
 use mathlib.Core.Option.{Option, none, some}
 use lib.Dec.{ltb, leb}
 use lib.ListN.{length}
-use Rattle.number.specs.Outcomes.{Outcome, given, refused, _>>_, unless}
-use Rattle.number.specs.Refusals.{badForm, noSuchName, noSuchWinding, alreadySo, logTooLong, brokenBoard}
-use Rattle.number.specs.Refusals.{bufferTooShort}
+use Rattle.refusals.specs.Outcomes.{Outcome, given, refused, _>>_, unless}
+use Rattle.refusals.specs.Refusals.{badForm, noSuchName, noSuchWinding, alreadySo, logTooLong, brokenBoard}
+use Rattle.refusals.specs.Refusals.{bufferTooShort}
 use Rattle.number.specs.Numbers.{largest, numberWriting}
-use Rattle.number.proofs.OutcomeLaws.{refused-never}
+use Rattle.refusals.proofs.OutcomeLaws.{refused-never}
 use Rattle.board.specs.declared.Board.{Board}
 use Rattle.board.specs.Parts.{partsOf}
 use Rattle.board.specs.Rules.{boardFine}

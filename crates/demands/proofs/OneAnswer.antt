@@ -4,8 +4,8 @@
 use Prim.Native.Nat.{ℕ}
 use mathlib.Core.Path.{_≡_, refl, sym, ap, _∙_}
 use mathlib.Core.List.{List}
-use Rattle.number.specs.Outcomes.{Outcome}
-use Rattle.number.proofs.Told.{Told, told-injective, ToldLent, told-lent-injective}
+use Rattle.refusals.specs.Outcomes.{Outcome}
+use Rattle.refusals.proofs.Told.{Told, told-injective, ToldLent, told-lent-injective}
 use Rattle.number.proofs.NumberLaws.{number-told, number-written-told}
 use Rattle.presses.proofs.PressLaws.{pressed-told}
 use Rattle.board_reader.proofs.ToldLaws.{board-read-told}

@@ -6,9 +6,9 @@ use mathlib.Core.List.{List, [], _∷_}
 use mathlib.Core.Option.{Option, none, some}
 use lib.Dec.{leb}
 use lib.ListN.{length}
-use Rattle.number.specs.Outcomes.{Outcome, given, refused, _>>_}
-use Rattle.number.specs.Refusals.{bufferTooShort}
-use Rattle.number.proofs.OutcomeLaws.{refused-never}
+use Rattle.refusals.specs.Outcomes.{Outcome, given, refused, _>>_}
+use Rattle.refusals.specs.Refusals.{bufferTooShort}
+use Rattle.refusals.proofs.OutcomeLaws.{refused-never}
 use Rattle.board.specs.declared.Board.{Board}
 use Rattle.state.specs.declared.State.{State}
 use Rattle.state.specs.States.{left}

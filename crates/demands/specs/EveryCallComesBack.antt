@@ -34,9 +34,9 @@ use mathlib.Core.List.{List, [], _∷_}
 use mathlib.Core.Option.{Option, none, some}
 use lib.Dec.{ltb, leb}
 use lib.ListN.{length}
-use Rattle.number.specs.Outcomes.{Outcome, given, refused}
-use Rattle.number.specs.Refusals.{badForm, noSuchName, noSuchWinding, alreadySo, logTooLong, stateBeyondBoard}
-use Rattle.number.specs.Refusals.{brokenBoard, bufferTooShort}
+use Rattle.refusals.specs.Outcomes.{Outcome, given, refused}
+use Rattle.refusals.specs.Refusals.{badForm, noSuchName, noSuchWinding, alreadySo, logTooLong, stateBeyondBoard}
+use Rattle.refusals.specs.Refusals.{brokenBoard, bufferTooShort}
 use Rattle.number.specs.declared.NumberWritten.{NumberWritten}
 use Rattle.number.specs.Numbers.{largest, numberBytes, toldNumberWritten, WritesNumber}
 use Rattle.number.specs.FormExactly.{FormExactly}

@@ -28,8 +28,8 @@ use mathlib.Core.List.{List, [], _∷_, _++_}
 use mathlib.Core.Option.{none, some}
 use lib.ListN.{length, replicate}
 use Rattle.lists.specs.Members.{All}
-use Rattle.number.specs.Outcomes.{Outcome, given, refused}
-use Rattle.number.specs.Refusals.{inputEnds, badForm, outOfRange}
+use Rattle.refusals.specs.Outcomes.{Outcome, given, refused}
+use Rattle.refusals.specs.Refusals.{inputEnds, badForm, outOfRange}
 use Rattle.kinds.specs.declared.Kind.{Kind}
 use Rattle.kinds.specs.declared.Kind.the-variants.{Wire, Lower, Button, Regular, Drawing, Dropping}
 use Rattle.board.specs.declared.Part.{Part}

@@ -1,6 +1,6 @@
 -- What is shown, and what it tells: each can be had from the other.
 use mathlib.Core.Path.{_≡_}
-use Rattle.number.proofs.Told.{Told}
+use Rattle.refusals.proofs.Told.{Told}
 use Rattle.lines.proofs.ToldLaws.{line-told}
 use Rattle.events.specs.declared.Shown as code
 use Rattle.events.specs.Events.{Shown, toldShown}

@@ -20,8 +20,8 @@ use mathlib.Core.Bool.{Bool, cond}
 use mathlib.Core.List.{List}
 use lib.Dec.{ltb, eqb}
 use lib.ListN.{replicate}
-use Rattle.number.specs.Outcomes.{Outcome, given, refused, Found}
-use Rattle.number.specs.Refusals.{noSuchName}
+use Rattle.refusals.specs.Outcomes.{Outcome, given, refused, Found}
+use Rattle.refusals.specs.Refusals.{noSuchName}
 use Rattle.board.specs.declared.Board.{Board}
 use Rattle.state.specs.declared.State.{State}
 use Rattle.presses.specs.Presses.{pushing, releasing}

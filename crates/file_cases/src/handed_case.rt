@@ -14,8 +14,8 @@ use state::State;
 ghost use Prim.Native.Nat.{_≤_};
 ghost use mathlib.Core.Path.{_≡_};
 ghost use lib.ListN.{length};
-ghost use Rattle.number.specs.Outcomes.{refused};
-ghost use Rattle.number.specs.Refusals.{bufferTooShort};
+ghost use Rattle.refusals.specs.Outcomes.{refused};
+ghost use Rattle.refusals.specs.Refusals.{bufferTooShort};
 ghost use Rattle.board_writer.specs.File.{longestFile};
 ghost use Rattle.board_writer.specs.Writing.{toldWritten};
 

@@ -1,7 +1,7 @@
 // Words, numbers and refusals on standard output.
 use board_writer::Written;
 use libc::STDOUT_FILENO;
-use number::Refusal;
+use refusals::Refusal;
 
 // Prints some words.
 pub fn words(text: &[u8]) {

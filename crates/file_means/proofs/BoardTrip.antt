@@ -7,8 +7,8 @@ use mathlib.Core.Bool.{true}
 use mathlib.Core.List.{List, [], _∷_, _++_}
 use lib.ListN.{length}
 use lib.Seq.{length-take-le}
-use Rattle.number.specs.Outcomes.{Found, found}
-use Rattle.number.specs.Refusals.{outOfRange, windingLacking}
+use Rattle.refusals.specs.Outcomes.{Found, found}
+use Rattle.refusals.specs.Refusals.{outOfRange, windingLacking}
 use Rattle.number.specs.Numbers.{numberBytes, Bytes}
 use Rattle.windings.specs.declared.WoundSoFar.{WoundSoFar}
 use Rattle.windings.specs.Windings.{noneWound, gained, complete}

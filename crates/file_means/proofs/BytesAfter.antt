@@ -6,7 +6,7 @@ use mathlib.Core.Path.{_≡_, refl, sym, ap, _∙_}
 use mathlib.Core.List.{List}
 use lib.ListN.{length, take}
 use lib.Seq.{take-take}
-use Rattle.number.specs.Outcomes.{Outcome}
+use Rattle.refusals.specs.Outcomes.{Outcome}
 use Rattle.number.proofs.NumberLaws.{number-next-within, number-looks-no-further}
 use Rattle.board.specs.declared.Board.{Board}
 use Rattle.board.specs.Parts.{partsOf}

@@ -7,9 +7,9 @@ use mathlib.Core.List.{List}
 use lib.Dec.{leb}
 use lib.ListN.{length}
 use borrow.Author.Tests.{leb-true, leb-false, le-leb, lt-leb}
-use Rattle.number.specs.Outcomes.{Outcome, given, refused, Found, found, _>>_, unless}
-use Rattle.number.specs.Refusals.{inputTooLong}
-use Rattle.number.proofs.OutcomeLaws.{refused-never, given-injective}
+use Rattle.refusals.specs.Outcomes.{Outcome, given, refused, Found, found, _>>_, unless}
+use Rattle.refusals.specs.Refusals.{inputTooLong}
+use Rattle.refusals.proofs.OutcomeLaws.{refused-never, given-injective}
 use Rattle.board.specs.declared.Board.{Board}
 use Rattle.board.specs.declared.Counts.{Counts}
 use Rattle.board.specs.declared.Part.{Part}

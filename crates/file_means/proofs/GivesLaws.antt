@@ -5,7 +5,7 @@ use Prim.Native.Nat.{ℕ}
 use mathlib.Core.Path.{_≡_, refl}
 use mathlib.Core.Bool.{Bool, true, false}
 use mathlib.Core.List.{List}
-use Rattle.number.specs.Outcomes.{Outcome, given, refused, Found, _>>=_, _>>_, unless}
+use Rattle.refusals.specs.Outcomes.{Outcome, given, refused, Found, _>>=_, _>>_, unless}
 use Rattle.number.specs.Numbers.{numberAt}
 use Rattle.board_reader.specs.Reading.{wanted}
 

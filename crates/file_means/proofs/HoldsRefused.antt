@@ -10,9 +10,9 @@ use lib.Dec.{ltb}
 use lib.ListN.{length}
 use borrow.Author.Tests.{le-ltb}
 use Rattle.bits.proofs.BoolLaws.{by-test}
-use Rattle.number.specs.Outcomes.{refused}
-use Rattle.number.specs.Refusals.{outOfRange, noSuchKind, noSuchTerminal, endsEqual, noSuchName, windingTaken}
-use Rattle.number.specs.Refusals.{windingLacking}
+use Rattle.refusals.specs.Outcomes.{refused}
+use Rattle.refusals.specs.Refusals.{outOfRange, noSuchKind, noSuchTerminal, endsEqual, noSuchName, windingTaken}
+use Rattle.refusals.specs.Refusals.{windingLacking}
 use Rattle.number.specs.Numbers.{numberAt}
 use Rattle.kinds.specs.Kinds.{buttonKind, lastKind}
 use Rattle.windings.specs.declared.WoundSoFar.{WoundSoFar}

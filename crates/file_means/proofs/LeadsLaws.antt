@@ -4,7 +4,7 @@
 use Prim.Native.Nat.{ℕ}
 use mathlib.Core.Path.{_≡_, refl}
 use mathlib.Core.Bool.{Bool, true, false}
-use Rattle.number.specs.Outcomes.{Outcome, given, refused, _>>=_, _>>_, unless}
+use Rattle.refusals.specs.Outcomes.{Outcome, given, refused, _>>=_, _>>_, unless}
 
 abbrev pub Leads : {A : Type 0} → (ℕ → ℕ → Type 0) → (A → Type 0) → Outcome A → Type 0
 Leads P Q (given a) = Q a

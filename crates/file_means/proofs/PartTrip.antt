@@ -8,8 +8,8 @@ use mathlib.Core.List.{List, [], _++_}
 use lib.Dec.{ltb, eqb}
 use lib.ListN.{length}
 use borrow.Author.Tests.{ltb-true, eqb-true, eqb-false, not-true}
-use Rattle.number.specs.Outcomes.{Found, found}
-use Rattle.number.specs.Refusals.{noSuchKind, noSuchTerminal, endsEqual, noSuchName, windingTaken}
+use Rattle.refusals.specs.Outcomes.{Found, found}
+use Rattle.refusals.specs.Refusals.{noSuchKind, noSuchTerminal, endsEqual, noSuchName, windingTaken}
 use Rattle.number.specs.Numbers.{numberBytes, Bytes}
 use Rattle.kinds.specs.declared.Kind.{Kind}
 use Rattle.windings.specs.declared.WoundSoFar.{WoundSoFar}

@@ -15,8 +15,8 @@ use mathlib.Core.List.{List, [], _∷_, _++_, append-nil, append-assoc}
 use lib.Dec.{ltb}
 use lib.ListN.{length, length-append}
 use borrow.Author.Tests.{lt-ltb, ne-eqb}
-use Rattle.number.specs.Outcomes.{Outcome, given, refused, Found, found, _>>=_}
-use Rattle.number.specs.Refusals.{outOfRange, noSuchKind, noSuchTerminal, noSuchName}
+use Rattle.refusals.specs.Outcomes.{Outcome, given, refused, Found, found, _>>=_}
+use Rattle.refusals.specs.Refusals.{outOfRange, noSuchKind, noSuchTerminal, noSuchName}
 use Rattle.kinds.specs.Kinds.{buttonKind, lastKind, kindOf}
 use Rattle.windings.specs.declared.WoundSoFar.{WoundSoFar}
 use Rattle.windings.specs.Windings.{noneWound, windingFree, gained, wound, every, complete}

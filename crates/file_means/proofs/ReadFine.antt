@@ -4,8 +4,8 @@ use Prim.Native.Nat.{ℕ}
 use mathlib.Core.List.{List}
 use lib.Dec.{leb}
 use lib.ListN.{length}
-use Rattle.number.specs.Outcomes.{Outcome, given, refused, Found}
-use Rattle.number.specs.Refusals.{inputTooLong}
+use Rattle.refusals.specs.Outcomes.{Outcome, given, refused, Found}
+use Rattle.refusals.specs.Refusals.{inputTooLong}
 use Rattle.board.specs.declared.Board.{Board}
 use Rattle.board_reader.specs.Reading.{longestInput, boardAt, answered, reading}
 use Rattle.file_means.proofs.GivesLaws.{Gives, gives-unless}

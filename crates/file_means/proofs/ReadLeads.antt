@@ -10,9 +10,9 @@ use lib.Dec.{ltb}
 use lib.ListN.{length, length-append}
 use borrow.Author.Tests.{ltb-true, ltb-false, le-leb, leb-false, eqb-true, eqb-false, ne-eqb, not-false, not-true}
 use Rattle.bits.proofs.BoolLaws.{by-less}
-use Rattle.number.specs.Outcomes.{Outcome, given, refused, Found, found, _>>=_, _>>_, unless}
-use Rattle.number.specs.Refusals.{inputEnds, badForm, outOfRange, noSuchKind, noSuchTerminal, endsEqual, noSuchName}
-use Rattle.number.specs.Refusals.{windingTaken, windingLacking}
+use Rattle.refusals.specs.Outcomes.{Outcome, given, refused, Found, found, _>>=_, _>>_, unless}
+use Rattle.refusals.specs.Refusals.{inputEnds, badForm, outOfRange, noSuchKind, noSuchTerminal, endsEqual, noSuchName}
+use Rattle.refusals.specs.Refusals.{windingTaken, windingLacking}
 use Rattle.number.specs.Numbers.{numberAt}
 use Rattle.number.proofs.NumberLaws.{number-refusal}
 use Rattle.kinds.specs.Kinds.{buttonKind, lastKind, kindOf}

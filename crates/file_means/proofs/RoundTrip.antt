@@ -7,7 +7,7 @@ use mathlib.Core.List.{List, _++_}
 use lib.ListN.{length, take, drop, length-append}
 use lib.Seq.{take-at, drop-at, length-take-le}
 use borrow.Author.Tests.{le-leb}
-use Rattle.number.specs.Outcomes.{Outcome, given}
+use Rattle.refusals.specs.Outcomes.{Outcome, given}
 use Rattle.board.specs.declared.Board.{Board}
 use Rattle.board.specs.Parts.{mostParts, partsOf}
 use Rattle.board.specs.Rules.{boardFine, countsFine}

@@ -7,7 +7,7 @@ use mathlib.Core.Path.{_≡_, refl, sym, ap, _∙_}
 use mathlib.Core.Bool.{Bool, true}
 use mathlib.Core.List.{List, [], _++_, append-assoc}
 use lib.ListN.{length, drop, length-append}
-use Rattle.number.specs.Outcomes.{given, Found, found}
+use Rattle.refusals.specs.Outcomes.{given, Found, found}
 use Rattle.number.specs.Numbers.{numberAt, numberBytes, largest, Bytes}
 use Rattle.number.proofs.Buffers.{drop-past}
 use Rattle.number.proofs.NumberLaws.{number-written-read, number-read-written}

@@ -32,9 +32,9 @@ use mathlib.Core.Path.{_≡_}
 use mathlib.Core.Logic.{_⊎_, _↔_}
 use mathlib.Core.List.{List, [], _∷_, _++_}
 use lib.ListN.{length}
-use Rattle.number.specs.Outcomes.{refused, given, found}
-use Rattle.number.specs.Refusals.{inputEnds, badForm, outOfRange, noSuchKind, noSuchTerminal, endsEqual, noSuchName}
-use Rattle.number.specs.Refusals.{windingTaken, windingLacking, inputTooLong}
+use Rattle.refusals.specs.Outcomes.{refused, given, found}
+use Rattle.refusals.specs.Refusals.{inputEnds, badForm, outOfRange, noSuchKind, noSuchTerminal, endsEqual, noSuchName}
+use Rattle.refusals.specs.Refusals.{windingTaken, windingLacking, inputTooLong}
 use Rattle.number.specs.Numbers.{numberAt}
 use Rattle.kinds.specs.Kinds.{buttonKind, regularKind, drawingKind, droppingKind, lastKind, kindOf}
 use Rattle.kinds.specs.declared.Kind.the-variants.{Wire, Button}

@@ -13,7 +13,7 @@ use mathlib.Core.Path.{_≡_}
 use mathlib.Core.Bool.{true}
 use mathlib.Core.List.{List, _++_}
 use lib.ListN.{length, take, drop}
-use Rattle.number.specs.Outcomes.{given}
+use Rattle.refusals.specs.Outcomes.{given}
 use Rattle.number.specs.Numbers.{Bytes}
 use Rattle.board.specs.declared.Board.{Board}
 use Rattle.board.specs.Parts.{partsOf, mostParts}

@@ -5,9 +5,9 @@ use mathlib.Core.Path.{_≡_, refl, sym, ap, _∙_}
 use mathlib.Core.Bool.{true}
 use mathlib.Core.List.{List}
 use mathlib.Core.Option.{Option, none, some}
-use Rattle.number.specs.Outcomes.{Outcome, given, refused}
-use Rattle.number.specs.Refusals.{noSuchWinding}
-use Rattle.number.proofs.OutcomeLaws.{both-given}
+use Rattle.refusals.specs.Outcomes.{Outcome, given, refused}
+use Rattle.refusals.specs.Refusals.{noSuchWinding}
+use Rattle.refusals.proofs.OutcomeLaws.{both-given}
 use Rattle.board.specs.declared.Board.{Board}
 use Rattle.board.specs.Parts.{partsOf}
 use Rattle.board.specs.Rules.{boardFine}

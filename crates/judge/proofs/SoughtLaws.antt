@@ -9,10 +9,10 @@ use mathlib.Core.Option.{Option, none, some}
 use lib.Dec.{eqb}
 use lib.ListN.{length, getD, take, drop}
 use borrow.Author.Tests.{eq-eqb, ne-eqb}
-use Rattle.number.specs.Outcomes.{given, refused}
-use Rattle.number.specs.Refusals.{noSuchWinding}
-use Rattle.number.proofs.OutcomeLaws.{refused-never, given-injective}
-use Rattle.number.proofs.Told.{Told}
+use Rattle.refusals.specs.Outcomes.{given, refused}
+use Rattle.refusals.specs.Refusals.{noSuchWinding}
+use Rattle.refusals.proofs.OutcomeLaws.{refused-never, given-injective}
+use Rattle.refusals.proofs.Told.{Told}
 use Rattle.kinds.specs.declared.Kind.{Kind}
 use Rattle.kinds.specs.Kinds.{kindNumber, nameOf}
 use Rattle.board.specs.declared.Part.{Part}

@@ -7,7 +7,7 @@
 --                           answers v
 use Prim.Native.Nat.{ℕ}
 use mathlib.Core.Path.{_≡_}
-use Rattle.number.specs.Outcomes.{Outcome, given, refused, _>>=_, _>>_}
+use Rattle.refusals.specs.Outcomes.{Outcome, given, refused, _>>=_, _>>_}
 use Rattle.board.specs.declared.Board.{Board}
 use Rattle.board.specs.Parts.{partsOf}
 use Rattle.state.specs.declared.State.{State}

@@ -7,8 +7,8 @@ use mathlib.Core.Logic.{⊎-elim}
 use mathlib.Core.Bool.{Bool}
 use mathlib.Core.List.{List}
 use mathlib.Core.Option.{none, some, Option·none-ne-some, Option·some-injective}
-use Rattle.number.specs.Outcomes.{Outcome, given, refused}
-use Rattle.number.proofs.OutcomeLaws.{refused-never}
+use Rattle.refusals.specs.Outcomes.{Outcome, given, refused}
+use Rattle.refusals.proofs.OutcomeLaws.{refused-never}
 use Rattle.board.specs.declared.Board.{Board}
 use Rattle.state.specs.declared.State.{State}
 use Rattle.chains.specs.ChainList.{chains, shows}

@@ -13,7 +13,7 @@ use borrow.Author.Tests.{leb-true, leb-false}
 use Rattle.bits.proofs.BoolLaws.{by-test}
 use Rattle.lists.specs.Members.{_∈_, All}
 use Rattle.lists.proofs.MemberLaws.{append-member, all-member, all-map}
-use Rattle.number.specs.Outcomes.{given}
+use Rattle.refusals.specs.Outcomes.{given}
 use Rattle.board.specs.declared.Board.{Board}
 use Rattle.board.specs.Rules.{boardFine}
 use Rattle.board.proofs.FineLaws.{fine-range}

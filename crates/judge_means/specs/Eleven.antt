@@ -19,8 +19,8 @@ use mathlib.Core.Path.{_≡_}
 use mathlib.Core.Logic.{_⊎_, _↔_}
 use mathlib.Core.Bool.{true}
 use Rattle.lists.specs.Members.{_∈_}
-use Rattle.number.specs.Outcomes.{refused}
-use Rattle.number.specs.Refusals.{noSuchWinding}
+use Rattle.refusals.specs.Outcomes.{refused}
+use Rattle.refusals.specs.Refusals.{noSuchWinding}
 use Rattle.kinds.specs.declared.Kind.the-variants.{Regular, Drawing, Dropping}
 use Rattle.board.specs.declared.Part.{Part}
 use Rattle.board.specs.declared.Board.{Board}

@@ -37,7 +37,7 @@ use mathlib.Core.Bool.{true}
 use mathlib.Core.List.{List, [], _∷_, _++_}
 use lib.ListN.{length}
 use Rattle.lists.specs.Members.{_∈_, All, Once}
-use Rattle.number.specs.Outcomes.{given}
+use Rattle.refusals.specs.Outcomes.{given}
 use Rattle.board.specs.declared.Board.{Board}
 use Rattle.board.specs.Rules.{boardFine}
 use Rattle.state.specs.declared.State.{State}

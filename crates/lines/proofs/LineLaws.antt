@@ -11,9 +11,9 @@ use denote.Enum.Declared.{tagOf}
 use types.Run.{OneOf}
 use borrow.Author.Tests.{le-leb, lt-leb}
 use lib.ListN.{length, drop, length-append}
-use Rattle.number.specs.declared.Refusal.{Refusal}
-use Rattle.number.specs.Outcomes.{Outcome, given, refused}
-use Rattle.number.specs.Refusals.{bufferTooShort}
+use Rattle.refusals.specs.declared.Refusal.{Refusal}
+use Rattle.refusals.specs.Outcomes.{Outcome, given, refused}
+use Rattle.refusals.specs.Refusals.{bufferTooShort}
 use Rattle.number.proofs.Buffers.{sets-at-zero}
 use Rattle.runs.specs.declared.Ending as code-ending
 use Rattle.runs.specs.declared.Ending.the-variants.{Idle, Spent, Undecided, Conflict, Refused}

@@ -1,6 +1,6 @@
 -- Lines, answers, and what they tell: each can be had from the other.
 use mathlib.Core.Path.{_≡_, refl}
-use Rattle.number.proofs.Told.{Told, answerOf, given-or-refused}
+use Rattle.refusals.proofs.Told.{Told, answerOf, given-or-refused}
 use Rattle.runs.proofs.RunningLaws.{ending-told}
 use Rattle.lines.specs.declared.Line as code
 use Rattle.lines.specs.declared.Line.the-variants.{Event, Closing}

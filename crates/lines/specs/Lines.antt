@@ -19,8 +19,8 @@ use mathlib.Core.Bool.{cond}
 use mathlib.Core.List.{List, _++_}
 use lib.Dec.{leb}
 use lib.ListN.{length, drop}
-use Rattle.number.specs.Outcomes.{Outcome, given, refused}
-use Rattle.number.specs.Refusals.{bufferTooShort}
+use Rattle.refusals.specs.Outcomes.{Outcome, given, refused}
+use Rattle.refusals.specs.Refusals.{bufferTooShort}
 use Rattle.runs.specs.Looks.{Ending}
 use Rattle.runs.specs.Running.{toldEnding}
 use Rattle.lines.specs.declared.Line as code

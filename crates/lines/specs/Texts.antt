@@ -12,7 +12,7 @@ use Prim.Native.Nat.{ℕ, zero, suc, _+_, _-_, _*_, _/_, _%_}
 use mathlib.Core.Bool.{cond}
 use mathlib.Core.List.{List, [], _∷_, _++_}
 use lib.Dec.{ltb}
-use Rattle.number.specs.Outcomes.{Outcome, given, refused}
+use Rattle.refusals.specs.Outcomes.{Outcome, given, refused}
 use Rattle.runs.specs.Looks.{Ending, idle, spent, undecided, conflict}
 
 abbrev pub space : ℕ

@@ -1,7 +1,7 @@
 // The lines that a session prints, as text in a lent buffer.
 ghost use Rattle.lines.specs.Lines.{WritesLine};
-use number::BUFFER_TOO_SHORT;
-use number::Refusal;
+use refusals::BUFFER_TOO_SHORT;
+use refusals::Refusal;
 use runs::Ending;
 
 mod text;

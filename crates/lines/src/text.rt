@@ -5,7 +5,7 @@ ghost use Rattle.runs.specs.Running.{toldEnding};
 ghost use Rattle.lines.specs.Texts.{decimal, mostDigits, spaced, wordText};
 ghost use Rattle.lines.specs.Lines.{event, closing, lineText, longestLine};
 ghost use Rattle.lines.specs.Pieces.{Put, endedBy};
-use number::Refusal;
+use refusals::Refusal;
 use runs::Ending;
 
 const SPACE: u8 = 32;

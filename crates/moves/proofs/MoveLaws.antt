@@ -3,7 +3,7 @@
 use mathlib.Core.Path.{_≡_, refl, sym, _∙_}
 use mathlib.Core.Logic.{_⊎_, inl, inr}
 use mathlib.Core.Bool.{Bool, true, false, cond, _&&_, _||_}
-use Rattle.number.specs.Outcomes.{Outcome, given, refused}
+use Rattle.refusals.specs.Outcomes.{Outcome, given, refused}
 use Rattle.search.specs.Verdicts as verdict
 use Rattle.moves.specs.Steps.{drew, dropped, rests, undecided, conflict, isLive, isUndecided, isMissing}
 use Rattle.moves.specs.Steps.{regularMove, steelMove, moveBy}

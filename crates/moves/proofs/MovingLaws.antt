@@ -5,10 +5,10 @@ use mathlib.Core.Path.{_≡_, refl, ap}
 use mathlib.Core.Bool.{true}
 use lib.Dec.{ltb}
 use borrow.Author.Tests.{lt-ltb, le-ltb, ltb-true}
-use Rattle.number.specs.Outcomes.{given, refused}
-use Rattle.number.specs.Refusals.{noSuchWinding}
-use Rattle.number.proofs.OutcomeLaws.{both-given, asked}
-use Rattle.number.proofs.Told.{Told, answerOf, given-or-refused, beside-told}
+use Rattle.refusals.specs.Outcomes.{given, refused}
+use Rattle.refusals.specs.Refusals.{noSuchWinding}
+use Rattle.refusals.proofs.OutcomeLaws.{both-given, asked}
+use Rattle.refusals.proofs.Told.{Told, answerOf, given-or-refused, beside-told}
 use Rattle.board.specs.declared.Board.{Board}
 use Rattle.board.specs.Rules.{boardFine}
 use Rattle.state.specs.declared.State.{State}

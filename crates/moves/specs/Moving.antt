@@ -9,8 +9,8 @@
 use Prim.Native.Nat.{ℕ}
 use mathlib.Core.Path.{_≡_}
 use lib.Dec.{ltb}
-use Rattle.number.specs.Outcomes.{Outcome, given, refused, _>>_, unless}
-use Rattle.number.specs.Refusals.{noSuchWinding}
+use Rattle.refusals.specs.Outcomes.{Outcome, given, refused, _>>_, unless}
+use Rattle.refusals.specs.Refusals.{noSuchWinding}
 use Rattle.board.specs.declared.Board.{Board}
 use Rattle.state.specs.declared.State.{State}
 use Rattle.state.specs.States.{usable, left}

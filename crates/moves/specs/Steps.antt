@@ -26,7 +26,7 @@ use Prim.Native.Nat.{ℕ}
 use mathlib.Core.Path.{_≡_}
 use mathlib.Core.Bool.{Bool, true, false, not, cond, _&&_, _||_}
 use mathlib.Core.List.{List}
-use Rattle.number.specs.Outcomes.{Outcome, given, refused, _>>=_}
+use Rattle.refusals.specs.Outcomes.{Outcome, given, refused, _>>=_}
 use Rattle.board.specs.declared.Board.{Board}
 use Rattle.board.specs.Parts.{partsOf}
 use Rattle.state.specs.declared.State.{State}

@@ -1,7 +1,7 @@
 // Moves of a relay: what it does in a state, and the call that moves a named relay.
 ghost use mathlib.Core.Path.{_≡_};
 ghost use mathlib.Core.Bool.{_&&_, _||_, cond};
-ghost use Rattle.number.specs.Outcomes.{refused};
+ghost use Rattle.refusals.specs.Outcomes.{refused};
 ghost use Rattle.search.specs.Verdicts.{toldFinding};
 ghost use Rattle.moves.specs.Steps.{drew, dropped, rests, isLive, isUndecided, isMissing, toldMove, regularMove};
 ghost use Rattle.moves.specs.Steps.{steelMove, moveBy, findingOn, StepsRelay, AfterMove};
@@ -9,10 +9,10 @@ ghost use Rattle.moves.specs.Moving.{toldMoved, Moves};
 use board::Board;
 use judge::Sought;
 use judge::Which;
-use number::BROKEN_BOARD;
-use number::NO_SUCH_WINDING;
-use number::Refusal;
-use number::STATE_BEYOND_BOARD;
+use refusals::BROKEN_BOARD;
+use refusals::NO_SUCH_WINDING;
+use refusals::Refusal;
+use refusals::STATE_BEYOND_BOARD;
 use search::Finding;
 use state::State;
 

@@ -13,8 +13,8 @@ use mathlib.Core.Option.{Option, none, some}
 use lib.Dec.{leb}
 use borrow.Author.Tests.{leb-true, leb-false}
 use Rattle.bits.proofs.BoolLaws.{by-test}
-use Rattle.number.specs.Outcomes.{given, refused}
-use Rattle.number.specs.Refusals.{noSuchWinding}
+use Rattle.refusals.specs.Outcomes.{given, refused}
+use Rattle.refusals.specs.Refusals.{noSuchWinding}
 use Rattle.board.specs.declared.Board.{Board}
 use Rattle.board.specs.Parts.{partsOf}
 use Rattle.board.specs.Rules.{boardFine}

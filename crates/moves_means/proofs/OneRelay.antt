@@ -6,7 +6,7 @@ use mathlib.Core.Path.{_≡_, refl, sym, subst}
 use mathlib.Core.Logic.{inl, inr}
 use mathlib.Core.Bool.{true, false}
 use Rattle.bits.specs.Sets.{room}
-use Rattle.number.specs.Outcomes.{Outcome, given, refused}
+use Rattle.refusals.specs.Outcomes.{Outcome, given, refused}
 use Rattle.board.specs.declared.Board.{Board}
 use Rattle.board.proofs.FineLaws.{fine-range}
 use Rattle.state.specs.declared.State.{State}

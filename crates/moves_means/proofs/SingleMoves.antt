@@ -8,9 +8,9 @@ use mathlib.Core.Logic.{⊎-elim}
 use mathlib.Core.Bool.{Bool, true, false}
 use lib.Dec.{ltb}
 use borrow.Author.Tests.{ltb-false}
-use Rattle.number.specs.Outcomes.{Outcome, given, refused, unless}
-use Rattle.number.specs.Refusals.{noSuchWinding}
-use Rattle.number.proofs.OutcomeLaws.{refused-never, given-injective}
+use Rattle.refusals.specs.Outcomes.{Outcome, given, refused, unless}
+use Rattle.refusals.specs.Refusals.{noSuchWinding}
+use Rattle.refusals.proofs.OutcomeLaws.{refused-never, given-injective}
 use Rattle.board.specs.declared.Board.{Board}
 use Rattle.board.specs.Parts.{partsOf}
 use Rattle.board.specs.Rules.{boardFine}

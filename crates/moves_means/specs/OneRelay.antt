@@ -9,7 +9,7 @@
 use Prim.Native.Nat.{ℕ}
 use mathlib.Core.Path.{_≡_}
 use mathlib.Core.Bool.{true, false}
-use Rattle.number.specs.Outcomes.{Outcome, given, refused}
+use Rattle.refusals.specs.Outcomes.{Outcome, given, refused}
 use Rattle.board.specs.declared.Board.{Board}
 use Rattle.state.specs.declared.State.{State}
 use Rattle.state.specs.States.{isDrawn, isPushed}

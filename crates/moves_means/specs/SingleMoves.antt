@@ -12,8 +12,8 @@ use Prim.Native.Nat.{ℕ, _<_, _≤_}
 use mathlib.Core.Path.{_≡_}
 use mathlib.Core.Logic.{_↔_}
 use mathlib.Core.Bool.{true}
-use Rattle.number.specs.Outcomes.{given, refused}
-use Rattle.number.specs.Refusals.{noSuchWinding}
+use Rattle.refusals.specs.Outcomes.{given, refused}
+use Rattle.refusals.specs.Refusals.{noSuchWinding}
 use Rattle.board.specs.declared.Board.{Board}
 use Rattle.board.specs.Rules.{boardFine}
 use Rattle.state.specs.declared.State.{State}

@@ -10,7 +10,7 @@ use Rattle.lists.specs.Members.{All}
 use Rattle.bits.proofs.BoolLaws.{by-less}
 use Rattle.number.specs.declared.Form.{Form}
 use Rattle.number.specs.declared.Form.the-variants.{Got, Ends, Bad}
-use Rattle.number.specs.Outcomes.{Outcome, Found}
+use Rattle.refusals.specs.Outcomes.{Outcome, Found}
 use Rattle.number.specs.Numbers.{longest, largest, Bytes, below, form, placed, numberAt}
 use Rattle.number.specs.FormExactly.{TopBit, groups, NumberForm, whole, cut, too-long, not-shortest, FormExactly}
 use Rattle.number.proofs.FormLaws.{form-too-long, form-last, form-more, below-got, bytes-rest, Bytes-drop}

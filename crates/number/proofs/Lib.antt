@@ -4,5 +4,3 @@ pub mod FormLaws
 pub mod FormSteps
 pub mod NumberLaws
 pub mod FormExactly
-pub mod OutcomeLaws
-pub mod Told

@@ -19,12 +19,12 @@ use Rattle.number.specs.declared.NumberWritten.{NumberWritten}
 use Rattle.number.specs.declared.NumberWritten.the-variants.{Next}
 use Rattle.number.specs.declared.Form.{Form}
 use Rattle.number.specs.declared.Form.the-variants.{Got, Ends, Bad}
-use Rattle.number.specs.Outcomes.{Outcome, given, refused, Found, found}
-use Rattle.number.specs.Refusals.{inputEnds, badForm, bufferTooShort}
+use Rattle.refusals.specs.Outcomes.{Outcome, given, refused, Found, found}
+use Rattle.refusals.specs.Refusals.{inputEnds, badForm, bufferTooShort}
 use Rattle.number.specs.Numbers.{Bytes, form, placed, numberAt, encode, numberBytes, numberWriting, toldNumber}
 use Rattle.number.specs.Numbers.{toldNumberWritten, longest, largest}
-use Rattle.number.proofs.OutcomeLaws.{refused-never, given-injective}
-use Rattle.number.proofs.Told.{Told, answerOf, given-or-refused}
+use Rattle.refusals.proofs.OutcomeLaws.{refused-never, given-injective}
+use Rattle.refusals.proofs.Told.{Told, answerOf, given-or-refused}
 use Rattle.number.proofs.FormLaws.{FormRead, Bytes-slice, Bytes-drop, form-written, form-read, form-within}
 use Rattle.number.proofs.FormLaws.{form-no-further}
 use Rattle.number.proofs.Buffers.{take-drop}

@@ -20,8 +20,8 @@ use mathlib.Core.List.{List, [], _∷_, _++_}
 use lib.ListN.{length, drop}
 use Rattle.lists.specs.Members.{All}
 use Rattle.number.specs.declared.Number.{Number}
-use Rattle.number.specs.Outcomes.{Outcome, refused, Found, found}
-use Rattle.number.specs.Refusals.{inputEnds, badForm}
+use Rattle.refusals.specs.Outcomes.{Outcome, refused, Found, found}
+use Rattle.refusals.specs.Refusals.{inputEnds, badForm}
 use Rattle.number.specs.Numbers.{longest, Bytes, toldNumber, ReadsNumber}
 
 abbrev pub TopBit : ℕ → Type 0

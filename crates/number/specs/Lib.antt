@@ -1,5 +1,3 @@
 -- The definitions that the contracts cite, in reading order; then what they say of a number's form.
-pub mod Outcomes
-pub mod Refusals
 pub mod Numbers
 pub mod FormExactly

@@ -33,8 +33,8 @@ use Rattle.number.specs.declared.Number.{Number}
 use Rattle.number.specs.declared.Number.the-variants.{Read, Refused}
 use Rattle.number.specs.declared.NumberWritten.{NumberWritten}
 use Rattle.number.specs.declared.NumberWritten.the-variants.{Next}
-use Rattle.number.specs.Outcomes.{Outcome, refused, given, Found, found}
-use Rattle.number.specs.Refusals.{inputEnds, badForm, bufferTooShort}
+use Rattle.refusals.specs.Outcomes.{Outcome, refused, given, Found, found}
+use Rattle.refusals.specs.Refusals.{inputEnds, badForm, bufferTooShort}
 
 abbrev pub longest : ℕ
 longest = 3

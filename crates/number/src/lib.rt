@@ -1,49 +1,13 @@
-// The file's numbers: groups of seven bits, lowest group first, one byte a group, in the shortest form only. Also the
-// numbers for no, which every crate above answers with.
+// The file's numbers: groups of seven bits, lowest group first, one byte a group, in the shortest form only.
 ghost use mathlib.Core.Path.{_≡_};
 ghost use Prim.Native.Nat.{_+_, _≤_, _<_, _^_};
 ghost use lib.ListN.{length, drop};
 ghost use lib.Seq.{sets};
 ghost use Rattle.number.specs.Numbers.{longest, form, encode, ReadsNumber, NumberLength, WritesNumber};
-
-// The rule book's numbers for no, one for each line of its table.
-pub const INPUT_ENDS: u32 = 1;
-
-pub const BAD_FORM: u32 = 2;
-
-pub const OUT_OF_RANGE: u32 = 3;
-
-pub const NO_SUCH_KIND: u32 = 4;
-
-pub const NO_SUCH_TERMINAL: u32 = 5;
-
-pub const ENDS_EQUAL: u32 = 6;
-
-pub const NO_SUCH_NAME: u32 = 7;
-
-pub const WINDING_TAKEN: u32 = 8;
-
-pub const WINDING_LACKING: u32 = 9;
-
-pub const INPUT_TOO_LONG: u32 = 10;
-
-pub const NO_SUCH_WINDING: u32 = 11;
-
-pub const ALREADY_SO: u32 = 12;
-
-pub const LOG_TOO_LONG: u32 = 13;
-
-pub const STATE_BEYOND_BOARD: u32 = 14;
-
-pub const BROKEN_BOARD: u32 = 15;
-
-pub const BUFFER_TOO_SHORT: u32 = 16;
-
-// A refusal: its number and the place it speaks of.
-pub struct Refusal {
-    pub number: u32,
-    pub place: usize,
-}
+use refusals::BAD_FORM;
+use refusals::BUFFER_TOO_SHORT;
+use refusals::INPUT_ENDS;
+use refusals::Refusal;
 
 // What reading a number gives: its value and the next place, or the refusal.
 pub enum Number {

@@ -1,6 +1,6 @@
 // Words, numbers and refusals on standard output.
 use libc::STDOUT_FILENO;
-use number::Refusal;
+use refusals::Refusal;
 
 // Prints some words.
 pub fn words(text: &[u8]) {

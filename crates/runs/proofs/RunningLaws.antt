@@ -6,10 +6,10 @@ use mathlib.Core.Bool.{true}
 use mathlib.Core.List.{List, []}
 use lib.ListN.{length}
 use borrow.Author.Tests.{le-leb, lt-leb}
-use Rattle.number.specs.Outcomes.{Outcome, given, refused}
-use Rattle.number.specs.Refusals.{logTooLong}
-use Rattle.number.proofs.OutcomeLaws.{both-given}
-use Rattle.number.proofs.Told.{Told, ToldLent}
+use Rattle.refusals.specs.Outcomes.{Outcome, given, refused}
+use Rattle.refusals.specs.Refusals.{logTooLong}
+use Rattle.refusals.proofs.OutcomeLaws.{both-given}
+use Rattle.refusals.proofs.Told.{Told, ToldLent}
 use Rattle.board.specs.declared.Board.{Board}
 use Rattle.board.specs.Rules.{boardFine}
 use Rattle.state.specs.declared.State.{State}

@@ -19,8 +19,8 @@ use mathlib.Core.Path.{_≡_}
 use mathlib.Core.List.{List, _++_}
 use lib.Dec.{leb}
 use lib.ListN.{length, drop}
-use Rattle.number.specs.Outcomes.{Outcome, given, refused, _>>_, unless}
-use Rattle.number.specs.Refusals.{logTooLong}
+use Rattle.refusals.specs.Outcomes.{Outcome, given, refused, _>>_, unless}
+use Rattle.refusals.specs.Refusals.{logTooLong}
 use Rattle.board.specs.declared.Board.{Board}
 use Rattle.state.specs.declared.State.{State}
 use Rattle.state.specs.States.{usable}

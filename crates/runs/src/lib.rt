@@ -4,10 +4,10 @@ ghost use mathlib.Core.Path.{_≡_};
 ghost use mathlib.Core.List.{[]};
 ghost use Rattle.runs.specs.Running.{unrun, toldRan, Runs};
 use board::Board;
-use number::BROKEN_BOARD;
-use number::LOG_TOO_LONG;
-use number::Refusal;
-use number::STATE_BEYOND_BOARD;
+use refusals::BROKEN_BOARD;
+use refusals::LOG_TOO_LONG;
+use refusals::Refusal;
+use refusals::STATE_BEYOND_BOARD;
 use state::State;
 
 mod course;

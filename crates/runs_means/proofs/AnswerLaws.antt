@@ -4,13 +4,13 @@ use mathlib.Core.Path.{_≡_, sym, ap, _∙_}
 use mathlib.Core.List.{List, [], _++_}
 use lib.ListN.{length, take, drop}
 use lib.Seq.{take-append-seam}
-use Rattle.number.specs.Outcomes.{given}
+use Rattle.refusals.specs.Outcomes.{given}
 use Rattle.board.specs.declared.Board.{Board}
 use Rattle.state.specs.declared.State.{State}
 use Rattle.runs.specs.declared.Ran.{Ran}
 use Rattle.runs.specs.Runs.{Run}
 use Rattle.runs.specs.Running.{ran, runOn, toldEnding, toldRan, Runs}
-use Rattle.number.proofs.Told.{told-lent-injective}
+use Rattle.refusals.proofs.Told.{told-lent-injective}
 use Rattle.runs.proofs.RunningLaws.{running-by, ran-told}
 use Rattle.runs_means.specs.LongerRuns.{AcceptedRun, movesOf}
 

@@ -5,8 +5,8 @@ use mathlib.Core.Path.{_≡_, sym, ap, subst, _∙_}
 use mathlib.Core.List.{List}
 use lib.ListN.{length, drop}
 use lib.Seq.{drop-append-seam}
-use Rattle.number.specs.Outcomes.{given}
-use Rattle.number.proofs.OutcomeLaws.{given-injective}
+use Rattle.refusals.specs.Outcomes.{given}
+use Rattle.refusals.proofs.OutcomeLaws.{given-injective}
 use Rattle.board.specs.declared.Board.{Board}
 use Rattle.state.specs.declared.State.{State}
 use Rattle.moves.specs.Steps.{stepper}

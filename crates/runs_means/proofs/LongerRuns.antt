@@ -5,8 +5,8 @@ use mathlib.Core.Path.{_≡_, sym, ap, _∙_}
 use mathlib.Core.Logic.{inl, inr}
 use mathlib.Core.List.{List}
 use lib.ListN.{length}
-use Rattle.number.specs.Outcomes.{given}
-use Rattle.number.proofs.OutcomeLaws.{given-injective}
+use Rattle.refusals.specs.Outcomes.{given}
+use Rattle.refusals.proofs.OutcomeLaws.{given-injective}
 use Rattle.moves.specs.Steps.{stepper}
 use Rattle.moves.proofs.StepLaws.{step-larger}
 use Rattle.runs.specs.declared.Ran.{Ran}

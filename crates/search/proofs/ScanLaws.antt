@@ -10,7 +10,7 @@ use lib.ListN.{length, take, replicate}
 use lib.Seq.{length-take-le}
 use borrow.Author.Tests.{leb-true, leb-false, le-leb, lt-leb}
 use Rattle.bits.proofs.BoolLaws.{by-test}
-use Rattle.number.specs.Outcomes.{given}
+use Rattle.refusals.specs.Outcomes.{given}
 use Rattle.board.specs.Rules.{mostTerminals}
 use Rattle.search.specs.declared.walk.Scan as code-scan
 use Rattle.search.specs.declared.walk.Scan.the-variants.{Showing, ShowingNone, AllowanceSpent}

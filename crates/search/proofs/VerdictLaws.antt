@@ -13,8 +13,8 @@ use borrow.Author.Tests.{lt-ltb, le-ltb, le-leb, lt-leb, leb-true, leb-false}
 use Rattle.bits.proofs.BoolLaws.{by-test}
 use Rattle.lists.specs.Members.{_∈_, All}
 use Rattle.lists.proofs.MemberLaws.{all-member, member-append-right}
-use Rattle.number.specs.Outcomes.{Outcome, given, refused}
-use Rattle.number.proofs.Told.{Told, told-injective}
+use Rattle.refusals.specs.Outcomes.{Outcome, given, refused}
+use Rattle.refusals.proofs.Told.{Told, told-injective}
 use Rattle.board.specs.Rules.{mostTerminals}
 use Rattle.search.specs.declared.Winding.{Winding}
 use Rattle.search.specs.declared.Finding as code-finding

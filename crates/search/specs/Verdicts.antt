@@ -24,7 +24,7 @@ use mathlib.Core.List.{List, [], _∷_, _++_}
 use mathlib.Core.Option.{Option, none, some}
 use lib.Dec.{leb, ltb}
 use lib.ListN.{replicate}
-use Rattle.number.specs.Outcomes.{Outcome, given, refused}
+use Rattle.refusals.specs.Outcomes.{Outcome, given, refused}
 use Rattle.board.specs.Rules.{mostTerminals}
 use Rattle.neighbours.specs.Neighbours.{joined}
 use Rattle.chains.specs.ChainList.{chains, shows}

@@ -22,7 +22,7 @@ use mathlib.Core.Bool.{Bool, false, cond, _||_}
 use mathlib.Core.List.{List, [], _∷_, _++_}
 use lib.ListN.{length, take}
 use Rattle.bits.specs.Sets.{including}
-use Rattle.number.specs.Outcomes.{given}
+use Rattle.refusals.specs.Outcomes.{given}
 use Rattle.board.specs.Rules.{mostTerminals}
 use Rattle.neighbours.specs.Neighbours.{joined}
 use Rattle.chains.specs.Chains.{plus, ending}

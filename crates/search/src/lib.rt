@@ -2,7 +2,7 @@
 // the winding, none is left, or the allowance is spent.
 ghost use Rattle.search.specs.Verdicts.{Searches};
 use board::MOST_TERMINALS;
-use number::Refusal;
+use refusals::Refusal;
 
 mod chain;
 mod walk;

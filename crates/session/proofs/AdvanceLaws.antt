@@ -7,11 +7,11 @@ use mathlib.Core.List.{List}
 use lib.Dec.{leb}
 use lib.ListN.{length}
 use borrow.Author.Tests.{le-leb, lt-leb, lt-ltb, le-ltb}
-use Rattle.number.specs.declared.Refusal.{Refusal}
+use Rattle.refusals.specs.declared.Refusal.{Refusal}
 use Rattle.number.specs.declared.Number.{Number}
 use Rattle.number.specs.declared.Number.the-variants.{Read, Refused}
-use Rattle.number.specs.Outcomes.{refused, found}
-use Rattle.number.specs.Refusals.{noSuchName}
+use Rattle.refusals.specs.Outcomes.{refused, found}
+use Rattle.refusals.specs.Refusals.{noSuchName}
 use Rattle.number.specs.Numbers.{ReadsNumber}
 use Rattle.board_reader.specs.Reading.{longestInput}
 use Rattle.board_reader.proofs.FieldLaws.{wanted-refused, wanted-fails, wanted-passes, told-found, told-refused}

@@ -8,8 +8,8 @@ use mathlib.Core.List.{List}
 use lib.Dec.{leb}
 use lib.ListN.{length}
 use borrow.Author.Tests.{leb-true, leb-false}
-use Rattle.number.specs.Outcomes.{Outcome, given, refused, Found}
-use Rattle.number.specs.Refusals.{noSuchName}
+use Rattle.refusals.specs.Outcomes.{Outcome, given, refused, Found}
+use Rattle.refusals.specs.Refusals.{noSuchName}
 use Rattle.number.proofs.NumberLaws.{number-next-within}
 use Rattle.board_reader.proofs.FieldLaws.{wanted-found}
 use Rattle.board.specs.declared.Board.{Board}

@@ -9,9 +9,9 @@ use lib.ListN.{length, take, drop}
 use lib.Seq.{take-append-seam, drop-append-seam}
 use borrow.Author.Tests.{leb-true, leb-false}
 use Rattle.bits.proofs.BoolLaws.{by-test}
-use Rattle.number.specs.Outcomes.{given}
-use Rattle.number.specs.Refusals.{bufferTooShort}
-use Rattle.number.proofs.OutcomeLaws.{refused-never}
+use Rattle.refusals.specs.Outcomes.{given}
+use Rattle.refusals.specs.Refusals.{bufferTooShort}
+use Rattle.refusals.proofs.OutcomeLaws.{refused-never}
 use Rattle.lines.specs.Lines.{Line, lineText, longestLine}
 use Rattle.lines.proofs.LineLaws.{line-length-most}
 use Rattle.session.specs.declared.Session as code-session
@@ -23,7 +23,7 @@ use Rattle.session.specs.HandingOut.{toldHanded}
 use Rattle.session.proofs.ToCome.{Advances}
 use Rattle.session.proofs.AheadLaws.{next-less}
 use Rattle.session.proofs.NextLineLaws.{next-line-short, next-line-room}
-use Rattle.number.proofs.Told.{told-injective}
+use Rattle.refusals.proofs.Told.{told-injective}
 use Rattle.session.proofs.ToldLaws.{hand-out-told}
 
 pub over-never : (n : ℕ) → said.Over ≡ said.Written n → ⊥

@@ -13,8 +13,8 @@ use borrow.Rule.Slice.PartMut.{midOf, putMid}
 use denote.Enum.Declared.{tagOf}
 use types.Run.{OneOf}
 use Rattle.bits.proofs.BoolLaws.{by-test}
-use Rattle.number.specs.Outcomes.{Outcome, given, refused}
-use Rattle.number.specs.Refusals.{bufferTooShort}
+use Rattle.refusals.specs.Outcomes.{Outcome, given, refused}
+use Rattle.refusals.specs.Refusals.{bufferTooShort}
 use Rattle.lines.specs.Lines.{Line, lineText, longestLine}
 use Rattle.lines.proofs.LineLaws.{line-length-some, line-length-most}
 use Rattle.session.specs.declared.Handed as code-handed
@@ -27,7 +27,7 @@ use Rattle.session.specs.HandingOut.{toldHanded}
 use Rattle.session.specs.Filling.{fitsOn, fitting, filledBy, nextLines, behind, summed}
 use Rattle.session.proofs.NextLineLaws.{next-line-short, next-line-room}
 use Rattle.session.proofs.HandOut.{the-type}
-use Rattle.number.proofs.Told.{told-injective}
+use Rattle.refusals.proofs.Told.{told-injective}
 use Rattle.session.proofs.ToldLaws.{hand-out-told}
 use Rattle.session.proofs.CallLaws.{over-never}
 use Rattle.session.proofs.FitLaws.{bytesOf, bytes-append, bytes-one, fitting-short, fitting-next}

@@ -10,8 +10,8 @@ use lib.ListN.{length, take, drop}
 use lib.Seq.{take-at, drop-at}
 use borrow.Author.Tests.{leb-true, leb-false}
 use Rattle.bits.proofs.BoolLaws.{by-test}
-use Rattle.number.specs.Outcomes.{given}
-use Rattle.number.proofs.OutcomeLaws.{refused-never}
+use Rattle.refusals.specs.Outcomes.{given}
+use Rattle.refusals.proofs.OutcomeLaws.{refused-never}
 use Rattle.lines.specs.Lines.{Line, longestLine}
 use Rattle.session.specs.declared.Session as code-session
 use Rattle.session.specs.declared.Handed as code-handed
@@ -21,7 +21,7 @@ use Rattle.session.specs.HandingOut.{HandOut, written, nothing, Handed, 
 use Rattle.session.specs.Filling.{fitting, filledBy, NextLines}
 use Rattle.session.proofs.ToCome.{Advances}
 use Rattle.session.proofs.AheadLaws.{line-never, none-same}
-use Rattle.number.proofs.Told.{told-injective}
+use Rattle.refusals.proofs.Told.{told-injective}
 use Rattle.session.proofs.ToldLaws.{hand-out-told}
 use Rattle.session.proofs.FitLaws.{bytesOf, Full, fitting-next, fitting-within, fitting-full}
 use Rattle.session.proofs.FillLaws.{line-is, line-not-nothing, lines-short, lines-room}

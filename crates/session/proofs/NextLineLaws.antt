@@ -4,8 +4,8 @@ use mathlib.Core.Path.{_≡_, sym, ap, _∙_}
 use mathlib.Core.List.{List}
 use lib.ListN.{length}
 use borrow.Author.Tests.{le-leb, lt-leb}
-use Rattle.number.specs.Outcomes.{Outcome, refused}
-use Rattle.number.specs.Refusals.{bufferTooShort}
+use Rattle.refusals.specs.Outcomes.{Outcome, refused}
+use Rattle.refusals.specs.Refusals.{bufferTooShort}
 use Rattle.lines.specs.declared.Line.{Line}
 use Rattle.lines.specs.declared.LineWritten.{LineWritten}
 use Rattle.lines.specs.Lines.{longestLine, lineWriting, toldLine, toldLineWritten}

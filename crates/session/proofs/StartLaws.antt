@@ -2,10 +2,10 @@
 use Prim.Native.Nat.{ℕ}
 use mathlib.Core.Path.{_≡_, refl, sym, ap, _∙_}
 use mathlib.Core.List.{List}
-use Rattle.number.specs.declared.Refusal.{Refusal}
+use Rattle.refusals.specs.declared.Refusal.{Refusal}
 use Rattle.number.specs.declared.Number as number
 use Rattle.number.specs.declared.Number.the-variants as number-was
-use Rattle.number.specs.Outcomes.{Outcome, refused, _>>=_}
+use Rattle.refusals.specs.Outcomes.{Outcome, refused, _>>=_}
 use Rattle.number.specs.Numbers.{numberAt, toldNumber, ReadsNumber}
 use Rattle.board.specs.declared.Board.{Board}
 use Rattle.board.specs.Parts.{emptyBoard}

@@ -2,8 +2,8 @@
 use Prim.Native.Nat.{ℕ}
 use mathlib.Core.Path.{_≡_, refl}
 use mathlib.Core.List.{List}
-use Rattle.number.specs.Outcomes.{Outcome, given, refused}
-use Rattle.number.proofs.Told.{Told, ToldLent}
+use Rattle.refusals.specs.Outcomes.{Outcome, given, refused}
+use Rattle.refusals.proofs.Told.{Told, ToldLent}
 use Rattle.session.specs.declared.Stage.{Stage}
 use Rattle.session.specs.declared.Stage.the-variants as stage
 use Rattle.session.specs.declared.Session.{Session}

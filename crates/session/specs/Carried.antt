@@ -23,7 +23,7 @@ use mathlib.Core.Bool.{cond}
 use mathlib.Core.List.{List}
 use lib.Dec.{leb}
 use lib.ListN.{length}
-use Rattle.number.specs.Outcomes.{Outcome, given, refused, Found}
+use Rattle.refusals.specs.Outcomes.{Outcome, given, refused, Found}
 use Rattle.board.specs.declared.Board.{Board}
 use Rattle.board.specs.Parts.{emptyBoard}
 use Rattle.state.specs.declared.State.{State}

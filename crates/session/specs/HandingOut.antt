@@ -15,8 +15,8 @@ use mathlib.Core.Bool.{cond}
 use mathlib.Core.List.{List, _++_}
 use lib.Dec.{leb}
 use lib.ListN.{length, drop}
-use Rattle.number.specs.Outcomes.{Outcome, given, refused}
-use Rattle.number.specs.Refusals.{bufferTooShort}
+use Rattle.refusals.specs.Outcomes.{Outcome, given, refused}
+use Rattle.refusals.specs.Refusals.{bufferTooShort}
 use Rattle.lines.specs.Lines.{longestLine, lineText}
 use Rattle.session.specs.declared.Session as code-session
 use Rattle.session.specs.declared.HandOut as code-handout

@@ -18,7 +18,7 @@ use mathlib.Core.Bool.{cond}
 use mathlib.Core.List.{List, [], _∷_, _++_}
 use lib.Dec.{leb}
 use lib.ListN.{length}
-use Rattle.number.specs.Outcomes.{Outcome, given, refused, Found, found, _>>=_}
+use Rattle.refusals.specs.Outcomes.{Outcome, given, refused, Found, found, _>>=_}
 use Rattle.number.specs.Numbers.{numberAt}
 use Rattle.board.specs.declared.Board.{Board}
 use Rattle.state.specs.declared.State.{State}

@@ -10,8 +10,8 @@ use board_reader::ReadAnswer;
 use lines::LONGEST_LINE;
 use lines::LineWritten;
 use next::Coming;
-use number::BUFFER_TOO_SHORT;
-use number::Refusal;
+use refusals::BUFFER_TOO_SHORT;
+use refusals::Refusal;
 use state::State;
 
 mod fill;

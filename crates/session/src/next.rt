@@ -7,9 +7,9 @@ use crate::Stage;
 use board_reader::LONGEST_INPUT;
 use events::Shown;
 use lines::Line;
-use number::NO_SUCH_NAME;
 use number::Number;
-use number::Refusal;
+use refusals::NO_SUCH_NAME;
+use refusals::Refusal;
 
 // The next line, or that there is none.
 pub enum Coming {

@@ -1,6 +1,6 @@
 // How a session starts: with a board and an allowance, or with a refusal.
 ghost use mathlib.Core.Path.{_≡_};
-ghost use Rattle.number.specs.Outcomes.{refused};
+ghost use Rattle.refusals.specs.Outcomes.{refused};
 ghost use Rattle.number.specs.Numbers.{toldNumber};
 ghost use Rattle.session.specs.Sessions.{withAllowance};
 ghost use Rattle.session.specs.Carried.{begunFrom, toldSession};
@@ -8,7 +8,7 @@ use crate::Session;
 use crate::Stage;
 use board::Board;
 use number::Number;
-use number::Refusal;
+use refusals::Refusal;
 use state::State;
 
 // The session of a bad file: its one line is the refusal.

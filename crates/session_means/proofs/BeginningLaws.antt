@@ -7,10 +7,10 @@ use mathlib.Core.List.{List}
 use lib.Dec.{leb}
 use lib.ListN.{length}
 use borrow.Author.Tests.{leb-true, leb-false}
-use Rattle.number.specs.Outcomes.{Outcome, given, refused, Found}
-use Rattle.number.specs.Refusals.{inputTooLong}
+use Rattle.refusals.specs.Outcomes.{Outcome, given, refused, Found}
+use Rattle.refusals.specs.Refusals.{inputTooLong}
 use Rattle.number.specs.Numbers.{numberAt}
-use Rattle.number.proofs.OutcomeLaws.{refused-never, handed}
+use Rattle.refusals.proofs.OutcomeLaws.{refused-never, handed}
 use Rattle.board.specs.declared.Board.{Board}
 use Rattle.board_reader.specs.Reading.{longestInput, answered, reading}
 use Rattle.board_reader.proofs.ReadLaws.{reading-long}

@@ -7,15 +7,16 @@ use mathlib.Core.Bool.{Bool, true, false, not, cond}
 use lib.Dec.{ltb, eqb}
 use lib.ListN.{length, length-replicate}
 use borrow.Author.Tests.{ltb-true}
-use Rattle.number.specs.Outcomes.{Outcome, given, refused, unless}
-use Rattle.number.specs.Refusals.{alreadySo}
+use Rattle.refusals.specs.Outcomes.{Outcome, given, refused, unless}
+use Rattle.refusals.specs.Refusals.{alreadySo}
 use Rattle.board.specs.declared.Board.{Board}
 use Rattle.board.specs.Rules.{boardFine}
 use Rattle.state.specs.declared.State.{State}
 use Rattle.state.specs.States.{stateFine, isPushed, withPushed, withReleased, left}
 use Rattle.state.proofs.StateLaws.{usable-fine, state-fits-push, state-fits-release}
 use Rattle.moves.specs.Steps.{stepper}
-use Rattle.presses.specs.Presses.{pressable, pushing, releasing}
+use Rattle.presses.specs.Presses.{pushing, releasing}
+use Rattle.presses.proofs.PressLaws.{press-twelve}
 use Rattle.runs.specs.Running.{longestLog, ran}
 use Rattle.runs.proofs.RunningLaws.{runnable-log, running-by}
 use Rattle.lines.specs.Lines.{event, closing}
@@ -58,29 +59,25 @@ module _ (b : Board) (fine : boardFine b ≡ true) where
 
   -- ---- a push or a release
 
-  left-fits : (t u : State) (already : Bool) → stateFine (b .counts) t ≡ true → stateFine (b .counts) u ≡ true
-      → PressFits b (left t (λ _. u) (unless (not already) alreadySo 0))
+  left-fits : (t u : State) (settable : Bool) → stateFine (b .counts) t ≡ true → stateFine (b .counts) u ≡ true
+      → PressFits b (left t (λ _. u) (unless settable alreadySo 0))
   unfolding left
-  left-fits t u true before after = record { twelve = refl; fits = before }
-  left-fits t u false before after = record { twelve = tt; fits = after }
+  left-fits t u true before after = record { twelve = tt; fits = after }
+  left-fits t u false before after = record { twelve = refl; fits = before }
 
   module _ (t : State) (n : ℕ) (fits : stateFine (b .counts) t ≡ true) (below : ltb n (b .counts .buttons) ≡ true) where
-    -- nothing stands against it but 12
-    pressable-twelve : (already : Bool) → pressable b t n already ≡ unless (not already) alreadySo 0
-    unfolding pressable
-    pressable-twelve already = rw (usable-fine b t fine fits, below) refl
-
     push-fits : PressFits b (pushing b t n)
     unfolding pushing
     push-fits =
-        rw (pressable-twelve (isPushed t n)) (left-fits t (withPushed t n) (isPushed t n) fits
+        rw (press-twelve b t n (not (isPushed t n)) (usable-fine b t fine fits) below)
+        (left-fits t (withPushed t n) (not (isPushed t n)) fits
         (state-fits-push (b .counts) t n fits (ltb-true n (b .counts .buttons) below)))
 
     release-fits : PressFits b (releasing b t n)
     unfolding releasing
     release-fits =
-        rw (pressable-twelve (not (isPushed t n)))
-        (left-fits t (withReleased t n) (not (isPushed t n)) fits (state-fits-release (b .counts) t n fits))
+        rw (press-twelve b t n (isPushed t n) (usable-fine b t fine fits) below)
+        (left-fits t (withReleased t n) (isPushed t n) fits (state-fits-release (b .counts) t n fits))
 
   press-fits : (t : State) (v : ℕ) → stateFine (b .counts) t ≡ true → ltb (v / 2) (b .counts .buttons) ≡ true
       → PressFits b (pressing b t v)

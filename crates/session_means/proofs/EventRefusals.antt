@@ -4,7 +4,7 @@ use Prim.Native.Nat.{ℕ}
 use mathlib.Core.Path.{subst}
 use mathlib.Core.List.{List, _∷_}
 use Rattle.lists.specs.Members.{All}
-use Rattle.number.specs.Outcomes.{Outcome, given, refused, Found}
+use Rattle.refusals.specs.Outcomes.{Outcome, given, refused, Found}
 use Rattle.file_means.proofs.GivesLaws.{Gives}
 use Rattle.session.specs.Sessions.{Head, headAt, headLines, sessionLines}
 use Rattle.lines.specs.Lines.{Line, event, closing}

@@ -8,7 +8,7 @@ use mathlib.Core.List.{List, [], _∷_}
 use lib.Dec.{leb}
 use lib.ListN.{length}
 use borrow.Author.Tests.{le-leb, lt-leb, leb-true, leb-false}
-use Rattle.number.specs.Outcomes.{Outcome, given, refused, Found}
+use Rattle.refusals.specs.Outcomes.{Outcome, given, refused, Found}
 use Rattle.board.specs.declared.Board.{Board}
 use Rattle.state.specs.declared.State.{State}
 use Rattle.lines.specs.Lines.{Line}

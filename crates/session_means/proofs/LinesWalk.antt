@@ -7,8 +7,8 @@ use mathlib.Core.Bool.{Bool, true, false, cond}
 use mathlib.Core.List.{List, [], _∷_}
 use lib.Dec.{leb, ltb}
 use lib.ListN.{length}
-use Rattle.number.specs.Outcomes.{Outcome, given, refused, Found, _>>=_, _>>_, unless}
-use Rattle.number.specs.Refusals.{inputEnds, badForm, noSuchName}
+use Rattle.refusals.specs.Outcomes.{Outcome, given, refused, Found, _>>=_, _>>_, unless}
+use Rattle.refusals.specs.Refusals.{inputEnds, badForm, noSuchName}
 use Rattle.number.specs.Numbers.{numberAt}
 use Rattle.number.proofs.NumberLaws.{number-refusal}
 use Rattle.board.specs.Rules.{boardFine}

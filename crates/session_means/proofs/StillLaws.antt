@@ -5,7 +5,7 @@ use native.Mathlib.Omega.{arith}
 use mathlib.Core.Path.{_≡_, refl, sym, ap, _∙_}
 use mathlib.Core.List.{List, [], _∷_}
 use lib.ListN.{length}
-use Rattle.number.specs.Outcomes.{Outcome, Found}
+use Rattle.refusals.specs.Outcomes.{Outcome, Found}
 use Rattle.board_reader.specs.Reading.{longestInput}
 use Rattle.lines.specs.Lines.{Line, closing}
 use Rattle.events.specs.Events.{eventAt, ranLine, eventLine}

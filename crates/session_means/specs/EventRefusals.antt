@@ -11,8 +11,8 @@ use mathlib.Core.Path.{_≡_}
 use mathlib.Core.Logic.{_⊎_}
 use mathlib.Core.List.{List}
 use Rattle.lists.specs.Members.{All}
-use Rattle.number.specs.Outcomes.{given, refused, Found}
-use Rattle.number.specs.Refusals.{inputEnds, badForm, noSuchName, alreadySo}
+use Rattle.refusals.specs.Outcomes.{given, refused, Found}
+use Rattle.refusals.specs.Refusals.{inputEnds, badForm, noSuchName, alreadySo}
 use Rattle.lines.specs.Lines.{Line, event, closing}
 use Rattle.session.specs.Sessions.{Head, headAt, sessionLines}
 

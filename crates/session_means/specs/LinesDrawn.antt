@@ -14,7 +14,7 @@ use Prim.Native.Nat.{ℕ, zero, suc}
 use mathlib.Core.Path.{_≡_}
 use mathlib.Core.Bool.{true}
 use mathlib.Core.List.{List, [], _∷_}
-use Rattle.number.specs.Outcomes.{given, Found}
+use Rattle.refusals.specs.Outcomes.{given, Found}
 use Rattle.state.specs.declared.State.{State}
 use Rattle.state.specs.States.{freshState, stateFine}
 use Rattle.lines.specs.Lines.{Line, event, closing}

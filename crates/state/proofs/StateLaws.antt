@@ -2,22 +2,24 @@
 -- a board and a state.
 -- The crates above cite these, and nothing of the definitions' text. The last section is for the proof of `fits`.
 use Prim.Native.Nat.{ℕ, _<_}
-use mathlib.Core.Path.{_≡_, refl}
+use mathlib.Core.Path.{_≡_, refl, sym, ap, _∙_}
 use mathlib.Core.Bool.{Bool, true, false}
+use mathlib.Core.List.{[], _∷_, _++_}
 use Rattle.bits.specs.Sets.{room, within}
 use Rattle.bits.proofs.SetLaws.{member-including-same, member-including-other, member-excluding-same}
 use Rattle.bits.proofs.SetLaws.{member-excluding-other, within-member, member-within, within-none, within-including}
 use Rattle.bits.proofs.SetLaws.{within-excluding}
-use Rattle.number.proofs.OutcomeLaws.{passed, asked}
-use Rattle.number.specs.Outcomes.{Outcome, given, refused, _>>_, unless}
-use Rattle.number.specs.Refusals.{stateBeyondBoard, brokenBoard}
+use Rattle.refusals.specs.Outcomes.{Outcome, given, refused, _>>_, unless}
+use Rattle.refusals.specs.Refusals.{stateBeyondBoard, brokenBoard}
+use Rattle.refusals.specs.Order.{Order, firstNo}
+use Rattle.refusals.proofs.OrderLaws.{asks-first, asks-append, asks-then, first-holds}
 use Rattle.board.specs.declared.Counts.{Counts}
 use Rattle.board.specs.declared.Board.{Board}
 use Rattle.board.specs.Rules.{boardFine}
 use Rattle.bits.proofs.BoolLaws.{both-true, true-both}
 use Rattle.state.specs.declared.State.{State}
 use Rattle.state.specs.States.{freshState, isDrawn, isPushed, withDrawn, withDropped, withPushed, withReleased}
-use Rattle.state.specs.States.{stateFine, usable}
+use Rattle.state.specs.States.{stateFine, usableLines, usable}
 use Rattle.state.specs.Fourteen.{MembersBelow}
 
 -- ---- a method changes its own relay or button and nothing else
@@ -114,31 +116,37 @@ module _ (c : Counts) (s : State) (n : ℕ) (fine : stateFine c s ≡ true) wher
 
 module _ (b : Board) (s : State) where
   pub usable-broken : boardFine b ≡ false → usable b s ≡ refused brokenBoard 0
-  unfolding usable
+  unfolding usable firstNo
   usable-broken off = rw off refl
 
   pub usable-beyond : boardFine b ≡ true → stateFine (b .counts) s ≡ false → usable b s ≡ refused stateBeyondBoard 0
-  unfolding usable
+  unfolding usable firstNo
   usable-beyond fine off = rw (fine, off) refl
 
   pub usable-fine : boardFine b ≡ true → stateFine (b .counts) s ≡ true → usable b s ≡ given tt
-  unfolding usable
+  unfolding usable firstNo
   usable-fine fine fits = rw (fine, fits) refl
 
   pub usable-given : usable b s ≡ given tt → (boardFine b ≡ true) × (stateFine (b .counts) s ≡ true)
   unfolding usable
   usable-given taken =
-      let board = passed (boardFine b) brokenBoard 0 _ tt taken in
-      (board .0, asked (stateFine (b .counts) s) stateBeyondBoard 0 (board .1))
+      let board = first-holds (boardFine b) brokenBoard _ taken in
+      (board .0, first-holds (stateFine (b .counts) s) stateBeyondBoard _ (board .1) .0)
+
+  -- a call's own lines come after these
+  pub usable-lines : (ls : Order) → firstNo (usableLines b s ++ ls) ≡ (usable b s >> firstNo ls)
+  unfolding usable
+  usable-lines ls = asks-append (usableLines b s) ls
 
   -- what is refused, and neither by 15 nor by 14, is refused by what is asked next
   pub usable-next : {A : Type 0} (o : Outcome A) (k p : ℕ) → ¬ (brokenBoard ≡ k) → ¬ (stateBeyondBoard ≡ k)
       → (usable b s >> o) ≡ refused k p
       → (boardFine b ≡ true) × (stateFine (b .counts) s ≡ true) × (o ≡ refused k p)
-  unfolding usable
+  unfolding usable firstNo
   usable-next {A} o k p not-broken not-beyond is = by-tests (boardFine b) (stateFine (b .counts) s) is
     where
-      by-tests : (t u : Bool) → (unless t brokenBoard 0 >> unless u stateBeyondBoard 0 >> o) ≡ refused k p
+      by-tests : (t u : Bool)
+          → (firstNo ((t, brokenBoard) ∷ (u, stateBeyondBoard) ∷ []) >> o) ≡ refused k p
           → (t ≡ true) × (u ≡ true) × (o ≡ refused k p)
       by-tests false u e = absurd (not-broken cc)
       by-tests true false e = absurd (not-beyond cc)
@@ -154,3 +162,15 @@ module _ (c : Counts) (s : State) (r : ℕ) (relays : r ≡ c .relays) where
   pub state-fits-last : (b : ℕ) → b ≡ c .buttons → within (s .drawn) r ≡ true → within (s .pushed) b ≡ stateFine c s
   unfolding stateFine
   state-fits-last b buttons on = simp (← relays, ← buttons, on)
+
+-- ---- the two lines one after the other, for the proof of `usable`
+
+pub usable-asked : (b : Board) (s : State) {t u : Bool} {o q : Outcome (Unit {0})} → t ≡ boardFine b
+    → o ≡ unless t brokenBoard 0 → u ≡ stateFine (b .counts) s → q ≡ (o >> unless u stateBeyondBoard 0)
+    → q ≡ usable b s
+unfolding usable
+usable-asked b s {t} {u} {o} {q} board first state second =
+    second
+    ∙ asks-then ((t, brokenBoard) ∷ []) u stateBeyondBoard o (first ∙ sym (asks-first t brokenBoard))
+    ∙ ap (λ (x : Bool). firstNo ((x, brokenBoard) ∷ (u, stateBeyondBoard) ∷ [])) board
+    ∙ ap (λ (x : Bool). firstNo ((boardFine b, brokenBoard) ∷ (x, stateBeyondBoard) ∷ [])) state

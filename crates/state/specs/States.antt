@@ -5,7 +5,8 @@
 --     withDrawn, withDropped s r      s with relay r drawn, dropped: "A move changes that relay and nothing else"
 --     withPushed, withReleased s b    s with button b pushed, released
 --     stateFine c s                   14 does not hold: every drawn relay is below R, every pushed button below B
---     usable b s                      what every call on a board and a state asks first: refusals 15, 14
+--     usableLines b s                 the lines that every call on a board and a state asks first: 15, 14
+--     usable b s                      what stands against it by these
 --     left s f o                      the state that a call leaves beside what it came to: f a where it gives a; "A
 --                                     refused call returns the number, place 0 and the state it was given"
 --     StateFresh r                    promise: `fresh` answers r
@@ -13,13 +14,19 @@
 --     StateDrops s n r                promise: `drop`, likewise
 --     StatePushes s n r               promise: `push` of button n in state s answers r
 --     StateReleases s n r             promise: `release`, likewise
+--     StateIsDrawn s n r              promise: `is_drawn`, of relay n in state s, answers r
+--     StateIsPushed s n r             promise: `is_pushed`, of button n in state s, answers r
 --     StateFits s c r                 promise: `fits` of state s and the counts c answers r
+--     Usable b s r                    promise: `usable` of board b and state s answers r
 use Prim.Native.Nat.{ℕ}
 use mathlib.Core.Path.{_≡_}
 use mathlib.Core.Bool.{Bool, _&&_}
+use mathlib.Core.List.{[], _∷_}
 use Rattle.bits.specs.Sets.{member, including, excluding, within}
-use Rattle.number.specs.Outcomes.{Outcome, given, refused, _>>=_, _>>_, unless}
-use Rattle.number.specs.Refusals.{stateBeyondBoard, brokenBoard}
+use Rattle.refusals.specs.declared.Against.{Against}
+use Rattle.refusals.specs.Outcomes.{Outcome, given, refused}
+use Rattle.refusals.specs.Refusals.{stateBeyondBoard, brokenBoard}
+use Rattle.refusals.specs.Order.{Order, firstNo, toldAgainst}
 use Rattle.board.specs.declared.Counts.{Counts}
 use Rattle.board.specs.declared.Board.{Board}
 use Rattle.board.specs.Rules.{boardFine}
@@ -49,10 +56,11 @@ withReleased s b = record { drawn = s .drawn; pushed = excluding (s .pushed) b }
 unfoldable pub stateFine : Counts → State → Bool
 stateFine c s = within (s .drawn) (c .relays) && within (s .pushed) (c .buttons)
 
+abbrev pub usableLines : Board → State → Order
+usableLines b s = (boardFine b, brokenBoard) ∷ (stateFine (b .counts) s, stateBeyondBoard) ∷ []
+
 unfoldable pub usable : Board → State → Outcome (Unit {0})
-usable b s = do
-  unless (boardFine b) brokenBoard 0
-  unless (stateFine (b .counts) s) stateBeyondBoard 0
+usable b s = firstNo (usableLines b s)
 
 unfoldable pub left : {A : Type 0} → State → (A → State) → Outcome A → State × Outcome A
 left s f (given a) = (f a, given a)
@@ -73,5 +81,14 @@ StatePushes s n r = r ≡ withPushed s n
 abbrev pub StateReleases : State → ℕ → State → Type 0
 StateReleases s n r = r ≡ withReleased s n
 
+abbrev pub StateIsDrawn : State → ℕ → Bool → Type 0
+StateIsDrawn s n r = r ≡ isDrawn s n
+
+abbrev pub StateIsPushed : State → ℕ → Bool → Type 0
+StateIsPushed s n r = r ≡ isPushed s n
+
 abbrev pub StateFits : State → Counts → Bool → Type 0
 StateFits s c r = r ≡ stateFine c s
+
+abbrev pub Usable : Board → State → Against → Type 0
+Usable b s r = toldAgainst r ≡ usable b s

@@ -1,6 +1,12 @@
-// The state of a board: which relays are drawn and which buttons are pushed, and its methods.
-ghost use Rattle.state.specs.States.{StateFresh, StateDraws, StateDrops, StatePushes, StateReleases, StateFits};
+// The state of a board: which relays are drawn and which buttons are pushed, and its methods; and what every call on a
+// board and a state asks first.
+ghost use Rattle.state.specs.States.{StateFresh, StateDraws, StateDrops, StatePushes, StateReleases, StateIsDrawn};
+ghost use Rattle.state.specs.States.{StateIsPushed, StateFits, Usable};
+use board::Board;
 use board::Counts;
+use refusals::Against;
+use refusals::BROKEN_BOARD;
+use refusals::STATE_BEYOND_BOARD;
 
 // The drawn relays and the pushed buttons, each a set in a word.
 pub struct State {
@@ -63,6 +69,20 @@ impl State {
         }
     }
 
+    // Whether a relay is drawn.
+    pub fn is_drawn(self, relay: u32) -> bool
+        ensures { λ r. ⌜ StateIsDrawn self relay r ⌝ }
+    {
+        bits::has(self.drawn, relay)
+    }
+
+    // Whether a button is pushed.
+    pub fn is_pushed(self, button: u32) -> bool
+        ensures { λ r. ⌜ StateIsPushed self button r ⌝ }
+    {
+        bits::has(self.pushed, button)
+    }
+
     // Whether the state has no relay and no button that a board of these counts lacks; one that has is refused by 14.
     pub fn fits(self, counts: Counts) -> bool
         ensures { λ r. ⌜ StateFits self counts r ⌝ }
@@ -73,4 +93,12 @@ impl State {
             false
         }
     }
+}
+
+// What stands against every call on a board and a state, before its own lines: 15, 14.
+pub fn usable(board: Board, state: State) -> Against
+    ensures { λ r. ⌜ Usable board state r ⌝ }
+{
+    let fine = Against::Nothing.unless(board::check(board), BROKEN_BOARD);
+    fine.unless(state.fits(board.counts), STATE_BEYOND_BOARD)
 }

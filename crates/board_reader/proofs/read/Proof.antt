@@ -4,7 +4,7 @@ use borrow.Author.Needs.{needs}
 use Rattle.board_reader.proofs.read.Statement.{statement}
 use Rattle.board_reader.proofs.read.Tie as tie
 use mathlib.Core.Path.{_≡_, ap, _∙_}
-use Rattle.number.specs.Outcomes.{found}
+use Rattle.refusals.specs.Outcomes.{found}
 use Rattle.board.proofs.RuleLaws.{counts-in-range}
 use Rattle.board_reader.specs.Reading.{countsAt, toldReadAnswer}
 use Rattle.board_reader.proofs.CountsLaws.{counts-found, counts-found-fine}

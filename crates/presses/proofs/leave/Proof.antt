@@ -10,4 +10,4 @@ leave-spec =
     (tie.spec
     (λ c. search needs) (λ c. search needs)
     (λ c. leave-done _ _ _ (c .enum-told .given .1))
-    (λ c. leave-refused _ _ _ _ (c .enum-told2 .given .1)))
+    (λ c. leave-refused _ _ _ _ (c .before .against .given .1)))

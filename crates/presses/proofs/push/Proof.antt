@@ -2,7 +2,8 @@
 use borrow.Author.Needs.{needs}
 use Rattle.presses.proofs.push.Statement.{statement}
 use Rattle.presses.proofs.push.Tie as tie
-use mathlib.Core.Path.{_∙_}
+use mathlib.Core.Path.{ap, _∙_}
+use mathlib.Core.Bool.{not}
 use Rattle.presses.specs.Presses.{pushing}
 use Rattle.presses.proofs.PressLaws.{left-asked}
 
@@ -10,7 +11,7 @@ returns : tie.Need-returns
 unfolding pushing
 returns c =
     c .leave .ensures ∙ left-asked _ _ _ _ _ _ _ _ (c .before .push .ensures)
-    (c .before .before .pressable .ensures) (c .before .before .before .has .ensures)
+    (c .before .before .pressable .ensures) (ap not (c .before .before .before .is-pushed .ensures))
 
 pub push-spec : {M : Type 1} → statement M
 push-spec =

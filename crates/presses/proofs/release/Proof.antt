@@ -2,8 +2,7 @@
 use borrow.Author.Needs.{needs}
 use Rattle.presses.proofs.release.Statement.{statement}
 use Rattle.presses.proofs.release.Tie as tie
-use mathlib.Core.Path.{ap, _∙_}
-use mathlib.Core.Bool.{not}
+use mathlib.Core.Path.{_∙_}
 use Rattle.presses.specs.Presses.{releasing}
 use Rattle.presses.proofs.PressLaws.{left-asked}
 
@@ -11,7 +10,7 @@ returns : tie.Need-returns
 unfolding releasing
 returns c =
     c .leave .ensures ∙ left-asked _ _ _ _ _ _ _ _ (c .before .release .ensures)
-    (c .before .before .pressable .ensures) (ap not (c .before .before .before .has .ensures))
+    (c .before .before .pressable .ensures) (c .before .before .before .is-pushed .ensures)
 
 pub release-spec : {M : Type 1} → statement M
 release-spec =

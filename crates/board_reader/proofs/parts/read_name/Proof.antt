@@ -4,7 +4,7 @@ use borrow.Author.Needs.{needs}
 use Rattle.board_reader.proofs.parts.read_name.Statement.{statement}
 use Rattle.board_reader.proofs.parts.read_name.Tie as tie
 use mathlib.Core.Path.{_∙_}
-use Rattle.number.specs.Refusals.{noSuchName}
+use Rattle.refusals.specs.Refusals.{noSuchName}
 use Rattle.board_reader.proofs.FieldLaws.{wanted-below, name-wire, name-carried}
 
 returns : tie.Need-returns

@@ -6,7 +6,7 @@ use Rattle.board_reader.proofs.parts.read_part.Tie as tie
 use native.Mathlib.Omega.{arith}
 use mathlib.Core.Path.{_≡_, refl, sym, ap, _∙_}
 use borrow.Author.Tests.{not-true, not-false}
-use Rattle.number.specs.Refusals.{noSuchKind, noSuchTerminal}
+use Rattle.refusals.specs.Refusals.{noSuchKind, noSuchTerminal}
 use Rattle.kinds.specs.Kinds.{lastKind}
 use Rattle.windings.specs.Windings.{windingFree}
 use Rattle.board.specs.Rules.{inRange, terminalFine}

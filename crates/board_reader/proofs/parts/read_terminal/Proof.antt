@@ -3,7 +3,7 @@ use borrow.Author.Needs.{needs}
 use Rattle.board_reader.proofs.parts.read_terminal.Statement.{statement}
 use Rattle.board_reader.proofs.parts.read_terminal.Tie as tie
 use mathlib.Core.Path.{_∙_}
-use Rattle.number.specs.Refusals.{noSuchTerminal}
+use Rattle.refusals.specs.Refusals.{noSuchTerminal}
 use Rattle.board_reader.proofs.FieldLaws.{wanted-below}
 
 returns : tie.Need-returns

@@ -4,7 +4,7 @@ use Prim.Native.Nat.{ℕ}
 use native.Mathlib.Omega.{arith}
 use mathlib.Core.Path.{_≡_, refl}
 use mathlib.Core.Bool.{Bool, true, false}
-use Rattle.number.specs.Outcomes.{Outcome, given, refused, _>>=_, _>>_, unless}
+use Rattle.refusals.specs.Outcomes.{Outcome, given, refused, _>>=_, _>>_, unless}
 
 pub refused-never : {A : Type 0} (k p : ℕ) (a : A) → refused k p ≡ given a → ⊥
 refused-never k p a h = let z : _≡_ {A = ℕ} 0 1 = cc in omega arith

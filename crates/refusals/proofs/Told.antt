@@ -3,8 +3,8 @@
 use Prim.Native.Nat.{ℕ}
 use mathlib.Core.Path.{_≡_, sym, ap, _∙_}
 use mathlib.Core.List.{List}
-use Rattle.number.specs.declared.Refusal.{Refusal}
-use Rattle.number.specs.Outcomes.{Outcome, given, refused}
+use Rattle.refusals.specs.declared.Refusal.{Refusal}
+use Rattle.refusals.specs.Outcomes.{Outcome, given, refused}
 
 pub record Told {A B : Type 0} (told : A → B) : Type 0 where
   pub untold : B → A
