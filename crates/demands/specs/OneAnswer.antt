@@ -7,8 +7,11 @@
 --     OneAnswer    the list; an argument of `wide` is a byte
 use Prim.Native.Nat.{ℕ, _<_}
 use mathlib.Core.Path.{_≡_}
+use mathlib.Core.Bool.{Bool}
 use mathlib.Core.List.{List}
 use Rattle.bits.specs.Sets.{SetHas, SetWith, SetWithout, SetRemaining, SetLowestFrom, SetAllBelow, WideByte}
+use Rattle.refusals.specs.declared.Against.{Against}
+use Rattle.refusals.specs.Order.{AsksNext}
 use Rattle.number.specs.Numbers.{ReadsNumber, NumberLength, WritesNumber}
 use Rattle.kinds.specs.declared.Kind.{Kind}
 use Rattle.kinds.specs.Kinds.{KindOf, KindNumber, KindName}
@@ -20,7 +23,8 @@ use Rattle.board.specs.Parts.{BlankPart, EmptyBoard}
 use Rattle.board.specs.Rules.{NameLimit, Checks}
 use Rattle.board.specs.Same.{SameBoards}
 use Rattle.state.specs.declared.State.{State}
-use Rattle.state.specs.States.{StateFresh, StateDraws, StateDrops, StatePushes, StateReleases, StateFits}
+use Rattle.state.specs.States.{StateFresh, StateDraws, StateDrops, StatePushes, StateReleases, StateIsDrawn}
+use Rattle.state.specs.States.{StateIsPushed, StateFits, Usable}
 use Rattle.presses.specs.Presses.{Pushes, Releases}
 use Rattle.board_reader.specs.Reading.{Reads}
 use Rattle.board_writer.specs.Writing.{Writes}
@@ -62,6 +66,7 @@ pub record OneAnswer : Type 0 where
   pub bits-lowest-from : (s n : ℕ) → One (SetLowestFrom s n)
   pub bits-all-below : (s n : ℕ) → One (SetAllBelow s n)
   pub bits-wide : (x : ℕ) → x < 256 → One (WideByte x)
+  pub refusals-unless : (a : Against) (t : Bool) (n : ℕ) → One (AsksNext a t n)
   pub number-read-number : (s : List ℕ) (at : ℕ) → One (ReadsNumber s at)
   pub number-number-length : (v : ℕ) → One (NumberLength v)
   pub number-write-number : (v : ℕ) (out : List ℕ) (at : ℕ) → OneLent (WritesNumber v out at)
@@ -82,7 +87,10 @@ pub record OneAnswer : Type 0 where
   pub state-drop : (s : State) (r : ℕ) → One (StateDrops s r)
   pub state-push : (s : State) (n : ℕ) → One (StatePushes s n)
   pub state-release : (s : State) (n : ℕ) → One (StateReleases s n)
+  pub state-is-drawn : (s : State) (r : ℕ) → One (StateIsDrawn s r)
+  pub state-is-pushed : (s : State) (n : ℕ) → One (StateIsPushed s n)
   pub state-fits : (s : State) (c : Counts) → One (StateFits s c)
+  pub state-usable : (b : Board) (s : State) → One (Usable b s)
   pub presses-push : (b : Board) (s : State) (n : ℕ) → One (Pushes b s n)
   pub presses-release : (b : Board) (s : State) (n : ℕ) → One (Releases b s n)
   pub board-reader-read : (s : List ℕ) → One (Reads s)
