@@ -3,7 +3,7 @@ ghost use mathlib.Core.Path.{_≡_};
 ghost use Prim.Native.Nat.{_+_, _≤_, _<_, _^_};
 ghost use lib.ListN.{length, drop};
 ghost use lib.Seq.{sets};
-ghost use Rattle.number.specs.Numbers.{longest, form, encode, ReadsNumber, NumberLength, WritesNumber};
+ghost use Rattle.number.specs.Numbers.{currentWidth, form, encode, ReadsNumber, NumberLength, WritesNumber};
 use refusals::BAD_FORM;
 use refusals::BUFFER_TOO_SHORT;
 use refusals::INPUT_ENDS;
@@ -21,9 +21,10 @@ pub enum NumberWritten {
     Refused(Refusal),
 }
 
-// What some bytes are as a number: its value and how many bytes it takes; cut; or no number.
+// What some bytes are as a number: its value and how many bytes it takes; cut; or no number. The value has room for
+// every group that a number's bytes can have, though not each of them is a number.
 enum Form {
-    Got(u32, usize),
+    Got(u64, usize),
     Ends,
     Bad,
 }
@@ -35,7 +36,7 @@ const LARGEST: u32 = 2_097_151;
 
 // The number of at most `left` bytes at a place.
 fn read_form(s: &[u8], at: usize, left: usize) -> Form
-    requires { ⌜ left ≤ longest ⌝ }
+    requires { ⌜ left ≤ currentWidth .longest ⌝ }
     ensures { λ r. ⌜ r ≡ form left (drop at (now (s .entry))) ⌝ }
 {
     if left == 0 {
@@ -44,7 +45,7 @@ fn read_form(s: &[u8], at: usize, left: usize) -> Form
     if s.len() <= at {
         return Form::Ends;
     }
-    let group = bits::wide(s[at]);
+    let group = bits::wide(s[at]) as u64;
     if group < 128 {
         return Form::Got(group, 1);
     }
@@ -63,7 +64,7 @@ pub fn read_number(s: &[u8], at: usize) -> Number
     ensures { λ r. ⌜ ReadsNumber (now (s .entry)) at r ⌝ }
 {
     match read_form(s, at, LONGEST) {
-        Form::Got(value, bytes) => Number::Read(value, at + bytes),
+        Form::Got(value, bytes) => Number::Read(value as u32, at + bytes),
         Form::Ends => Number::Refused(Refusal {
             number: INPUT_ENDS,
             place: s.len(),
