@@ -7,7 +7,7 @@ use mathlib.Core.Bool.{Bool, true, false, cond}
 use mathlib.Core.List.{List, [], _∷_, _++_}
 use Prim.Native.Nat.{ℕ, _+_, _-_, _^_, _≤_, _<_}
 use native.Mathlib.Omega.{arith}
-use borrow.Author.Tests.{leb-true, le-leb, lt-leb}
+use borrow.Author.Tests.{leb-true, leb-false, le-leb, lt-leb}
 use lib.Dec.{leb}
 use mir.Syntax.{w8}
 use mir.Val.{Fits}
@@ -19,11 +19,16 @@ use Rattle.number.specs.declared.NumberWritten.{NumberWritten}
 use Rattle.number.specs.declared.NumberWritten.the-variants.{Next}
 use Rattle.number.specs.declared.Form.{Form}
 use Rattle.number.specs.declared.Form.the-variants.{Got, Ends, Bad}
-use Rattle.refusals.specs.Outcomes.{Outcome, given, refused, Found, found}
+use Rattle.bits.proofs.BoolLaws.{by-test}
+use Rattle.refusals.specs.declared.Refusal.{Refusal}
+use Rattle.refusals.specs.declared.Against.{Against}
+use Rattle.refusals.specs.declared.Against.the-variants as stands
+use Rattle.refusals.specs.Outcomes.{Outcome, given, refused, Found, found, _>>_, unless}
 use Rattle.refusals.specs.Refusals.{inputEnds, badForm, bufferTooShort}
-use Rattle.refusals.specs.Order.{firstNo}
+use Rattle.refusals.specs.Order.{firstNo, toldAgainst}
+use Rattle.refusals.proofs.OrderLaws.{asks-first, asks-then, first-holds}
 use Rattle.number.specs.Numbers.{Width, currentWidth, Bytes, form, placed, numberAt, encode, numberBytes}
-use Rattle.number.specs.Numbers.{numberWriting, toldNumber, toldNumberWritten}
+use Rattle.number.specs.Numbers.{numberLines, numberWriting, toldNumber, toldNumberWritten}
 use Rattle.refusals.proofs.OutcomeLaws.{refused-never, given-injective}
 use Rattle.refusals.proofs.Told.{Told, answerOf, given-or-refused}
 use Rattle.number.proofs.FormLaws.{FormRead, Bytes-slice, Bytes-drop, form-written, form-read, form-within}
@@ -227,18 +232,6 @@ number-length-three v h =
 
 -- ---- what writing a number does to a buffer
 
-pub number-too-large : (v : ℕ) (out : List ℕ) (at : ℕ) → currentWidth .largest < v
-    → _≡_ {A = Outcome ℕ × List ℕ} (numberWriting v out at) (refused badForm 0, out)
-unfolding numberWriting firstNo
-number-too-large v out at h = rw (lt-leb v (currentWidth .largest) h)
-
-pub number-lacks-room : (v : ℕ) (out : List ℕ) (at : ℕ) → v ≤ currentWidth .largest
-    → length out < at + length (numberBytes v)
-    → _≡_ {A = Outcome ℕ × List ℕ} (numberWriting v out at) (refused bufferTooShort 0, out)
-unfolding numberWriting firstNo
-number-lacks-room v out at h r =
-    rw (le-leb v (currentWidth .largest) h, lt-leb (at + length (numberBytes v)) (length out) r)
-
 pub number-written : (v : ℕ) (out : List ℕ) (at : ℕ) → v ≤ currentWidth .largest
     → at + length (numberBytes v) ≤ length out
     → _≡_ {A = Outcome ℕ × List ℕ} (numberWriting v out at)
@@ -247,20 +240,53 @@ unfolding numberWriting firstNo
 number-written v out at h r =
     rw (le-leb v (currentWidth .largest) h, le-leb (at + length (numberBytes v)) (length out) r)
 
--- writing a number's groups, as `write_number` does
-pub number-groups : (v at bytes room : ℕ) → v ≤ currentWidth .largest → at ≤ room → bytes ≤ room - at
-    → bytes ≡ length (numberBytes v)
-    → (0 < currentWidth .longest) × (v < 128 ^ (currentWidth .longest))
-    × (at + length (encode (currentWidth .longest) v) ≤ room)
-unfolding numberBytes
-number-groups v at bytes room h a r e = (current-some, current-room v h, omega arith)
+-- room at a place, as `has_room` tests it
+pub room-past : (len at bytes : ℕ) → len < at → false ≡ leb (at + bytes) len
+room-past len at bytes h = sym (lt-leb (at + bytes) len (omega arith))
 
-pub number-stored : (v : ℕ) (out out′ : List ℕ) (at bytes : ℕ) → v ≤ currentWidth .largest → at ≤ length out
-    → bytes ≤ length out - at → bytes ≡ length (numberBytes v)
-    → out′ ≡ sets out at (encode (currentWidth .longest) v)
-    → _≡_ {A = Outcome ℕ × List ℕ} (given (at + bytes), out′) (numberWriting v out at)
-unfolding numberBytes
-number-stored v out out′ at bytes h a r e w = rw (e, w) (sym (number-written v out at h (omega arith)))
+pub room-within : (len at bytes : ℕ) → at ≤ len → leb bytes (len - at) ≡ leb (at + bytes) len
+room-within len at bytes h =
+    by-test (leb bytes (len - at))
+    (λ fits. fits ∙ sym (le-leb (at + bytes) len (omega (arith, leb-true bytes (len - at) fits))))
+    (λ lacks. lacks ∙ sym (lt-leb (at + bytes) len (omega (arith, leb-false bytes (len - at) lacks))))
+
+-- the lines of `write_number`, one after the other
+pub number-asked : (v : ℕ) (out : List ℕ) (at : ℕ) {bytes : ℕ} {room : Bool} {o p : Outcome (Unit {0})}
+    → bytes ≡ length (numberBytes v) → room ≡ leb (at + bytes) (length out)
+    → o ≡ unless (leb v (currentWidth .largest)) badForm 0 → p ≡ (o >> unless room bufferTooShort 0)
+    → p ≡ firstNo (numberLines v out at)
+number-asked v out at {bytes} {room} {o} long fits first second =
+    second
+    ∙ asks-then ((leb v (currentWidth .largest), badForm) ∷ []) room bufferTooShort o (first ∙ sym (asks-first _ badForm))
+    ∙ ap (λ (t : Bool). firstNo ((leb v (currentWidth .largest), badForm) ∷ (t, bufferTooShort) ∷ []))
+    (fits ∙ ap (λ (n : ℕ). leb (at + n) (length out)) long)
+
+-- and each way out of it, by what stands against it
+module _ (v : ℕ) (out : List ℕ) (at : ℕ) (x : Against) (asked : toldAgainst x ≡ firstNo (numberLines v out at)) where
+  pub number-unwritten : (r : Refusal) → x ≡ stands.Refused r
+      → _≡_ {A = Outcome ℕ × List ℕ} (refused (r .number) (r .place), out) (numberWriting v out at)
+  unfolding numberWriting
+  number-unwritten r is = rw (← asked, is)
+
+  module _ (bytes : ℕ) (none : x ≡ stands.Nothing) (long : bytes ≡ length (numberBytes v)) where
+    number-free : (v ≤ currentWidth .largest) × (at + length (numberBytes v) ≤ length out)
+    number-free =
+        let first = first-holds _ _ _ (sym asked ∙ ap toldAgainst none) in
+        let second = first-holds _ _ _ (first .1) in
+        (leb-true v (currentWidth .largest) (first .0), leb-true _ (length out) (second .0))
+
+    pub number-fits : at + bytes ≤ length out
+    number-fits = omega (arith, number-free, long)
+
+    pub number-groups : (0 < currentWidth .longest) × (v < 128 ^ (currentWidth .longest))
+        × (at + length (encode (currentWidth .longest) v) ≤ length out)
+    unfolding numberBytes
+    number-groups = (current-some, current-room v (number-free .0), number-free .1)
+
+    pub number-stored : (out′ : List ℕ) → out′ ≡ sets out at (encode (currentWidth .longest) v)
+        → _≡_ {A = Outcome ℕ × List ℕ} (given (at + bytes), out′) (numberWriting v out at)
+    unfolding numberBytes
+    number-stored out′ wrote = rw (long, wrote) (sym (number-written v out at (number-free .0) (number-free .1)))
 
 -- ---- answers and what they tell
 

@@ -1,9 +1,11 @@
 // The file's numbers: groups of seven bits, lowest group first, one byte a group, in the shortest form only.
 ghost use mathlib.Core.Path.{_≡_};
 ghost use Prim.Native.Nat.{_+_, _≤_, _<_, _^_};
+ghost use lib.Dec.{leb};
 ghost use lib.ListN.{length, drop};
 ghost use lib.Seq.{sets};
 ghost use Rattle.number.specs.Numbers.{currentWidth, form, encode, ReadsNumber, NumberLength, WritesNumber};
+use refusals::Against;
 use refusals::BAD_FORM;
 use refusals::BUFFER_TOO_SHORT;
 use refusals::INPUT_ENDS;
@@ -102,29 +104,30 @@ fn write_groups(value: u32, left: usize, out: &mut [u8], at: usize)
     }
 }
 
+// Whether so many bytes have room at a place of a buffer of `len` bytes.
+fn has_room(len: usize, at: usize, bytes: usize) -> bool
+    ensures { λ r. ⌜ r ≡ leb (at + bytes) len ⌝ }
+{
+    if len < at {
+        return false;
+    }
+    bytes <= len - at
+}
+
 // Writes a number in its shortest form at a place: 2 if it is too large for a number, then 16 if it has no room there.
 pub fn write_number(value: u32, out: &mut [u8], at: usize) -> NumberWritten
     ensures { λ r. ⌜ WritesNumber value (now (out .entry)) at r (now (out .exit)) ⌝ }
 {
-    if LARGEST < value {
-        return NumberWritten::Refused(Refusal {
-            number: BAD_FORM,
-            place: 0,
-        });
-    }
     let bytes = number_length(value);
-    if out.len() < at {
-        return NumberWritten::Refused(Refusal {
-            number: BUFFER_TOO_SHORT,
-            place: 0,
-        });
+    let room = has_room(out.len(), at, bytes);
+    let against = Against::Nothing
+        .unless(value <= LARGEST, BAD_FORM)
+        .unless(room, BUFFER_TOO_SHORT);
+    match against {
+        Against::Refused(refusal) => NumberWritten::Refused(refusal),
+        Against::Nothing => {
+            write_groups(value, LONGEST, out, at);
+            NumberWritten::Next(at + bytes)
+        }
     }
-    if out.len() - at < bytes {
-        return NumberWritten::Refused(Refusal {
-            number: BUFFER_TOO_SHORT,
-            place: 0,
-        });
-    }
-    write_groups(value, LONGEST, out, at);
-    NumberWritten::Next(at + bytes)
 }
