@@ -19,7 +19,7 @@ use Rattle.board_reader.specs.Editions.{currentEdition}
 use Rattle.board_reader.specs.Reading.{wanted, reading}
 use Rattle.file_means.proofs.GivesLaws.{Gives, gives-then, gives-after}
 use Rattle.file_means.proofs.BoardTrip.{BoardIsFine}
-use Rattle.file_means.proofs.ReadFine.{read-fine}
+use Rattle.file_means.proofs.ReadFine.{current-known, read-fine}
 use Rattle.lines.specs.Lines.{Line, closing}
 use Rattle.events.specs.Events.{Shown, eventAt, eventLine}
 use Rattle.session.specs.Sessions.{Head, withAllowance, headAt, eventLines, linesFrom, headLines}
@@ -95,7 +95,7 @@ HeadFine h = boardFine (h .value .board) ≡ true
 pub head-fine : (s : List ℕ) → Gives HeadFine (headAt s)
 unfolding headAt withAllowance
 head-fine s =
-    gives-then (BoardIsFine s (reading currentEdition s .0)) HeadFine (reading currentEdition s .1) _ (read-fine s)
+    gives-then (BoardIsFine currentEdition s (reading currentEdition s .0)) HeadFine (reading currentEdition s .1) _ (read-fine currentEdition current-known s)
     (λ at was. gives-after HeadFine (numberAt currentWidth s at) _ (λ w read. was .fine))
 
 pub head-walk : (h : Found Head) (s : List ℕ) → HeadFine h → (Q : ℕ → State → List Line → Type 0)
