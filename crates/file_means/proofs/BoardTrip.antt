@@ -10,7 +10,6 @@ use lib.Seq.{length-take-le}
 use Rattle.refusals.specs.Outcomes.{Found, found}
 use Rattle.refusals.specs.Refusals.{outOfRange, windingLacking}
 use Rattle.number.specs.Numbers.{numberBytes}
-use Rattle.kinds.specs.Kinds.{lastKind}
 use Rattle.windings.specs.declared.WoundSoFar.{WoundSoFar}
 use Rattle.windings.specs.Windings.{noneWound, gained, complete}
 use Rattle.board.specs.declared.Part.{Part}
@@ -24,6 +23,7 @@ use Rattle.board.proofs.PaddedLaws.{padded-parts}
 use Rattle.board.proofs.RuleLaws.{InRange, counts-in-range}
 use Rattle.board_reader.specs.Editions.{Edition, currentEdition}
 use Rattle.board_reader.specs.Reading.{wanted, countsAt, partAt, partsAt, boardOf, boardFrom, boardAt}
+use Rattle.board_reader.proofs.EditionLaws.{Known}
 use Rattle.board_reader.proofs.FieldLaws.{range-within}
 use Rattle.board_reader.proofs.CountsLaws.{CountsFound, counts-found, counts-found-fine, counts-read}
 use Rattle.board_writer.specs.File.{countsBytes, partBytes, partsBytes, boardBytes}
@@ -90,7 +90,7 @@ record PartsRead (e : Edition) (c : Counts) (n : ℕ) (w : WoundSoFar) (s : List
   fine : partsFine c w (ps .value) ≡ true
   stands : AsWritten e s → StandsTo s at (ps .next) (partsBytes (ps .value))
 
-parts-read : (e : Edition) → e .lastKind ≤ lastKind → (c : Counts) (n : ℕ) (w : WoundSoFar) (s : List ℕ) (at : ℕ)
+parts-read : (e : Edition) → Known e → (c : Counts) (n : ℕ) (w : WoundSoFar) (s : List ℕ) (at : ℕ)
     → Gives (PartsRead e c n w s at) (partsAt e c n w s at)
 unfolding partsAt partsFine partsBytes
 parts-read e known c zero w s at =
@@ -143,7 +143,7 @@ board-made e c s mid ps first rest =
           (rest .stands written));
     }
 
-pub board-read : (e : Edition) → e .lastKind ≤ lastKind → (s : List ℕ)
+pub board-read : (e : Edition) → Known e → (s : List ℕ)
     → Gives (λ (b : Found Board). BoardIsFine e s (b .value) (b .next)) (boardAt e s)
 unfolding boardAt boardFrom
 board-read e known s =

@@ -11,11 +11,11 @@ use Rattle.number.proofs.NumberLaws.{number-next-within, number-looks-no-furthe
 use Rattle.board.specs.declared.Board.{Board}
 use Rattle.board.specs.Parts.{partsOf}
 use Rattle.board_reader.specs.Editions.{Edition, currentEdition}
+use Rattle.board_reader.proofs.EditionLaws.{current-known}
 use Rattle.file_means.specs.FileRefusals.{StandsAt, FileStage, at-T, at-R, at-B, at-C, at-part, at-first}
 use Rattle.file_means.specs.FileRefusals.{at-second, at-name, Reached, start, T-fine, R-fine, B-fine, C-fine}
 use Rattle.file_means.specs.FileRefusals.{kind-fine, first-fine, second-fine, wire-fine, button-fine, relay-fine}
 use Rattle.file_means.specs.BytesAfter.{BytesAfter}
-use Rattle.file_means.proofs.ReadFine.{current-known}
 use Rattle.file_means.proofs.FileRefusals.{reached-reading, file-accepted}
 
 -- a stage is reached within the input

@@ -10,7 +10,6 @@ use borrow.Author.Tests.{leb-true, leb-false, le-leb, lt-leb}
 use Rattle.refusals.specs.Outcomes.{Outcome, given, refused, Found, found, _>>_, unless}
 use Rattle.refusals.specs.Refusals.{inputTooLong}
 use Rattle.refusals.proofs.OutcomeLaws.{refused-never, given-injective}
-use Rattle.kinds.specs.Kinds.{lastKind}
 use Rattle.board.specs.declared.Board.{Board}
 use Rattle.board.specs.declared.Counts.{Counts}
 use Rattle.board.specs.declared.Part.{Part}
@@ -19,15 +18,15 @@ use Rattle.board.specs.Sorts.{Wound}
 use Rattle.board.proofs.PaddedLaws.{padded-parts}
 use Rattle.board_reader.specs.Editions.{Edition, currentEdition}
 use Rattle.board_reader.specs.Reading.{boardOf, boardAt, answered, reading, longestInput}
+use Rattle.board_reader.proofs.EditionLaws.{Known, current-known}
 use Rattle.board_reader.proofs.ReadLaws.{answered-refused}
 use Rattle.file_means.specs.FileRefusals.{at-part, Reached, LineHolds, FileRefused, FileAccepted}
 use Rattle.file_means.proofs.LeadsLaws.{Leads, leads-refused, leads-given, leads-each, leads-unless}
-use Rattle.file_means.proofs.ReadFine.{current-known}
 use Rattle.file_means.proofs.ReadLeads.{BoardReached, board-leads}
 use Rattle.file_means.proofs.ReachedRead.{reached-board}
 use Rattle.file_means.proofs.HoldsRefused.{holds-board}
 
-module _ (e : Edition) (known : e .lastKind ≤ lastKind) (s : List ℕ) where
+module _ (e : Edition) (known : Known e) (s : List ℕ) where
   abbrev Line : ℕ → ℕ → Type 0
   Line n p =
       ((longestInput < length s) × (n ≡ inputTooLong) × (p ≡ 0)) ⊎ ((length s ≤ longestInput) × LineHolds e s n p)
@@ -69,7 +68,7 @@ answered-given (given f) b n e =
 answered-given (refused k p) b n e = absurd (refused-never k p n (λ i. e i .1))
 
 -- what is read where the board stands there by its numbers
-pub reached-reading : (e : Edition) → e .lastKind ≤ lastKind → (s : List ℕ) (c : Counts) (ps : List Part) (n : ℕ) → length s ≤ longestInput
+pub reached-reading : (e : Edition) → Known e → (s : List ℕ) (c : Counts) (ps : List Part) (n : ℕ) → length s ≤ longestInput
     → Reached e s (at-part c ps) n → length ps ≡ c .parts → Wound (c .relays) ps
     → reading e s ≡ (boardOf c ps, given n)
 unfolding reading answered

@@ -1,6 +1,6 @@
 -- A line to its refusal: where a line of the table holds at a place and none before it, reading a board is refused by
 -- it there. What a line says of the numbers before it is that their stage is reached, so that the reader comes to it.
-use Prim.Native.Nat.{ℕ, suc, _-_, _<_, _≤_}
+use Prim.Native.Nat.{ℕ, suc, _-_, _<_}
 use native.Mathlib.Omega.{arith}
 use mathlib.Core.Path.{_≡_, refl, sym, _∙_}
 use mathlib.Core.Logic.{inl, inr, ⊎-elim}
@@ -26,6 +26,7 @@ use Rattle.board.specs.Sorts.{isRegular, isSteel}
 use Rattle.board.proofs.TallyLaws.{tallied-wound}
 use Rattle.board_reader.specs.Editions.{Edition}
 use Rattle.board_reader.specs.Reading.{wanted, countsAt, partAt, partsAt, boardAt}
+use Rattle.board_reader.proofs.EditionLaws.{Known}
 use Rattle.board_reader.proofs.FieldLaws.{wanted-refused, wanted-fails, wanted-passes, wanted-found, range-below}
 use Rattle.board_reader.proofs.FieldLaws.{range-above, name-carried}
 use Rattle.board_reader.proofs.CountsLaws.{terminals-refused, relays-refused, buttons-refused, parts-refused}
@@ -60,7 +61,7 @@ lineOf (at-first c ps k) = noSuchTerminal
 lineOf (at-second c ps k a) = noSuchTerminal
 lineOf (at-name c ps k a b) = noSuchName
 
-module _ (e : Edition) (known : e .lastKind ≤ lastKind) (s : List ℕ) where
+module _ (e : Edition) (known : Known e) (s : List ℕ) where
   -- ---- a number that is refused, or that fails its test
 
   module _ (n p : ℕ) where
@@ -151,7 +152,7 @@ module _ (e : Edition) (known : e .lastKind ≤ lastKind) (s : List ℕ) where
 
 -- ---- every line
 
-pub holds-board : (e : Edition) → e .lastKind ≤ lastKind → (s : List ℕ) (n p : ℕ) → LineHolds e s n p → boardAt e s ≡ refused n p
+pub holds-board : (e : Edition) → Known e → (s : List ℕ) (n p : ℕ) → LineHolds e s n p → boardAt e s ≡ refused n p
 holds-board e known s n p (line1 {f} {at} here asked ends) = board-form e known s n p f at here asked ends
 holds-board e known s n p (line2 {f} here asked bad) = board-form e known s n p f p here asked bad
 holds-board e known s n p (line3-T {v} x (inl under)) =

@@ -23,6 +23,7 @@ use Rattle.kinds.proofs.KindLaws.{kind-of-parts, kind-number-of, kind-name-of, 
 use Rattle.board.proofs.RuleLaws.{InRange}
 use Rattle.board_reader.specs.Editions.{Edition, currentEdition}
 use Rattle.board_reader.specs.Reading.{wanted, nameAt, partAt}
+use Rattle.board_reader.proofs.EditionLaws.{Known}
 use Rattle.board_reader.proofs.FieldLaws.{range-within, range-bounds}
 use Rattle.board_reader.proofs.PartLaws.{part-as, part-found}
 use Rattle.board_writer.specs.File.{nameBytes, partBytes}
@@ -126,7 +127,7 @@ pub record PartIsFine (e : Edition) (c : Counts) (w : WoundSoFar) (s : List ℕ)
   pub fine : partFine c w (p .value) ≡ true
   pub stands : AsWritten e s → StandsTo s at (p .next) (partBytes (p .value))
 
-pub part-read : (e : Edition) → e .lastKind ≤ lastKind → (c : Counts) (w : WoundSoFar) (s : List ℕ) (at : ℕ)
+pub part-read : (e : Edition) → Known e → (c : Counts) (w : WoundSoFar) (s : List ℕ) (at : ℕ)
     → Gives (PartIsFine e c w s at) (partAt e c w s at)
 unfolding partAt partFine partFits partBytes
 part-read e known c w s at =

@@ -29,6 +29,7 @@ use Rattle.board.specs.Sorts.{Wound}
 use Rattle.board.proofs.TallyLaws.{Tallied, tallied-none, tallied-gained, wound-tallied}
 use Rattle.board_reader.specs.Editions.{Edition}
 use Rattle.board_reader.specs.Reading.{wanted, countsAt, nameAt, partAt, partsAt, boardOf, boardFrom, boardAt}
+use Rattle.board_reader.proofs.EditionLaws.{Known}
 use Rattle.board_reader.proofs.FieldLaws.{wanted-passes, wanted-found, wanted-below, range-within, range-bounds}
 use Rattle.board_reader.proofs.FieldLaws.{name-wire, name-carried}
 use Rattle.board_reader.proofs.CountsLaws.{countAt, count-most, counts-read}
@@ -90,7 +91,7 @@ StageRead e s (at-first c ps k) at = (w : WoundSoFar) × KindRead e s c ps w k a
 StageRead e s (at-second c ps k a) at = (w : WoundSoFar) × FirstRead e s c ps w k a at
 StageRead e s (at-name c ps k a b) at = (w : WoundSoFar) × EndsRead e s c ps w k a b at
 
-module _ (e : Edition) (known : e .lastKind ≤ lastKind) (s : List ℕ) where
+module _ (e : Edition) (known : Known e) (s : List ℕ) where
   -- ---- the counts
 
   count-found : (low high at v next : ℕ) → StandsAt e s at v next → low ≤ v → v ≤ high

@@ -28,6 +28,7 @@ use Rattle.board.proofs.PaddedLaws.{padded-parts}
 use Rattle.board.proofs.TallyLaws.{Tallied, tallied-none, tallied-gained, tallied-wound, wound-tallied}
 use Rattle.board_reader.specs.Editions.{Edition}
 use Rattle.board_reader.specs.Reading.{wanted, countsAt, nameAt, partAt, partsAt, boardFrom, boardAt}
+use Rattle.board_reader.proofs.EditionLaws.{Known}
 use Rattle.board_reader.proofs.FieldLaws.{range-bounds}
 use Rattle.board_reader.proofs.CountsLaws.{count-most, counts-found}
 use Rattle.file_means.specs.FileRefusals.{StandsAt, FileStage, at-T, at-R, at-B, at-C, at-part, at-first}
@@ -56,7 +57,7 @@ unfolding inRange
 range-outside low high v off =
     by-less v low inl (λ least. inr (leb-false v high (rw (le-leb low v least) at off)))
 
-module _ (e : Edition) (known : e .lastKind ≤ lastKind) (s : List ℕ) where
+module _ (e : Edition) (known : Known e) (s : List ℕ) where
   -- ---- 1 and 2, the form of a wanted number, and then the line of its test
 
   module _ (f : FileStage) (at : ℕ) (here : Reached e s f at) (asked : NumberWanted f) where

@@ -16,6 +16,7 @@ use Rattle.board.proofs.PaddedLaws.{padded-parts}
 use Rattle.board.proofs.RuleLaws.{counts-in-range}
 use Rattle.board_reader.specs.Editions.{currentEdition}
 use Rattle.board_reader.specs.Reading.{boardOf, longestInput, answered, reading}
+use Rattle.board_reader.proofs.EditionLaws.{current-known}
 use Rattle.board_writer.specs.File.{boardBytes}
 use Rattle.board_writer.specs.Writing.{writing, bytesWritten}
 use Rattle.board_writer.proofs.WriteLaws.{writing-with-room}
@@ -24,7 +25,7 @@ use Rattle.file_means.specs.RoundTrip.{WriteThenRead, RestStays, ReadThe
 use Rattle.file_means.proofs.StandLaws.{StandsTo, bytes-as-written}
 use Rattle.file_means.proofs.GivesLaws.{Gives}
 use Rattle.file_means.proofs.BoardTrip.{board-reads, BoardIsFine}
-use Rattle.file_means.proofs.ReadFine.{current-known, read-fine}
+use Rattle.file_means.proofs.ReadFine.{read-fine}
 
 -- bytes stand at the start of an input that begins with them
 begins : (bytes rest : List ℕ) (n : ℕ) → n ≡ length bytes → StandsTo (bytes ++ rest) 0 n bytes

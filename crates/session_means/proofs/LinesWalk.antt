@@ -17,9 +17,10 @@ use Rattle.state.specs.States.{freshState, stateFine}
 use Rattle.state.proofs.StateLaws.{fresh-fits}
 use Rattle.board_reader.specs.Editions.{currentEdition}
 use Rattle.board_reader.specs.Reading.{wanted, reading}
+use Rattle.board_reader.proofs.EditionLaws.{current-known}
 use Rattle.file_means.proofs.GivesLaws.{Gives, gives-then, gives-after}
 use Rattle.file_means.proofs.BoardTrip.{BoardIsFine}
-use Rattle.file_means.proofs.ReadFine.{current-known, read-fine}
+use Rattle.file_means.proofs.ReadFine.{read-fine}
 use Rattle.lines.specs.Lines.{Line, closing}
 use Rattle.events.specs.Events.{Shown, eventAt, eventLine}
 use Rattle.session.specs.Sessions.{Head, withAllowance, headAt, eventLines, linesFrom, headLines}

@@ -47,7 +47,7 @@ returns c =
     let refusal = c .before .enum-told .given .1 in
     let args = c .before .before .before .before .before .args in
     number-stopped (c .no-field .result .part) (c .no-field .result .answer) _ _ (c .no-field .ensures) refusal
-    ∙ kind-refused currentEdition _ _ _ _ _ _
+    ∙ kind-refused _ _ _ _ _ _ _
     (told-refused (wanted currentEdition (inRange 0 (currentEdition .lastKind)) noSuchKind (args .s .now) (args .at)) _ _ refusal
     (c .before .before .before .read-within .ensures))
 
@@ -55,7 +55,7 @@ returns-2 : tie.Need-returns-2
 returns-2 c =
     let refusal = c .before .enum-told2 .given .1 in
     number-stopped (c .no-field2 .result .part) (c .no-field2 .result .answer) _ _ (c .no-field2 .ensures) refusal
-    ∙ a-refused currentEdition _ _ _ _ _ _ (kind (c .before .before .before .before .before)) _ _
+    ∙ a-refused _ _ _ _ _ _ _ (kind (c .before .before .before .before .before)) _ _
     (told-refused _ _ _ refusal (c .before .before .before .read-terminal .ensures))
 
 returns-3 : tie.Need-returns-3
@@ -63,7 +63,7 @@ returns-3 c =
     let refusal = c .before .enum-told3 .given .1 in
     let a = c .before .before .before .before .before in
     number-stopped (c .no-field3 .result .part) (c .no-field3 .result .answer) _ _ (c .no-field3 .ensures) refusal
-    ∙ b-refused currentEdition _ _ _ _ _ _ (kind (a .before .before .before .before)) _ _ (first-end a) _ _
+    ∙ b-refused _ _ _ _ _ _ _ (kind (a .before .before .before .before)) _ _ (first-end a) _ _
     (told-refused _ _ _ refusal (c .before .before .before .read-terminal2 .ensures))
 
 returns-4 : tie.Need-returns-4
@@ -71,7 +71,7 @@ returns-4 c =
     let b = c .before .before .before .before in
     let a = b .before .before .before .before in
     no-part-told (c .no-part .result) _ _ _ (c .no-part .ensures) (c .before .refuse .ensures)
-    ∙ ends-equal currentEdition _ _ _ _ _ _ (kind (a .before .before .before .before)) _ _ (first-end a) _ _ (second-end b)
+    ∙ ends-equal _ _ _ _ _ _ _ (kind (a .before .before .before .before)) _ _ (first-end a) _ _ (second-end b)
     (c .before .before .if1 .taken)
 
 returns-5 : tie.Need-returns-5
@@ -81,7 +81,7 @@ returns-5 c =
     let b = apart .before .before in
     let a = b .before .before .before .before in
     number-stopped (c .no-field4 .result .part) (c .no-field4 .result .answer) _ _ (c .no-field4 .ensures) refusal
-    ∙ name-refused currentEdition _ _ _ _ _ _ (kind (a .before .before .before .before)) _ _ (first-end a) _ _ (second-end b)
+    ∙ name-refused _ _ _ _ _ _ _ (kind (a .before .before .before .before)) _ _ (first-end a) _ _ (second-end b)
     (apart .if1 .left) _ _ (told-refused _ _ _ refusal (c .before .before .before .read-name .ensures))
 
 cast-of : tie.Need-cast-of
@@ -90,7 +90,7 @@ cast-of c =
     let k = b .before .before .before .before .before .before .before .before in
     let below = entry k .good .1 .1 .0 .1 .1 in
     record {
-      fits = name-below currentEdition _ _ _ _ _ _ 256 (name (c .before)) (omega (arith, below .1 .0 .1))
+      fits = name-below _ _ _ _ _ _ _ 256 (name (c .before)) (omega (arith, below .1 .0 .1))
           (omega (arith, below .1 .1 .0 .1)) (omega arith);
     }
 
@@ -101,7 +101,7 @@ returns-6 c =
     let b = apart .before .before in
     let a = b .before .before .before .before in
     no-part-told (c .no-part2 .result) _ _ _ (c .no-part2 .ensures) (c .before .refuse2 .ensures)
-    ∙ winding-taken-refused currentEdition _ _ _ _ _ _ (kind (a .before .before .before .before)) _ _ (first-end a) _ _ (second-end b)
+    ∙ winding-taken-refused _ _ _ _ _ _ _ (kind (a .before .before .before .before)) _ _ (first-end a) _ _ (second-end b)
     (apart .if1 .left) _ _ (name n)
     (ap (windingFree _) (sym (c .before .before .before .before .of .ensures))
     ∙ sym (c .before .before .before .free .ensures) ∙ not-true _ (c .before .before .if2 .taken))
@@ -111,13 +111,13 @@ cast-t21 c =
     let b = c .before .before .before .before .before .before .before .before .before in
     let a = b .before .before .before .before in
     let start = entry (a .before .before .before .before) in
-    omega (arith, terminal-below currentEdition (start .args .counts) _ _ _ _ (first-end a), start .good .1 .1 .0 .1 .1 .0 .1)
+    omega (arith, terminal-below _ (start .args .counts) _ _ _ _ (first-end a), start .good .1 .1 .0 .1 .1 .0 .1)
 
 cast-t24 : tie.Need-cast-t24
 cast-t24 c =
     let b = c .before .before .before .before .before .before .before .before .before in
     let start = entry (b .before .before .before .before .before .before .before .before) in
-    omega (arith, terminal-below currentEdition (start .args .counts) _ _ _ _ (second-end b), start .good .1 .1 .0 .1 .1 .0 .1)
+    omega (arith, terminal-below _ (start .args .counts) _ _ _ _ (second-end b), start .good .1 .1 .0 .1 .1 .0 .1)
 
 returns-7 : tie.Need-returns-7
 returns-7 c =
@@ -127,7 +127,7 @@ returns-7 c =
     let b = apart .before .before in
     let a = b .before .before .before .before in
     part-as _ _ _ refl refl made
-    ∙ part-found currentEdition _ _ _ _ _ _ (kind (a .before .before .before .before)) _ _ (first-end a) _ _ (second-end b)
+    ∙ part-found _ _ _ _ _ _ _ (kind (a .before .before .before .before)) _ _ (first-end a) _ _ (second-end b)
     (apart .if1 .left) _ _ (name n)
     (ap (windingFree _) (sym made) ∙ sym (c .before .free .ensures) ∙ not-false _ (c .if2 .left))
 

@@ -29,7 +29,7 @@ loop-holds c = (
   c .before .before .before .pre,
   omega arith,
   refl,
-  walk-start currentEdition _ _ _ _ _ (c .before .blank .ensures) (c .none .ensures),
+  walk-start _ _ _ _ _ _ (c .before .blank .ensures) (c .none .ensures),
 )
 
 returns : tie.Need-returns Inv-loop μ-loop
@@ -39,7 +39,7 @@ returns c =
     answer-refused (c .no-board .result) _ _ _ (c .no-board .ensures .0) (c .no-board .ensures .1)
     (ap toldReadAnswer refusal)
     ∙ ap answered
-    (board-refused _ _ _ _ (walk-refused currentEdition _ _ _ _ _ _ _ (called .before .before .loop .inv .4) _ _
+    (board-refused _ _ _ _ (walk-refused _ _ _ _ _ _ _ _ (called .before .before .loop .inv .4) _ _
     (called .before .loop-test .taken) (answer-stopped _ _ _ (called .read-part .ensures) _ refusal)))
 
 loop-again : tie.Need-loop-again Inv-loop μ-loop
@@ -50,7 +50,7 @@ loop-again c =
       at-loop .loop .inv .1,
       omega arith,
       length-set (at-loop .loop .parts) (at-loop .loop .i) (called .read-part .result .part) ∙ at-loop .loop .inv .3,
-      walk-on currentEdition _ _ _ _ _ _ _ (at-loop .loop .inv .4) _ _ _ (called .before .loop-test .taken) (at-loop .loop .inv .1)
+      walk-on _ _ _ _ _ _ _ _ (at-loop .loop .inv .4) _ _ _ (called .before .loop-test .taken) (at-loop .loop .inv .1)
           (answer-went _ _ _ (called .read-part .ensures) _ (c .before .before .before .answer .given .1))
           (c .with .ensures),
     )
@@ -58,7 +58,7 @@ loop-again c =
 returns-2 : tie.Need-returns-2 Inv-loop μ-loop
 returns-2 c = answer-refused (c .no-board2 .result) _ _ _ (c .no-board2 .ensures .0) (c .no-board2 .ensures .1)
     (c .before .refuse .ensures) ∙ ap answered
-    (board-refused _ _ _ _ (walk-lacking currentEdition _ _ _ _ _ _ _ (c .before .before .before .before .before .loop .inv .4)
+    (board-refused _ _ _ _ (walk-lacking _ _ _ _ _ _ _ _ (c .before .before .before .before .before .loop .inv .4)
     (c .before .before .before .before .loop-test .left)
     (sym (c .before .before .before .complete .ensures) ∙ not-true _ (c .before .before .if1 .taken))))
 
@@ -66,7 +66,7 @@ returns-3 : tie.Need-returns-3 Inv-loop μ-loop
 returns-3 c =
     let at-loop = c .before .before .before in
     board-found _ _ _ _ _ (at-loop .loop .inv .4 .array)
-    (walk-end currentEdition _ _ _ _ _ _ _ (at-loop .loop .inv .4) (c .before .before .loop-test .left)
+    (walk-end _ _ _ _ _ _ _ _ (at-loop .loop .inv .4) (c .before .before .loop-test .left)
     (sym (c .before .complete .ensures) ∙ not-false _ (c .if1 .left)))
 
 pub read-parts-spec : {M : Type 1} → statement M
