@@ -8,25 +8,25 @@ use mathlib.Core.Option.{Option, none, some}
 use Rattle.refusals.specs.declared.Against.{Against}
 use Rattle.refusals.specs.declared.Against.the-variants as stands
 use Rattle.refusals.specs.declared.Refusal.{Refusal}
-use Rattle.refusals.specs.Outcomes.{Outcome, given, refused, _>>_, unless}
+use Rattle.refusals.specs.Outcomes.{Outcome, given, refused, _>>_}
 use Rattle.refusals.specs.Refusals.{noSuchWinding}
 use Rattle.refusals.specs.Order.{firstNo, toldAgainst}
 use Rattle.refusals.proofs.OutcomeLaws.{both-given}
-use Rattle.refusals.proofs.OrderLaws.{asks-first}
 use Rattle.board.specs.declared.Board.{Board}
 use Rattle.board.specs.Parts.{partsOf}
 use Rattle.board.specs.Rules.{mostTerminals, boardFine}
+use Rattle.board.proofs.FineLaws.{fine-range}
 use Rattle.state.specs.declared.State.{State}
 use Rattle.state.specs.States.{stateFine, usable}
 use Rattle.state.proofs.StateLaws.{usable-fine, usable-given, usable-lines, usable-next}
 use Rattle.neighbours.specs.declared.Sets.{Sets}
-use Rattle.neighbours.specs.Neighbours.{setsOf}
+use Rattle.neighbours.specs.Neighbours.{neighbours, setsOf}
 use Rattle.search.specs.declared.Winding.{Winding}
-use Rattle.search.specs.Verdicts.{Verdict, verdictBy, toldVerdict}
-use Rattle.search.proofs.VerdictLaws.{in-sets-all, verdict-by-larger}
+use Rattle.search.specs.Verdicts.{verdictBy}
+use Rattle.search.proofs.VerdictLaws.{in-sets-all}
 use Rattle.judge.specs.declared.Which.{Which}
 use Rattle.judge.specs.RelayWindings.{OfRelay, windingOf, windingsAt, windingNamed, isThere, orNoSuchWinding}
-use Rattle.judge.specs.Judging.{judgedBy, judgeLines, windingFor, verdictOn, judging}
+use Rattle.judge.specs.Judging.{judgedBy, windingFor, verdictOn, judging}
 use Rattle.judge.proofs.SoughtLaws.{asked-given, asked-refused}
 use Rattle.judge.proofs.WoundLaws.{windings-named}
 
@@ -110,3 +110,11 @@ module _ (b : Board) (s : State) (r : ℕ) (n : Which) where
       → judgedBy k (b .counts .terminals) v w ≡ judging b s r n w
   judging-given w v k taken same =
       ap (λ (q : Sets). judgedBy q (b .counts .terminals) v w) same ∙ judging-by w (given v) taken
+
+  -- all the board's terminals are looked at
+  pub judging-verdict : (w : ℕ) (v : Winding) → windingFor b s r n ≡ given v
+      → verdictBy (neighbours b s) (b .counts .terminals) v w ≡ judging b s r n w
+  judging-verdict w v taken =
+      sym (judged-all (setsOf b s) (b .counts .terminals) v w
+      (fine-range b (winding-for-given v taken .0) .most-terminals))
+      ∙ judging-by w (given v) taken

@@ -1,14 +1,14 @@
 -- The theorems of specs/Eleven.antt, by how many parts are that winding: 1 or 0. Where it is 1, the winding is found,
 -- and it is the relay's, of the kind that the relay's sort asks for.
-use Prim.Native.Nat.{ℕ, _+_, _<_, _≤_}
+use Prim.Native.Nat.{ℕ, _≤_}
 use native.Mathlib.Omega.{arith}
 use mathlib.Core.Path.{_≡_, refl, sym, ap, ap₂, _∙_}
-use mathlib.Core.Logic.{_⊎_, _↔_, inl, inr, ⊎-map, ⊎-elim}
-use mathlib.Core.Bool.{Bool, true, false}
-use mathlib.Core.List.{List, [], _∷_}
+use mathlib.Core.Logic.{_⊎_, _↔_, inl, inr, ⊎-elim}
+use mathlib.Core.Bool.{Bool, true}
+use mathlib.Core.List.{List}
 use mathlib.Core.Option.{none, some, Option·none-ne-some, Option·some-injective}
 use lib.Dec.{eqb, ltb}
-use borrow.Author.Tests.{eqb-true, ne-eqb, ltb-true, ltb-false}
+use borrow.Author.Tests.{eqb-true, ltb-true, ltb-false}
 use Rattle.lists.specs.Members.{_∈_}
 use Rattle.bits.proofs.BoolLaws.{both-true, either-true, by-test, by-less}
 use Rattle.refusals.specs.Outcomes.{Outcome, given, refused}
@@ -16,15 +16,13 @@ use Rattle.refusals.specs.Refusals.{noSuchWinding}
 use Rattle.refusals.proofs.OutcomeLaws.{refused-never}
 use Rattle.kinds.specs.declared.Kind.{Kind}
 use Rattle.kinds.specs.declared.Kind.the-variants.{Regular, Drawing, Dropping}
-use Rattle.kinds.specs.Kinds.{kindNumber, nameOf, kindOf, buttonKind, regularKind, drawingKind, droppingKind}
+use Rattle.kinds.specs.Kinds.{kindNumber, nameOf, kindOf, regularKind, drawingKind, droppingKind}
 use Rattle.kinds.proofs.KindLaws.{kind-of-parts}
 use Rattle.board.specs.declared.Part.{Part}
-use Rattle.board.specs.declared.Counts.{Counts}
 use Rattle.board.specs.declared.Board.{Board}
 use Rattle.board.specs.Parts.{partsOf}
-use Rattle.board.specs.Rules.{nameFine, partFits, boardFine}
+use Rattle.board.specs.Rules.{boardFine}
 use Rattle.board.specs.Sorts.{carries, windingsOf, isRegular, isSteel}
-use Rattle.board.proofs.WindingLaws.{partsFit, part-named}
 use Rattle.board.proofs.FineLaws.{fine-parts-fit, fine-relays-wound}
 use Rattle.state.specs.declared.State.{State}
 use Rattle.search.specs.declared.Winding.{Winding}
@@ -34,14 +32,16 @@ use Rattle.search.specs.declared.Finding.the-variants as said
 use Rattle.search.specs.Verdicts as verdict
 use Rattle.judge.specs.declared.Which.{Which}
 use Rattle.judge.specs.declared.Which.the-variants.{First, Second}
-use Rattle.judge.specs.RelayWindings.{isFirst, isWinding, windingOf}
+use Rattle.judge.specs.RelayWindings.{endsOf, windingOf}
 use Rattle.judge.specs.Judging.{windingFor, Judges}
-use Rattle.judge.proofs.SoughtLaws.{endsOf, winding-here, winding-past, winding-none}
+use Rattle.judge.proofs.WoundLaws.{its, these, first-sum, second-sum, windings-counted, sorted-most, sorted-none}
+use Rattle.judge.proofs.WoundLaws.{regular-second, beyond-none, Found, sought, missing-counted, counted-missing}
+use Rattle.judge.proofs.WoundLaws.{some-found}
 use Rattle.judge.proofs.JudgeLaws.{winding-for-sought, winding-for-given, winding-for-eleven, judging-by}
 use Rattle.judge_means.specs.Eleven.{LineEleven, ElevenExactly, ItsWinding, TheWinding, RegularWound, SteelWound}
 use Rattle.judge_means.specs.Eleven.{EveryRelayWound}
 use Rattle.judge_means.proofs.Exactness.{FindingBy, live-by, dead-by, undecided-by, verdict-finding}
-use Rattle.lists.proofs.CountedLaws.{worth, counted, member-counted, counted-only}
+use Rattle.lists.proofs.CountedLaws.{member-counted, counted-only}
 
 -- ---- of a board that breaks no rule
 
