@@ -11,41 +11,54 @@ use Rattle.state.specs.declared.State.{State}
 use Rattle.state.specs.States.{stateFine}
 use Rattle.moves.specs.Steps as step
 use Rattle.moves.proofs.StepLaws.{made-fits}
-use Rattle.moves_means.specs.Guards.{CanDraw, CanDrop}
+use Rattle.moves_means.specs.SingleMoves.{Comes}
 use Rattle.moves_means.proofs.ComesLaws.{comes-exclusive}
 use Rattle.moves_means.proofs.OneRelay.{made-else}
 use Rattle.runs.specs.Looks.{Ending, idle, spent, undecided, conflict, Look, quiet, halts, makes, byteOf, lookFrom}
 use Rattle.runs.specs.Runs.{noRelay, Run, ends, logged, runOf}
-use Rattle.runs.proofs.RunLaws.{run-holds}
+use Rattle.runs.proofs.RunLaws.{RunGoes, rested, halted, filled, moved, run-goes}
 use Rattle.runs.proofs.RunFits.{look-makes-below}
-use Rattle.runs_means.specs.Courses.{LowestMove, Follows, Resting, StoppedBy, Ended}
+use Rattle.runs_means.specs.Courses.{AllowedMove, LowestMove, Follows, Resting, StoppedBy, Ended}
 use Rattle.runs_means.proofs.LookMeans.{LookMeans, look-means}
 
 module _ (b : Board) (w : ℕ) where
   -- ---- one move
 
-  -- of the relays below the one that stopped the look no guard holds
-  unguarded : (s : State) (r : ℕ) → Resting b s r w → (q : ℕ) → q < r → ¬ (CanDraw b s q) × ¬ (CanDrop b s q)
-  unguarded s r rest q below = (rest q below .2, rest q below .3)
+  drew-allowed : (s : State) (r : ℕ) → r < b .counts .relays → Comes b s r step.drew w
+      → AllowedMove b s (byteOf r step.drew) (step.made s r step.drew) w
+  drew-allowed s r below comes =
+      record {
+        relay = r;
+        on-board = below;
+        made = inl (refl, comes, refl);
+        else-as-before = made-else s r step.drew;
+        guarded = inl (comes .2);
+      }
+
+  dropped-allowed : (s : State) (r : ℕ) → r < b .counts .relays → Comes b s r step.dropped w
+      → AllowedMove b s (byteOf r step.dropped) (step.made s r step.dropped) w
+  dropped-allowed s r below comes =
+      record {
+        relay = r;
+        on-board = below;
+        made = inr (refl, comes, refl);
+        else-as-before = made-else s r step.dropped;
+        guarded = inr (comes .2);
+      }
+
+  -- of the relays below one that all rest below no guard holds
+  resting-lowest : (s : State) (c : ℕ) (t : State) (move : AllowedMove b s c t w) → Resting b s (move .relay) w
+      → LowestMove b s c t w
+  resting-lowest s c t move rest =
+      record { move = move; resting = rest; lowest = λ q below. (rest q below .2, rest q below .3) }
 
   stopped-moves : (s : State) (m : step.Move) (r : ℕ) → LookMeans b w s (makes m r)
       → LowestMove b s (byteOf r m) (step.made s r m) w
-  stopped-moves s m r (inl (is, stopped)) =
-      rw is (record {
-        relay = r;
-        made = inl (refl, stopped, refl);
-        else-as-before = made-else s r step.drew;
-        guarded = inl (stopped .2 .2);
-        lowest = unguarded s r (stopped .1);
-      })
-  stopped-moves s m r (inr (is, stopped)) =
-      rw is (record {
-        relay = r;
-        made = inr (refl, stopped, refl);
-        else-as-before = made-else s r step.dropped;
-        guarded = inr (stopped .2 .2);
-        lowest = unguarded s r (stopped .1);
-      })
+  unfolding drew-allowed dropped-allowed
+  stopped-moves s m r (inl (is, (below, rest, comes))) =
+      rw is (resting-lowest s _ _ (drew-allowed s r below comes) rest)
+  stopped-moves s m r (inr (is, (below, rest, comes))) =
+      rw is (resting-lowest s _ _ (dropped-allowed s r below comes) rest)
 
   -- ---- the whole run
 
@@ -87,16 +100,21 @@ module _ (b : Board) (w : ℕ) where
         → stateFine (b .counts) s ≡ true → LookMeans b w s l
     means s l e fits = subst (LookMeans b w s) e (look-means b w s fine fits)
 
+    goes-says : {n : ℕ} {s : State} {x : Run} → RunGoes (step.stepper b w) (b .counts .relays) n s x
+        → stateFine (b .counts) s ≡ true → Says n s x
+    goes-says (rested {n = n} {s = s} e) fits = says-ends n s idle noRelay (refl, means s quiet e fits)
+    goes-says (halted {n = n} {s = s} {e = h} {r = r} e) fits =
+        says-ends n s h r (halts-ended n s h r (means s (halts h r) e fits))
+    goes-says (filled {s = s} {m = m} {r = r} e) fits =
+        says-ends zero s spent r (full-ended s m r (means s (makes m r) e fits))
+    goes-says (moved {n = n} {s = s} {x = x} m r e on) fits =
+        says-logged n s (byteOf r m) (step.made s r m) x (stopped-moves s m r (means s (makes m r) e fits))
+        (goes-says on (made-fits (b .counts) s r m fits
+        (look-makes-below (step.stepper b w) s (b .counts .relays) m r e)))
+
     pub run-says : (n : ℕ) (s : State) → stateFine (b .counts) s ≡ true
         → Says n s (runOf (step.stepper b w) (b .counts .relays) n s)
-    run-says =
-        run-holds (step.stepper b w) (b .counts .relays) (λ n s x. stateFine (b .counts) s ≡ true → Says n s x)
-        (λ n s e fits. says-ends n s idle noRelay (refl, means s quiet e fits))
-        (λ n s h r e fits. says-ends n s h r (halts-ended n s h r (means s (halts h r) e fits)))
-        (λ s m r e fits. says-ends zero s spent r (full-ended s m r (means s (makes m r) e fits)))
-        (λ n s m r x e on fits.
-        says-logged n s (byteOf r m) (step.made s r m) x (stopped-moves s m r (means s (makes m r) e fits))
-        (on (made-fits (b .counts) s r m fits (look-makes-below (step.stepper b w) s (b .counts .relays) m r e))))
+    run-says n s fits = goes-says (run-goes (step.stepper b w) (b .counts .relays) n s) fits
 
   -- ---- of one run only one word can be said
 
