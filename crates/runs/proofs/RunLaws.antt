@@ -1,5 +1,5 @@
--- A run by the ways it goes on: one case for each, and that a run is always one of them and nothing else is. Every law of
--- runs goes by these cases, here and in later crates, and none by the definition's text.
+-- A run by the ways it goes on: one case for each, and the two laws that a run is always one of them and that nothing
+-- else is. Every law of runs goes by these cases, here and in later crates, and none by the definition's text.
 use Prim.Native.Nat.{ℕ, zero, suc, _≤_}
 use native.Mathlib.Omega.{arith}
 use mathlib.Core.Path.{_≡_, refl, ap, _∙_}

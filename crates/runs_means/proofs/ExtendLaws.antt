@@ -88,8 +88,10 @@ module _ (f g : Stepper) (settles : Settles f g) (k : ℕ) where
       on (look-settles f g settles s k 0)
 
   goes-on : {n : ℕ} {s : State} {x : Run} → RunGoes f k n s x → (m : ℕ) → n ≤ m → GoesOn x (runOf g k m s)
-  goes-on (rested {n = n} e) m more = goes-on-unless (rested {n = n} e) (λ same. goes-on-same _ _ (goes-run (rested (same ∙ e))))
-  goes-on (halted {n = n} e) m more = goes-on-unless (halted {n = n} e) (λ same. goes-on-same _ _ (goes-run (halted (same ∙ e))))
+  goes-on (rested {n = n} e) m more =
+      goes-on-unless (rested {n = n} e) (λ same. goes-on-same _ _ (goes-run (rested (same ∙ e))))
+  goes-on (halted {n = n} e) m more =
+      goes-on-unless (halted {n = n} e) (λ same. goes-on-same _ _ (goes-run (halted (same ∙ e))))
   goes-on (filled e) m more = goes-on-unfinal _ _ spent _ _ refl (λ never. never)
   goes-on (moved mv r e on) zero more = absurd (omega arith)
   goes-on (moved mv r e on) (suc m) more =

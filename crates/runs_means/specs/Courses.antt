@@ -3,12 +3,12 @@
 --     Resting b s k w         each relay below k rests in state s: no guard holds of it, there is not current through
 --                             both its windings, and none of them needs more than the allowance w
 --     StoppedBy b s r m w     relay r is the first that does not rest in state s, and it comes to m
---     AllowedMove b s c t w   one move, from state s to state t, logged as the byte c: a relay of the board comes to drew
---                             or dropped; t is s with that relay drawn, or dropped (`withDrawn`, `withDropped`), and "A
---                             move changes that relay and nothing else". So the guard for drawing or dropping it holds
---                             in s
---     LowestMove b s c t w    an allowed move that is also the lowest: "the first that doesn't rest decides". So of no
---                             lower relay does a guard hold
+--     AllowedMove b s c t w   one move, from state s to state t, logged as the byte c: a relay of the board comes to
+--                             drew or dropped; t is s with that relay drawn, or dropped (`withDrawn`, `withDropped`),
+--                             and "A move changes that relay and nothing else". So the guard for drawing or dropping it
+--                             holds in s
+--     LowestMove b s c t w    an allowed move that is also the lowest: "the first that doesn't rest decides", and each
+--                             lower relay rests. So of no lower relay does a guard hold
 --     Follows b s cs t w      the moves logged as cs lead from state s to state t, one after the other
 --     Ended b n m s r e w     what the word e says, of a run with room for n moves that made m of them and stopped in
 --                             state s at relay r. Spent: a further move was possible when the log was full. Undecided:
