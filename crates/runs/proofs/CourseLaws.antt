@@ -12,10 +12,10 @@ use Rattle.state.specs.declared.State.{State}
 use Rattle.moves.specs.Steps as step
 use Rattle.runs.specs.Looks.{Stepper, Ending, idle, spent, undecided, conflict, Look, makes, decides, byteOf}
 use Rattle.runs.specs.Looks.{lookFrom}
-use Rattle.runs.specs.Runs.{noRelay, Run, ends, logged, runOf}
+use Rattle.runs.specs.Runs.{noRelay, Run, logged, runOf}
 use Rattle.runs.specs.Running.{Ran, ran}
 use Rattle.runs.proofs.LookLaws.{look-quiet, look-decides}
-use Rattle.runs.proofs.RunLaws.{RunGoes, rested, halted, filled, moved, run-goes, goes-run, goes-room}
+use Rattle.runs.proofs.RunLaws.{RunStops, rested, halted, filled, stops, moved, run-goes, goes-run, goes-room}
 
 -- what is told of a run that logged its first m moves and goes on as x
 abbrev onward : List ℕ → ℕ → Run → Ran
@@ -121,10 +121,10 @@ module _ {f g : Stepper} {k : ℕ} {log₀ log : List ℕ} {m₀ m : ℕ} {s₀ 
     pub scan-long : length log ≡ room
     scan-long = here .long
 
-    ends-here : (w : Ending) (q : ℕ) → RunGoes f k (room - m) s (ends w s q) → stopped w m s q log ≡ all
-    ends-here w q stops =
+    ends-here : (w : Ending) (q : ℕ) → RunStops f k (room - m) s w q → stopped w m s q log ≡ all
+    ends-here w q why =
         let none : m + 0 ≡ m = omega arith in
-        sym (here .goes ∙ ap (onward log m) (goes-run stops) ∙ ap (λ (n : ℕ). stopped w n s q log) none)
+        sym (here .goes ∙ ap (onward log m) (goes-run (stops why)) ∙ ap (λ (n : ℕ). stopped w n s q log) none)
 
     pub course-idle : k ≤ r → stopped idle m s noRelay log ≡ all
     course-idle past = ends-here idle noRelay (rested (scan .look ∙ look-quiet f s k r past))
@@ -142,7 +142,7 @@ module _ {f g : Stepper} {k : ℕ} {log₀ log : List ℕ} {m₀ m : ℕ} {s₀ 
       pub course-spent : Moving mv → length log ≤ m → stopped spent m s r log ≡ all
       course-spent move full =
           let none : room - m ≡ 0 = omega (arith, here .long, full) in
-          ends-here spent r (rw none (filled (moves-here move)))
+          ends-here spent r (rw none (filled mv (moves-here move)))
 
       -- the move is made and logged
       pub course-moves : {c : ℕ} {t : State} {p : ℕ} → Moving mv → m < length log → c ≡ byteOf r mv → p ≡ r

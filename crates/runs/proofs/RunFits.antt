@@ -11,7 +11,7 @@ use Rattle.moves.specs.Steps as step
 use Rattle.moves.proofs.StepLaws.{made-fits}
 use Rattle.runs.specs.Looks.{Stepper, Look, quiet, halts, makes, decides, lookFrom}
 use Rattle.runs.specs.Runs.{Run, runOf}
-use Rattle.runs.proofs.RunLaws.{RunGoes, rested, halted, filled, moved, run-goes}
+use Rattle.runs.proofs.RunLaws.{RunGoes, stops, moved, run-goes}
 
 -- ---- the relay that moves is one of the k that were looked at
 
@@ -42,9 +42,7 @@ look-makes-below f s k m r is = subst (MovesBelow k) is (look-below f s k k 0 (o
 module _ (c : Counts) (f : Stepper) where
   goes-fits : {n : ℕ} {s : State} {x : Run} → RunGoes f (c .relays) n s x → stateFine c s ≡ true
       → stateFine c (x .state) ≡ true
-  goes-fits (rested e) fits = fits
-  goes-fits (halted e) fits = fits
-  goes-fits (filled e) fits = fits
+  goes-fits (stops why) fits = fits
   goes-fits (moved {s = s} m r e on) fits =
       goes-fits on (made-fits c s r m fits (look-makes-below f s (c .relays) m r e))
 

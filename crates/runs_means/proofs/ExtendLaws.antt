@@ -10,7 +10,7 @@ use Rattle.moves.specs.Steps as step
 use Rattle.runs.specs.Looks.{Stepper, Ending, idle, spent, undecided, conflict, halts, byteOf}
 use Rattle.runs.specs.Looks.{lookFrom}
 use Rattle.runs.specs.Runs.{Run, ends, logged, runOf}
-use Rattle.runs.proofs.RunLaws.{RunGoes, rested, halted, filled, moved, run-goes, goes-run}
+use Rattle.runs.proofs.RunLaws.{RunStops, rested, halted, filled, RunGoes, stops, moved, run-goes, goes-run}
 use Rattle.runs_means.specs.LongerRuns.{IsStart}
 
 -- g comes to what f comes to, wherever f is not undecided
@@ -84,15 +84,20 @@ module _ (f g : Stepper) (settles : Settles f g) (k : ℕ) where
   goes-on-unless : {n : ℕ} {s : State} {x y : Run} → RunGoes f k n s x
       → (lookFrom g s k 0 ≡ lookFrom f s k 0 → GoesOn x y) → GoesOn x y
   goes-on-unless {s = s} {x = x} {y = y} way on =
-      ⊎-elim (λ (q, u). goes-on-unfinal x y undecided s q (sym (goes-run way) ∙ goes-run (halted u)) (λ never. never))
+      ⊎-elim
+      (λ (q, u). goes-on-unfinal x y undecided s q (sym (goes-run way) ∙ goes-run (stops (halted u))) (λ never. never))
       on (look-settles f g settles s k 0)
 
+  goes-on-stops : {n : ℕ} {s : State} {e : Ending} {r : ℕ} → RunStops f k n s e r → (m : ℕ)
+      → GoesOn (ends e s r) (runOf g k m s)
+  goes-on-stops (rested {n = n} e) m =
+      goes-on-unless (stops (rested {n = n} e)) (λ same. goes-on-same _ _ (goes-run (stops (rested (same ∙ e)))))
+  goes-on-stops (halted {n = n} e) m =
+      goes-on-unless (stops (halted {n = n} e)) (λ same. goes-on-same _ _ (goes-run (stops (halted (same ∙ e)))))
+  goes-on-stops (filled mv e) m = goes-on-unfinal _ _ spent _ _ refl (λ never. never)
+
   goes-on : {n : ℕ} {s : State} {x : Run} → RunGoes f k n s x → (m : ℕ) → n ≤ m → GoesOn x (runOf g k m s)
-  goes-on (rested {n = n} e) m more =
-      goes-on-unless (rested {n = n} e) (λ same. goes-on-same _ _ (goes-run (rested (same ∙ e))))
-  goes-on (halted {n = n} e) m more =
-      goes-on-unless (halted {n = n} e) (λ same. goes-on-same _ _ (goes-run (halted (same ∙ e))))
-  goes-on (filled e) m more = goes-on-unfinal _ _ spent _ _ refl (λ never. never)
+  goes-on (stops why) m more = goes-on-stops why m
   goes-on (moved mv r e on) zero more = absurd (omega arith)
   goes-on (moved mv r e on) (suc m) more =
       goes-on-unless (moved mv r e on) (λ same. rw (goes-run (moved mv r (same ∙ e) (run-goes g k m _)))

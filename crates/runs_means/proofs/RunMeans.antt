@@ -16,7 +16,7 @@ use Rattle.moves_means.proofs.ComesLaws.{comes-exclusive}
 use Rattle.moves_means.proofs.OneRelay.{made-else}
 use Rattle.runs.specs.Looks.{Ending, idle, spent, undecided, conflict, Look, quiet, halts, makes, byteOf, lookFrom}
 use Rattle.runs.specs.Runs.{noRelay, Run, ends, logged, runOf}
-use Rattle.runs.proofs.RunLaws.{RunGoes, rested, halted, filled, moved, run-goes}
+use Rattle.runs.proofs.RunLaws.{RunStops, rested, halted, filled, RunGoes, stops, moved, run-goes}
 use Rattle.runs.proofs.RunFits.{look-makes-below}
 use Rattle.runs_means.specs.Courses.{AllowedMove, LowestMove, Follows, Resting, StoppedBy, Ended}
 use Rattle.runs_means.proofs.LookMeans.{LookMeans, look-means}
@@ -100,13 +100,15 @@ module _ (b : Board) (w : ℕ) where
         → stateFine (b .counts) s ≡ true → LookMeans b w s l
     means s l e fits = subst (LookMeans b w s) e (look-means b w s fine fits)
 
+    stops-ended : {n : ℕ} {s : State} {h : Ending} {r : ℕ} → RunStops (step.stepper b w) (b .counts .relays) n s h r
+        → stateFine (b .counts) s ≡ true → Ended b n 0 s r h w
+    stops-ended (rested {s = s} e) fits = (refl, means s quiet e fits)
+    stops-ended (halted {n = n} {s = s} {e = h} {r = r} e) fits = halts-ended n s h r (means s (halts h r) e fits)
+    stops-ended (filled {s = s} {r = r} m e) fits = full-ended s m r (means s (makes m r) e fits)
+
     goes-says : {n : ℕ} {s : State} {x : Run} → RunGoes (step.stepper b w) (b .counts .relays) n s x
         → stateFine (b .counts) s ≡ true → Says n s x
-    goes-says (rested {n = n} {s = s} e) fits = says-ends n s idle noRelay (refl, means s quiet e fits)
-    goes-says (halted {n = n} {s = s} {e = h} {r = r} e) fits =
-        says-ends n s h r (halts-ended n s h r (means s (halts h r) e fits))
-    goes-says (filled {s = s} {m = m} {r = r} e) fits =
-        says-ends zero s spent r (full-ended s m r (means s (makes m r) e fits))
+    goes-says (stops {n = n} {s = s} {e = h} {r = r} why) fits = says-ends n s h r (stops-ended why fits)
     goes-says (moved {n = n} {s = s} {x = x} m r e on) fits =
         says-logged n s (byteOf r m) (step.made s r m) x (stopped-moves s m r (means s (makes m r) e fits))
         (goes-says on (made-fits (b .counts) s r m fits
@@ -128,22 +130,22 @@ module _ (b : Board) (w : ℕ) where
 
   record Stopped (s : State) (r : ℕ) (e : Ending) : Type 0 where
     move : step.Move
-    stops : StoppedBy b s r move w
+    by : StoppedBy b s r move w
     says : wordBy move ≡ e
 
   ended-by : (n k : ℕ) (s : State) (r : ℕ) (e : Ending) → Ended b n k s r e w
       → ((idle ≡ e) × Resting b s (b .counts .relays) w) ⊎ Stopped s r e
   ended-by n k s r idle h = inl (refl, h .1)
   ended-by n k s r spent h =
-      inr (⊎-elim (λ x. record { move = step.drew; stops = x; says = refl })
-      (λ x. record { move = step.dropped; stops = x; says = refl }) (h .1))
-  ended-by n k s r undecided h = inr (record { move = step.undecided; stops = h; says = refl })
-  ended-by n k s r conflict h = inr (record { move = step.conflict; stops = h; says = refl })
+      inr (⊎-elim (λ x. record { move = step.drew; by = x; says = refl })
+      (λ x. record { move = step.dropped; by = x; says = refl }) (h .1))
+  ended-by n k s r undecided h = inr (record { move = step.undecided; by = h; says = refl })
+  ended-by n k s r conflict h = inr (record { move = step.conflict; by = h; says = refl })
 
   -- where all rest, what a relay came to is that it rests
   rests-stopped : (s : State) (r : ℕ) (e : Ending) → Resting b s (b .counts .relays) w → Stopped s r e → idle ≡ e
   rests-stopped s r e rest x =
-      ap wordBy (comes-exclusive b w s r step.rests (x .move) (rest r (x .stops .0)) (x .stops .2)) ∙ x .says
+      ap wordBy (comes-exclusive b w s r step.rests (x .move) (rest r (x .by .0)) (x .by .2)) ∙ x .says
 
   causes-exclusive : (s : State) (r : ℕ) (d e : Ending) → ((idle ≡ d) × Resting b s (b .counts .relays) w)
       ⊎ Stopped s r d → ((idle ≡ e) × Resting b s (b .counts .relays) w) ⊎ Stopped s r e → d ≡ e
@@ -151,7 +153,7 @@ module _ (b : Board) (w : ℕ) where
   causes-exclusive s r d e (inl x) (inr y) = sym (x .0) ∙ rests-stopped s r e (x .1) y
   causes-exclusive s r d e (inr x) (inl y) = sym (rests-stopped s r d (y .1) x) ∙ y .0
   causes-exclusive s r d e (inr x) (inr y) =
-      sym (x .says) ∙ ap wordBy (comes-exclusive b w s r (x .move) (y .move) (x .stops .2) (y .stops .2))
+      sym (x .says) ∙ ap wordBy (comes-exclusive b w s r (x .move) (y .move) (x .by .2) (y .by .2))
       ∙ y .says
 
   pub ended-exclusive : (n k : ℕ) (s : State) (r : ℕ) (d e : Ending) → Ended b n k s r d w → Ended b n k s r e w → d ≡ e
