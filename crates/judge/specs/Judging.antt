@@ -15,8 +15,7 @@ use Rattle.state.specs.States.{usable}
 use Rattle.neighbours.specs.Neighbours.{neighbours}
 use Rattle.search.specs.declared.Winding.{Winding}
 use Rattle.search.specs.declared.Verdict as code-verdict
-use Rattle.neighbours.specs.declared.Sets.{Sets}
-use Rattle.search.specs.Verdicts.{Verdict, verdictBy, inSets, unanswered, toldVerdict}
+use Rattle.search.specs.Verdicts.{Verdict, verdictBy, unanswered, toldVerdict}
 use Rattle.judge.specs.declared.Which.{Which}
 use Rattle.judge.specs.RelayWindings.{windingOf, orNoSuchWinding}
 
@@ -34,9 +33,3 @@ judging b s r n w = verdictOn b s (windingFor b s r n) w
 
 abbrev pub Judges : Board → State → ℕ → Which → ℕ → code-verdict.Verdict → Type 0
 Judges b s r n w v = toldVerdict v ≡ judging b s r n w
-
-unfoldable pub judgedBy : Sets → ℕ → Winding → ℕ → Verdict
-judgedBy k t v w = verdictBy (k .near) (inSets t) v w
-
-abbrev pub JudgesBy : Sets → ℕ → Winding → ℕ → code-verdict.Verdict → Type 0
-JudgesBy k t v w r = toldVerdict r ≡ judgedBy k t v w

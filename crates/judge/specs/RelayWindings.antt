@@ -4,11 +4,6 @@
 --     isWinding n r k              kind k is that winding of relay r
 --     windingOf n r ps             the ends of that winding of relay r among the parts ps, if it is there
 --     orNoSuchWinding o            the winding o of which a call asks; where there is none, 11
---     OfRelay A                    what is said of each winding of a relay: of its one, its two, or that it has none
---     ofRelay x y                  by its first and its second winding, where they are there
---     windingsAt r ps              the windings of relay r among the parts ps
---     toldWindings                 the answer's cases
---     FindsWindings b r x          promise: `windings` of relay r of board b answers x
 --     toldSought                   the answer's cases as windings, or none
 --     SeeksWinding b r n x         promise: `winding` n of relay r of board b answers x
 -- `judge_means` shows that on a board that breaks no rule 11 is given exactly if its line holds, and that the winding
@@ -29,8 +24,6 @@ use Rattle.board.specs.Sorts.{carries}
 use Rattle.search.specs.declared.Winding.{Winding}
 use Rattle.judge.specs.declared.Which.{Which}
 use Rattle.judge.specs.declared.Which.the-variants.{First, Second}
-use Rattle.judge.specs.declared.Windings.{Windings}
-use Rattle.judge.specs.declared.Windings.the-variants as found
 use Rattle.judge.specs.declared.Sought.{Sought}
 use Rattle.judge.specs.declared.Sought.the-variants.{Between, Nowhere}
 
@@ -58,24 +51,3 @@ toldSought Nowhere = none
 
 abbrev pub SeeksWinding : Board → ℕ → Which → Sought → Type 0
 SeeksWinding b r n x = toldSought x ≡ windingOf n r (partsOf b)
-
-pub data OfRelay (A : Type 0) : Type 0 where
-  regular : A → OfRelay A
-  steel : A → A → OfRelay A
-  absent : OfRelay A
-
-abbrev pub ofRelay : {A : Type 0} → Option A → Option A → OfRelay A
-ofRelay none y = absent
-ofRelay (some x) none = regular x
-ofRelay (some x) (some y) = steel x y
-
-unfoldable pub windingsAt : ℕ → List Part → OfRelay Winding
-windingsAt r ps = ofRelay (windingOf First r ps) (windingOf Second r ps)
-
-abbrev pub toldWindings : Windings → OfRelay Winding
-toldWindings (found.Regular v) = regular v
-toldWindings (found.Steel v u) = steel v u
-toldWindings found.Absent = absent
-
-abbrev pub FindsWindings : Board → ℕ → Windings → Type 0
-FindsWindings b r x = toldWindings x ≡ windingsAt r (partsOf b)

@@ -2,15 +2,14 @@
 ghost use mathlib.Core.Path.{_≡_};
 ghost use Rattle.board.specs.Sorts.{carries};
 ghost use Rattle.search.specs.Verdicts.{unanswered, toldVerdict};
-ghost use Rattle.judge.specs.RelayWindings.{isFirst, isWinding, SeeksWinding, FindsWindings};
-ghost use Rattle.judge.specs.Judging.{Judges, JudgesBy};
+ghost use Rattle.judge.specs.RelayWindings.{isFirst, isWinding, SeeksWinding};
+ghost use Rattle.judge.specs.Judging.{Judges};
 use board::Board;
 use board::MOST_PARTS;
 use kinds::DRAWING_KIND;
 use kinds::DROPPING_KIND;
 use kinds::Kind;
 use kinds::REGULAR_KIND;
-use neighbours::Sets;
 use refusals::BROKEN_BOARD;
 use refusals::NO_SUCH_WINDING;
 use refusals::Refusal;
@@ -118,34 +117,4 @@ pub fn judge(board: Board, state: State, relay: u32, which: Which, allowance: u3
     };
     let near = neighbours::neighbours(board, state);
     search::search(&near, counts.terminals, ends, allowance)
-}
-
-// A relay's windings.
-pub enum Windings {
-    Regular(Winding),
-    Steel(Winding, Winding),
-    Absent,
-}
-
-// The windings of a relay.
-pub fn find_windings(board: Board, relay: u32) -> Windings
-    ensures { λ r. ⌜ FindsWindings board relay r ⌝ }
-{
-    let first = winding(board, relay, Which::First);
-    let Sought::Between(drawing) = first else {
-        return Windings::Absent;
-    };
-    let second = winding(board, relay, Which::Second);
-    let Sought::Between(dropping) = second else {
-        return Windings::Regular(drawing);
-    };
-    Windings::Steel(drawing, dropping)
-}
-
-// Judges a winding by the sets.
-pub fn judge_by(sets: Sets, terminals: u8, winding: Winding, allowance: u32) -> Verdict
-    ensures { λ r. ⌜ JudgesBy sets terminals winding allowance r ⌝ }
-{
-    let near = sets.near;
-    search::search(&near, terminals, winding, allowance)
 }

@@ -23,7 +23,6 @@ use Rattle.board.specs.declared.Board.{Board}
 use Rattle.board.specs.Parts.{partsOf}
 use Rattle.board.specs.Rules.{mostTerminals}
 use Rattle.state.specs.declared.State.{State}
-use Rattle.neighbours.specs.declared.Sets.{Sets}
 use Rattle.neighbours.specs.Conduction.{conducts}
 
 abbrev pub EndsAt : Part → ℕ → ℕ → Type 0
@@ -56,6 +55,3 @@ neighbours b s = gathered s alone (partsOf b)
 
 abbrev pub Neighbours : Board → State → List ℕ → Type 0
 Neighbours b s r = r ≡ neighbours b s
-
-abbrev pub setsOf : Board → State → Sets
-setsOf b s = record { near = neighbours b s }

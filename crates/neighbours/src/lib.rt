@@ -49,11 +49,6 @@ fn bridge(near: [u64; 64], part: Part, state: State) -> [u64; 64]
     }
 }
 
-// The sets.
-pub struct Sets {
-    pub near: [u64; 64],
-}
-
 // For each terminal the set of terminals that a conducting part joins to it.
 pub fn neighbours(board: Board, state: State) -> [u64; 64]
     ensures { λ r. ⌜ Neighbours board state r ⌝ }
