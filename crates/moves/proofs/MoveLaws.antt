@@ -78,14 +78,14 @@ module _ (d : Bool) (f : Findings) (settled : anyUndecided (toldFindings f) ≡ 
 -- the finding g on each winding is undecided or the same as h: then what the relay does is undecided or the same
 module _ (d : Bool) (g h : Winding → Outcome verdict.Finding)
     (same : (v : Winding) → (g v ≡ given verdict.undecided) ⊎ (h v ≡ g v)) where
-  pub decide-larger : (x : OfRelay Winding) → (undecided ≡ decide d (findingsBy g x))
+  pub decide-larger : (x : OfRelay Winding) → (decide d (findingsBy g x) ≡ undecided)
       ⊎ (decide d (findingsBy h x) ≡ decide d (findingsBy g x))
   decide-larger absent = inr refl
   decide-larger (regular v) = by-first (same v)
     where
-      by-first : (g v ≡ given verdict.undecided) ⊎ (h v ≡ g v) → (undecided ≡ decide d (regular (g v)))
+      by-first : (g v ≡ given verdict.undecided) ⊎ (h v ≡ g v) → (decide d (regular (g v)) ≡ undecided)
           ⊎ (decide d (regular (h v)) ≡ decide d (regular (g v)))
-      by-first (inl e) = inl (decide-undecided d _ (ap isUndecided e))
+      by-first (inl e) = inl (sym (decide-undecided d (regular (g v)) (ap isUndecided e)))
       by-first (inr e) = inr (ap (λ (o : Outcome verdict.Finding). decide d (regular o)) e)
   decide-larger (steel v u) = by-both (same v) (same u)
     where
@@ -94,9 +94,9 @@ module _ (d : Bool) (g h : Winding → Outcome verdict.Finding)
       either false = refl
 
       by-both : (g v ≡ given verdict.undecided) ⊎ (h v ≡ g v) → (g u ≡ given verdict.undecided) ⊎ (h u ≡ g u)
-          → (undecided ≡ decide d (steel (g v) (g u)))
+          → (decide d (steel (g v) (g u)) ≡ undecided)
           ⊎ (decide d (steel (h v) (h u)) ≡ decide d (steel (g v) (g u)))
-      by-both (inl e) k = inl (decide-undecided d _ (ap (λ (o : Outcome verdict.Finding). isUndecided o || isUndecided (g u)) e))
+      by-both (inl e) k = inl (sym (decide-undecided d (steel (g v) (g u)) (ap (λ (o : Outcome verdict.Finding). isUndecided o || isUndecided (g u)) e)))
       by-both (inr e) (inl k) =
-          inl (decide-undecided d _ (ap (λ (o : Outcome verdict.Finding). isUndecided (g v) || isUndecided o) k ∙ either (isUndecided (g v))))
+          inl (sym (decide-undecided d (steel (g v) (g u)) (ap (λ (o : Outcome verdict.Finding). isUndecided (g v) || isUndecided o) k ∙ either (isUndecided (g v)))))
       by-both (inr e) (inr k) = inr (rw (e, k) refl)

@@ -184,7 +184,7 @@ pub fn move_relay(board: Board, state: State, relay: u32, allowance: u32) -> Mov
     let against = usable.unless(there, NO_SUCH_WINDING);
     match against {
         Against::Nothing => {
-            let sets = neighbours::neighbours_of(board, state);
+            let sets = neighbours::neighbours(board, state);
             let motion = step(sets, board, state, relay, allowance);
             let state = after(state, relay, motion);
             let answer = MoveAnswer::Says(motion);

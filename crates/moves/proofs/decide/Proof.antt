@@ -12,14 +12,14 @@ returns-2 : tie.Need-returns-2
 returns-2 c =
     let at-arm = c .before .before .before in
     let at-if1 = at-arm .before .before in
-    decide-regular _ _ _ _ _ (sym (at-if1 .before .any-undecided .ensures) ∙ at-if1 .if1 .left)
+    decide-regular _ _ (sym (at-if1 .before .any-undecided .ensures) ∙ at-if1 .if1 .left) _ _ _
     (at-arm .findings .given .1) (c .before .is-live .ensures) (c .regular .ensures)
 
 returns-3 : tie.Need-returns-3
 returns-3 c =
     let at-arm = c .before .before .before .before in
     let at-if1 = at-arm .before .before in
-    decide-steel _ _ _ _ _ _ _ (sym (at-if1 .before .any-undecided .ensures) ∙ at-if1 .if1 .left)
+    decide-steel _ _ (sym (at-if1 .before .any-undecided .ensures) ∙ at-if1 .if1 .left) _ _ _ _ _
     (at-arm .findings2 .given .1) (c .before .before .is-live2 .ensures) (c .before .is-live3 .ensures)
     (c .steel .ensures)
 

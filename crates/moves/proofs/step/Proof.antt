@@ -10,5 +10,5 @@ step-spec =
     (tie.spec
     (λ c κs. search needs) (λ c κs. search needs) (λ c κs. search needs)
     (λ c.
-    step-findings _ _ _ _ (c .before .before .is-drawn .ensures) (c .before .findings-on .ensures)
+    step-findings _ _ _ _ _ _ _ _ (c .before .before .is-drawn .ensures) (c .before .findings-on .ensures)
     (c .decide .ensures)))
