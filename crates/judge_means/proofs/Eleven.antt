@@ -1,14 +1,14 @@
 -- The theorems of specs/Eleven.antt, by how many parts are that winding: 1 or 0. Where it is 1, the winding is found,
 -- and it is the relay's, of the kind that the relay's sort asks for.
-use Prim.Native.Nat.{ℕ, _+_, _<_, _≤_}
+use Prim.Native.Nat.{ℕ, _≤_}
 use native.Mathlib.Omega.{arith}
 use mathlib.Core.Path.{_≡_, refl, sym, ap, ap₂, _∙_}
-use mathlib.Core.Logic.{_⊎_, _↔_, inl, inr, ⊎-map, ⊎-elim}
-use mathlib.Core.Bool.{Bool, true, false}
-use mathlib.Core.List.{List, [], _∷_}
+use mathlib.Core.Logic.{_⊎_, _↔_, inl, inr, ⊎-elim}
+use mathlib.Core.Bool.{Bool, true}
+use mathlib.Core.List.{List}
 use mathlib.Core.Option.{none, some, Option·none-ne-some, Option·some-injective}
 use lib.Dec.{eqb, ltb}
-use borrow.Author.Tests.{eqb-true, ne-eqb, ltb-true, ltb-false}
+use borrow.Author.Tests.{eqb-true, ltb-true, ltb-false}
 use Rattle.lists.specs.Members.{_∈_}
 use Rattle.bits.proofs.BoolLaws.{both-true, either-true, by-test, by-less}
 use Rattle.refusals.specs.Outcomes.{Outcome, given, refused}
@@ -16,15 +16,13 @@ use Rattle.refusals.specs.Refusals.{noSuchWinding}
 use Rattle.refusals.proofs.OutcomeLaws.{refused-never}
 use Rattle.kinds.specs.declared.Kind.{Kind}
 use Rattle.kinds.specs.declared.Kind.the-variants.{Regular, Drawing, Dropping}
-use Rattle.kinds.specs.Kinds.{kindNumber, nameOf, kindOf, buttonKind, regularKind, drawingKind, droppingKind}
+use Rattle.kinds.specs.Kinds.{kindNumber, nameOf, kindOf, regularKind, drawingKind, droppingKind}
 use Rattle.kinds.proofs.KindLaws.{kind-of-parts}
 use Rattle.board.specs.declared.Part.{Part}
-use Rattle.board.specs.declared.Counts.{Counts}
 use Rattle.board.specs.declared.Board.{Board}
 use Rattle.board.specs.Parts.{partsOf}
-use Rattle.board.specs.Rules.{nameFine, partFits, boardFine}
+use Rattle.board.specs.Rules.{boardFine}
 use Rattle.board.specs.Sorts.{carries, windingsOf, isRegular, isSteel}
-use Rattle.board.proofs.WindingLaws.{partsFit, part-named}
 use Rattle.board.proofs.FineLaws.{fine-parts-fit, fine-relays-wound}
 use Rattle.state.specs.declared.State.{State}
 use Rattle.search.specs.declared.Winding.{Winding}
@@ -34,150 +32,16 @@ use Rattle.search.specs.declared.Finding.the-variants as said
 use Rattle.search.specs.Verdicts as verdict
 use Rattle.judge.specs.declared.Which.{Which}
 use Rattle.judge.specs.declared.Which.the-variants.{First, Second}
-use Rattle.judge.specs.RelayWindings.{isFirst, isWinding, windingOf}
+use Rattle.judge.specs.RelayWindings.{endsOf, windingOf}
 use Rattle.judge.specs.Judging.{windingFor, Judges}
-use Rattle.judge.proofs.SoughtLaws.{endsOf, winding-here, winding-past, winding-none}
+use Rattle.judge.proofs.WoundLaws.{its, these, first-sum, second-sum, windings-counted, sorted-most, sorted-none}
+use Rattle.judge.proofs.WoundLaws.{regular-second, beyond-none, Found, sought, missing-counted, counted-missing}
+use Rattle.judge.proofs.WoundLaws.{some-found}
 use Rattle.judge.proofs.JudgeLaws.{winding-for-sought, winding-for-given, winding-for-eleven, judging-by}
 use Rattle.judge_means.specs.Eleven.{LineEleven, ElevenExactly, ItsWinding, TheWinding, RegularWound, SteelWound}
 use Rattle.judge_means.specs.Eleven.{EveryRelayWound}
 use Rattle.judge_means.proofs.Exactness.{FindingBy, live-by, dead-by, undecided-by, verdict-finding}
-use Rattle.lists.proofs.CountedLaws.{worth, counted, member-counted, counted-only}
-
--- ---- how many parts are winding n of relay r
---     its n r p       part p is it
---     these n r ps    how many of the parts ps are
-
-abbrev its : Which → ℕ → Part → Bool
-its n r p = isWinding n r (p .kind)
-
-abbrev these : Which → ℕ → List Part → ℕ
-these n r ps = counted (its n r) ps
-
--- a kind has one number, so no part is two of a relay's windings
-carries-exclusive : (i j r : ℕ) (k : Kind) → ¬ (i ≡ j) → carries i r k ≡ true → carries j r k ≡ false
-unfolding carries
-carries-exclusive i j r k differ on =
-    let number = eqb-true (kindNumber k) i (both-true (eqb (kindNumber k) i) _ on .0) in
-    rw (ne-eqb (kindNumber k) j (λ e. differ (sym number ∙ e))) refl
-
-first-worth : (r : ℕ) (k : Kind)
-    → worth (isFirst r k) ≡ worth (carries regularKind r k) + worth (carries drawingKind r k)
-first-worth r k =
-    by-test (carries regularKind r k)
-    (λ on. rw (on, carries-exclusive regularKind drawingKind r k (λ e. omega (arith, e)) on) refl)
-    (λ off. rw off (omega arith))
-
-first-sum : (r : ℕ) (ps : List Part) → these First r ps ≡ windingsOf regularKind r ps + windingsOf drawingKind r ps
-unfolding windingsOf
-first-sum r [] = refl
-first-sum r (p ∷ ps) = omega (arith, first-worth r (p .kind), first-sum r ps)
-
-windings-counted : (j r : ℕ) (ps : List Part) → counted (λ (p : Part). carries j r (p .kind)) ps ≡ windingsOf j r ps
-unfolding windingsOf
-windings-counted j r [] = refl
-windings-counted j r (p ∷ ps) = omega (arith, windings-counted j r ps)
-
-second-sum : (r : ℕ) (ps : List Part) → these Second r ps ≡ windingsOf droppingKind r ps
-second-sum r ps = windings-counted droppingKind r ps
-
-module _ (r : ℕ) (ps : List Part) where
-  -- of a relay of one sort each winding is there at most once
-  sorted-most : (n : Which) → isRegular r ps ⊎ isSteel r ps → these n r ps ≤ 1
-  sorted-most First (inl (x, y, z)) = omega (arith, first-sum r ps)
-  sorted-most First (inr (x, y, z)) = omega (arith, first-sum r ps)
-  sorted-most Second (inl (x, y, z)) = omega (arith, second-sum r ps)
-  sorted-most Second (inr (x, y, z)) = omega (arith, second-sum r ps)
-
-  -- of the windings of a relay of one sort only the second of a regular one is missing
-  sorted-none : (n : Which) → isRegular r ps ⊎ isSteel r ps → these n r ps ≡ 0 → (n ≡ Second) × isRegular r ps
-  sorted-none First (inl (x, y, z)) no-part = absurd (omega (arith, first-sum r ps))
-  sorted-none First (inr (x, y, z)) no-part = absurd (omega (arith, first-sum r ps))
-  sorted-none Second (inl regular) no-part = (refl, regular)
-  sorted-none Second (inr (x, y, z)) no-part = absurd (omega (arith, second-sum r ps))
-
-  regular-second : (n : Which) → (n ≡ Second) × isRegular r ps → these n r ps ≡ 0
-  regular-second n (second, regular) = ap (λ (m : Which). these m r ps) second ∙ second-sum r ps ∙ regular .2
-
--- ---- a relay that the board has not
-
--- j is the number of a kind that carries a relay
-module _ (c : Counts) (r j : ℕ) (some : eqb j 0 ≡ false) (relay : eqb j buttonKind ≡ false) where
-  carried-below : (k : Kind) → nameFine c k ≡ true → carries j r k ≡ true → r < c .relays
-  unfolding nameFine carries
-  carried-below k named on =
-      let both = both-true (eqb (kindNumber k) j) (eqb (nameOf k) r) on in
-      ltb-true r (c .relays) (rw (eqb-true (kindNumber k) j (both .0), eqb-true (nameOf k) r (both .1), some, relay)
-      at named)
-
-  past-free : (k : Kind) → nameFine c k ≡ true → c .relays ≤ r → carries j r k ≡ false
-  past-free k named past =
-      by-test (carries j r k) (λ on. absurd (omega (arith, past, carried-below k named on))) (λ off. off)
-
-  past-none : (ps : List Part) → partsFit c ps ≡ true → c .relays ≤ r → windingsOf j r ps ≡ 0
-  unfolding windingsOf partsFit
-  past-none [] fit past = refl
-  past-none (p ∷ ps) fit past =
-      let both = both-true (partFits c p) (partsFit c ps) fit in
-      omega (arith, ap worth (past-free (p .kind) (part-named c p (both .0)) past), past-none ps (both .1) past)
-
-beyond-none : (c : Counts) (n : Which) (r : ℕ) (ps : List Part) → partsFit c ps ≡ true → c .relays ≤ r
-    → these n r ps ≡ 0
-beyond-none c First r ps fit past =
-    omega (
-      arith,
-      first-sum r ps,
-      past-none c r regularKind refl refl ps fit past,
-      past-none c r drawingKind refl refl ps fit past,
-    )
-beyond-none c Second r ps fit past = second-sum r ps ∙ past-none c r droppingKind refl refl ps fit past
-
--- ---- the winding found
-
-module _ (n : Which) (r : ℕ) where
-  record Found (ps : List Part) : Type 0 where
-    part : Part
-    among : part ∈ ps
-    is-winding : its n r part ≡ true
-    found : windingOf n r ps ≡ some (endsOf part)
-
-  record Missing (ps : List Part) : Type 0 where
-    missing : windingOf n r ps ≡ none
-    no-part : these n r ps ≡ 0
-
-  -- among the parts the winding is found, or there is none
-  sought : (ps : List Part) → Found ps ⊎ Missing ps
-  sought [] = inr (record { missing = winding-none n r; no-part = refl })
-  sought (p ∷ ps) =
-      by-test (its n r p)
-      (λ on. inl (record { part = p; among = inl refl; is-winding = on; found = winding-here n r p ps on }))
-      (λ off. ⊎-map
-      (λ (f : Found ps). record {
-        part = f .part;
-        among = inr (f .among);
-        is-winding = f .is-winding;
-        found =
-            winding-past n r p ps off ∙ f .found;
-      })
-      (λ (m : Missing ps). record {
-        missing = winding-past n r p ps off ∙ m .missing;
-        no-part =
-            omega (arith, ap worth off, m .no-part);
-      })
-      (sought ps))
-
-  missing-counted : (ps : List Part) → windingOf n r ps ≡ none → these n r ps ≡ 0
-  missing-counted ps missing =
-      ⊎-elim (λ f. absurd (Option·none-ne-some (endsOf (f .part)) (sym missing ∙ f .found))) (λ m. m .no-part)
-      (sought ps)
-
-  counted-missing : (ps : List Part) → these n r ps ≡ 0 → windingOf n r ps ≡ none
-  counted-missing ps no-part =
-      ⊎-elim (λ f. absurd (omega (arith, no-part, member-counted (its n r) ps (f .part) (f .among) (f .is-winding))))
-      (λ m. m .missing) (sought ps)
-
-  some-found : (ps : List Part) (e : Winding) → windingOf n r ps ≡ some e → Found ps
-  some-found ps e answer =
-      ⊎-elim (λ f. f) (λ m. absurd (Option·none-ne-some e (sym (m .missing) ∙ answer))) (sought ps)
+use Rattle.lists.proofs.CountedLaws.{member-counted, counted-only}
 
 -- ---- of a board that breaks no rule
 

@@ -13,7 +13,6 @@ use borrow.Author.Tests.{leb-true, leb-false}
 use Rattle.bits.proofs.BoolLaws.{by-test}
 use Rattle.lists.specs.Members.{_∈_, All}
 use Rattle.lists.proofs.MemberLaws.{append-member, all-member, all-map}
-use Rattle.refusals.specs.Outcomes.{given}
 use Rattle.board.specs.declared.Board.{Board}
 use Rattle.board.specs.Rules.{boardFine}
 use Rattle.board.proofs.FineLaws.{fine-range}
@@ -37,7 +36,7 @@ use Rattle.search.proofs.VerdictLaws.{weighed-within, weighed-short, FirstAt, f
 use Rattle.search.proofs.VerdictLaws.{first-shown-none, effort-none, told-verdict-injective}
 use Rattle.judge.specs.declared.Which.{Which}
 use Rattle.judge.specs.Judging.{Judges}
-use Rattle.judge.proofs.JudgeLaws.{winding-for-given, judging-by}
+use Rattle.judge.proofs.JudgeLaws.{winding-for-given, judging-verdict}
 use Rattle.judge_means.specs.Circuits.{WindingCarries}
 use Rattle.judge_means.specs.Exactness.{Judge, Keeps, AcceptedWinding, chainsOf, ChainOf, IsLive}
 use Rattle.judge_means.specs.Exactness.{effortOf, TheChains, FirstShowing, EffortNumbers, OfEveryVerdict}
@@ -111,7 +110,7 @@ pub verdict-finding : (b : Board) (s : State) (r : ℕ) (n : Which) (w : ℕ) (e
     → Judges b s r n w v → AcceptedWinding b s r n e
     → FindingBy (shows (e .a) (e .b)) (chainsOf b s) w v (v .finding)
 unfolding verdictBy
-verdict-finding b s r n w e v told taken = weighed-finding _ _ w v (told ∙ sym (judging-by b s r n w (given e) taken))
+verdict-finding b s r n w e v told taken = weighed-finding _ _ w v (told ∙ sym (judging-verdict b s r n w e taken))
 
 -- ---- live and listed are one, and the effort is a number in the list
 

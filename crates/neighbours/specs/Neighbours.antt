@@ -3,6 +3,7 @@
 --     Joined b s x y     some conducting part of board b in state s has x and y as its ends, in either order
 --     joined near x y    in the sets `near`, y is in the set of x
 --     neighbours b s     the sets of board b in state s, one for each of 64 terminals
+--     setsOf b s         the same as the struct that is handed through judging, steps and runs
 -- How the sets come about, part by part:
 --     alone                 no terminal is joined to any
 --     joining near x y      the sets `near` with y joined to x besides
@@ -23,6 +24,7 @@ use Rattle.board.specs.declared.Board.{Board}
 use Rattle.board.specs.Parts.{partsOf}
 use Rattle.board.specs.Rules.{mostTerminals}
 use Rattle.state.specs.declared.State.{State}
+use Rattle.neighbours.specs.declared.Sets.{Sets}
 use Rattle.neighbours.specs.Conduction.{conducts}
 
 abbrev pub EndsAt : Part → ℕ → ℕ → Type 0
@@ -53,5 +55,8 @@ gathered s near (p ∷ ps) = gathered s (bridged s near p) ps
 unfoldable pub neighbours : Board → State → List ℕ
 neighbours b s = gathered s alone (partsOf b)
 
-abbrev pub Neighbours : Board → State → List ℕ → Type 0
-Neighbours b s r = r ≡ neighbours b s
+abbrev pub setsOf : Board → State → Sets
+setsOf b s = record { near = neighbours b s }
+
+abbrev pub Neighbours : Board → State → Sets → Type 0
+Neighbours b s r = r ≡ setsOf b s

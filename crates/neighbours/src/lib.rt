@@ -9,6 +9,11 @@ use board::Part;
 use kinds::Kind;
 use state::State;
 
+// The sets of neighbours: for each of 64 terminals the set of terminals that a conducting part joins to it.
+pub struct Sets {
+    pub near: [u64; 64],
+}
+
 // Whether a part of this kind conducts: a line for each line of the rule book's table. A contact follows its relay.
 pub fn conducts(kind: Kind, state: State) -> bool
     ensures { λ r. ⌜ Conducts kind state r ⌝ }
@@ -49,8 +54,8 @@ fn bridge(near: [u64; 64], part: Part, state: State) -> [u64; 64]
     }
 }
 
-// For each terminal the set of terminals that a conducting part joins to it.
-pub fn neighbours(board: Board, state: State) -> [u64; 64]
+// The sets of a board in a state.
+pub fn neighbours(board: Board, state: State) -> Sets
     ensures { λ r. ⌜ Neighbours board state r ⌝ }
 {
     let parts = board.parts;
@@ -59,12 +64,12 @@ pub fn neighbours(board: Board, state: State) -> [u64; 64]
     let mut i = 0;
     while i < count {
         if MOST_PARTS <= i {
-            return near;
+            return Sets { near };
         }
         let part = parts[i];
         let next = bridge(near, part, state);
         near = next;
         i += 1;
     }
-    near
+    Sets { near }
 }

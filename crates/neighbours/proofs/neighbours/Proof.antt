@@ -2,8 +2,9 @@
 -- of the sets so far.
 use borrow.Author.Needs.{needs}
 use native.Mathlib.Omega.{arith}
-use Prim.Native.Nat.{_-_}
-use mathlib.Core.Path.{_≡_, refl, sym, _∙_}
+use Prim.Native.Nat.{ℕ, _-_}
+use mathlib.Core.Path.{_≡_, refl, sym, ap, _∙_}
+use mathlib.Core.List.{List}
 use mathlib.Core.Logic.{inl, inr}
 use lib.ListN.{length, length-map, take, drop}
 use Rattle.board.specs.Parts.{mostParts}
@@ -27,9 +28,10 @@ returns : tie.Need-returns Inv-loop μ-loop
 returns c =
     let loop = c .before .before .loop in
     let args = c .before .before .before .before .args in
-    gather-walk-end (args .state) (loop .near) (args .board .parts) (args .board .counts .parts) (loop .i) _
+    ap (λ (k : List ℕ). record { near = k })
+    (gather-walk-end (args .state) (loop .near) (args .board .parts) (args .board .counts .parts) (loop .i) _
     (loop .inv .1) (inr (omega (arith, loop .inv .0, c .if1 .taken)))
-    ∙ sym (neighbours-gathered (args .board) (args .state))
+    ∙ sym (neighbours-gathered (args .board) (args .state)))
 
 loop-again : tie.Need-loop-again Inv-loop μ-loop
 loop-again c =
@@ -43,7 +45,8 @@ loop-again c =
 
 returns-2 : tie.Need-returns-2 Inv-loop μ-loop
 returns-2 c =
-    gather-walk-end _ _ _ _ _ _ (c .before .loop .inv .1) (inl (c .loop-test .left)) ∙ sym (neighbours-gathered _ _)
+    ap (λ (k : List ℕ). record { near = k })
+    (gather-walk-end _ _ _ _ _ _ (c .before .loop .inv .1) (inl (c .loop-test .left)) ∙ sym (neighbours-gathered _ _))
 
 pub neighbours-spec : {M : Type 1} → statement M
 neighbours-spec =
