@@ -45,7 +45,7 @@ pub struct Board {
 }
 
 // What checking a row of parts came to: the windings after it, or that one of its parts breaks a rule.
-pub enum RowChecked {
+enum RowChecked {
     Fine(WoundSoFar),
     Broken,
 }
