@@ -25,6 +25,7 @@ use Rattle.refusals.specs.Refusals.{noSuchName}
 use Rattle.board.specs.declared.Board.{Board}
 use Rattle.state.specs.declared.State.{State}
 use Rattle.presses.specs.Presses.{pushing, releasing}
+use Rattle.board_reader.specs.Editions.{currentEdition}
 use Rattle.board_reader.specs.Reading.{wanted}
 use Rattle.runs.specs.Running.{Ran, running}
 use Rattle.lines.specs.Lines.{Line, event, toldLine}
@@ -37,7 +38,7 @@ abbrev pub pushes : ℕ → Bool
 pushes v = eqb (v % 2) 1
 
 unfoldable pub eventAt : Board → List ℕ → ℕ → Outcome (Found ℕ)
-eventAt b s at = wanted (λ v. ltb (buttonOf v) (b .counts .buttons)) noSuchName s at
+eventAt b s at = wanted currentEdition (λ v. ltb (buttonOf v) (b .counts .buttons)) noSuchName s at
 
 unfoldable pub pressing : Board → State → ℕ → State × Outcome (Unit {0})
 pressing b t v = cond (pushes v) (pushing b t (buttonOf v)) (releasing b t (buttonOf v))

@@ -16,6 +16,7 @@ use Rattle.board.specs.declared.Part.{Part}
 use Rattle.board.specs.Parts.{partsOf}
 use Rattle.board.specs.Sorts.{Wound}
 use Rattle.board.proofs.PaddedLaws.{padded-parts}
+use Rattle.board_reader.specs.Editions.{currentEdition}
 use Rattle.board_reader.specs.Reading.{boardOf, boardAt, answered, reading, longestInput}
 use Rattle.board_reader.proofs.ReadLaws.{answered-refused}
 use Rattle.file_means.specs.FileRefusals.{at-part, Reached, LineHolds, FileRefused, FileAccepted}
@@ -26,21 +27,21 @@ use Rattle.file_means.proofs.HoldsRefused.{holds-board}
 
 module _ (s : List ℕ) where
   abbrev Line : ℕ → ℕ → Type 0
-  Line n p = ((longestInput < length s) × (n ≡ inputTooLong) × (p ≡ 0)) ⊎ ((length s ≤ longestInput) × LineHolds s n p)
+  Line n p = ((longestInput < length s) × (n ≡ inputTooLong) × (p ≡ 0)) ⊎ ((length s ≤ longestInput) × LineHolds currentEdition s n p)
 
   abbrev BoardGiven : Found Board → Type 0
   BoardGiven b = (length s ≤ longestInput) × BoardReached s (b .value .counts) (partsOf (b .value)) (b .next)
 
   abbrev read : Outcome (Found Board)
-  read = unless (leb (length s) longestInput) inputTooLong 0 >> boardAt s
+  read = unless (leb (length s) longestInput) inputTooLong 0 >> boardAt currentEdition s
 
   read-leads : Leads Line BoardGiven read
   read-leads =
-      leads-unless Line BoardGiven (leb (length s) longestInput) inputTooLong 0 (boardAt s)
+      leads-unless Line BoardGiven (leb (length s) longestInput) inputTooLong 0 (boardAt currentEdition s)
       (λ long. inl (leb-false _ _ long, refl, refl))
-      (λ short. leads-each Line BoardGiven (boardAt s)
-      (λ n p e. inr (leb-true _ _ short, leads-refused (LineHolds s) _ (boardAt s) n p (board-leads s) e))
-      (λ b e. (leb-true _ _ short, leads-given (LineHolds s) _ (boardAt s) b (board-leads s) e)))
+      (λ short. leads-each Line BoardGiven (boardAt currentEdition s)
+      (λ n p e. inr (leb-true _ _ short, leads-refused (LineHolds currentEdition s) _ (boardAt currentEdition s) n p (board-leads s) e))
+      (λ b e. (leb-true _ _ short, leads-given (LineHolds currentEdition s) _ (boardAt currentEdition s) b (board-leads s) e)))
 
   holds-read : (n p : ℕ) → Line n p → read ≡ refused n p
   holds-read n p (inl (long, ten, place)) = rw (lt-leb (length s) longestInput long, ten, place)
@@ -63,8 +64,8 @@ answered-given (refused k p) b n e = absurd (refused-never k p n (λ i. e i .1))
 
 -- what is read where the board stands there by its numbers
 pub reached-reading : (s : List ℕ) (c : Counts) (ps : List Part) (n : ℕ) → length s ≤ longestInput
-    → Reached s (at-part c ps) n → length ps ≡ c .parts → Wound (c .relays) ps
-    → reading s ≡ (boardOf c ps, given n)
+    → Reached currentEdition s (at-part c ps) n → length ps ≡ c .parts → Wound (c .relays) ps
+    → reading currentEdition s ≡ (boardOf c ps, given n)
 unfolding reading answered
 reached-reading s c ps n short here all wounds =
     rw (le-leb (length s) longestInput short, reached-board s c ps n here all wounds)

@@ -13,7 +13,7 @@ use Rattle.bits.proofs.BoolLaws.{by-test}
 use Rattle.refusals.specs.Outcomes.{refused}
 use Rattle.refusals.specs.Refusals.{outOfRange, noSuchKind, noSuchTerminal, endsEqual, noSuchName, windingTaken}
 use Rattle.refusals.specs.Refusals.{windingLacking}
-use Rattle.number.specs.Numbers.{numberAt}
+use Rattle.number.specs.Numbers.{currentWidth, numberAt}
 use Rattle.kinds.specs.Kinds.{buttonKind, lastKind}
 use Rattle.windings.specs.declared.WoundSoFar.{WoundSoFar}
 use Rattle.windings.specs.Windings.{wound, complete}
@@ -24,6 +24,7 @@ use Rattle.board.specs.Parts.{mostParts}
 use Rattle.board.specs.Rules.{leastTerminals, mostTerminals, mostRelays, mostButtons, inRange, terminalFine, limitOf}
 use Rattle.board.specs.Sorts.{isRegular, isSteel}
 use Rattle.board.proofs.TallyLaws.{tallied-wound}
+use Rattle.board_reader.specs.Editions.{currentEdition}
 use Rattle.board_reader.specs.Reading.{wanted, countsAt, partAt, partsAt, boardAt}
 use Rattle.board_reader.proofs.FieldLaws.{wanted-refused, wanted-fails, wanted-passes, wanted-found, range-below}
 use Rattle.board_reader.proofs.FieldLaws.{range-above, name-carried}
@@ -44,7 +45,7 @@ testOf at-T = inRange leastTerminals mostTerminals
 testOf (at-R t) = inRange 0 mostRelays
 testOf (at-B t r) = inRange 0 mostButtons
 testOf (at-C t r b) = inRange 0 mostParts
-testOf (at-part c ps) = inRange 0 lastKind
+testOf (at-part c ps) = inRange 0 (currentEdition .lastKind)
 testOf (at-first c ps k) = terminalFine c
 testOf (at-second c ps k a) = terminalFine c
 testOf (at-name c ps k a b) = λ v. ltb v (limitOf c k)
@@ -63,66 +64,66 @@ module _ (s : List ℕ) where
   -- ---- a number that is refused, or that fails its test
 
   module _ (n p : ℕ) where
-    board-counts : refused n p ≡ countsAt s → boardAt s ≡ refused n p
+    board-counts : refused n p ≡ countsAt currentEdition s → boardAt currentEdition s ≡ refused n p
     unfolding boardAt
     board-counts e = rw (← e)
 
     board-part : (c : Counts) (ps : List Part) (w : WoundSoFar) (at : ℕ) → PartsSoFar s c ps w at
-        → length ps < c .parts → refused n p ≡ partAt c w s at → boardAt s ≡ refused n p
+        → length ps < c .parts → refused n p ≡ partAt currentEdition c w s at → boardAt currentEdition s ≡ refused n p
     unfolding partsAt
     board-part c ps w at x more e =
         rest-refused s c ps w at (suc (c .parts - length ps - 1)) n p x (omega (arith, more)) (rw (← e))
 
     board-stage : (f : FileStage) (at : ℕ) → StageRead s f at → NumberWanted f
-        → wanted (testOf f) (lineOf f) s at ≡ refused n p → boardAt s ≡ refused n p
-    board-stage at-T at here asked e = board-counts (terminals-refused s n p (rw here at e))
-    board-stage (at-R t) at here asked e = board-counts (relays-refused s n p t at here e)
+        → wanted currentEdition (testOf f) (lineOf f) s at ≡ refused n p → boardAt currentEdition s ≡ refused n p
+    board-stage at-T at here asked e = board-counts (terminals-refused currentEdition s n p (rw here at e))
+    board-stage (at-R t) at here asked e = board-counts (relays-refused currentEdition s n p t at here e)
     board-stage (at-B t r) at (r-at, t-read, r-read) asked e =
-        board-counts (buttons-refused s n p t r-at t-read r at r-read e)
+        board-counts (buttons-refused currentEdition s n p t r-at t-read r at r-read e)
     board-stage (at-C t r b) at (r-at, b-at, t-read, r-read, b-read) asked e =
-        board-counts (parts-refused s n p t r-at t-read r b-at r-read b at b-read e)
-    board-stage (at-part c ps) at (w, x) asked e = board-part c ps w at x asked (kind-refused c w s at n p e)
+        board-counts (parts-refused currentEdition s n p t r-at t-read r b-at r-read b at b-read e)
+    board-stage (at-part c ps) at (w, x) asked e = board-part c ps w at x asked (kind-refused currentEdition c w s at n p e)
     board-stage (at-first c ps k) at (w, x) asked e =
         board-part c ps w (x .part-at) (x .before) (x .one-more)
-        (a-refused c w s (x .part-at) k at (x .kind-read) n p e)
+        (a-refused currentEdition c w s (x .part-at) k at (x .kind-read) n p e)
     board-stage (at-second c ps k a) at (w, x) asked e =
         let y = x .before in
         board-part c ps w (y .part-at) (y .before) (y .one-more)
-        (b-refused c w s (y .part-at) k (x .a-at) (y .kind-read) a at (x .a-read) n p e)
+        (b-refused currentEdition c w s (y .part-at) k (x .a-at) (y .kind-read) a at (x .a-read) n p e)
     board-stage (at-name c ps k a b) at (w, x) asked e =
         let y = x .before in
         let z = y .before in
         board-part c ps w (z .part-at) (z .before) (z .one-more)
-        (name-refused c w s (z .part-at) k (y .a-at) (z .kind-read) a (x .b-at) (y .a-read) b at (x .b-read) (x .apart)
-        n p (sym (name-carried c k s at asked) ∙ e))
+        (name-refused currentEdition c w s (z .part-at) k (y .a-at) (z .kind-read) a (x .b-at) (y .a-read) b at (x .b-read) (x .apart)
+        n p (sym (name-carried currentEdition c k s at asked) ∙ e))
 
-  board-form : (n p : ℕ) (f : FileStage) (at : ℕ) → Reached s f at → NumberWanted f → numberAt s at ≡ refused n p
-      → boardAt s ≡ refused n p
+  board-form : (n p : ℕ) (f : FileStage) (at : ℕ) → Reached currentEdition s f at → NumberWanted f → numberAt currentWidth s at ≡ refused n p
+      → boardAt currentEdition s ≡ refused n p
   board-form n p f at here asked e =
-      board-stage n p f at (reached-read s f at here) asked (wanted-refused (testOf f) (lineOf f) s at n p e)
+      board-stage n p f at (reached-read s f at here) asked (wanted-refused currentEdition (testOf f) (lineOf f) s at n p e)
 
-  board-test : (f : FileStage) (at v : ℕ) → NumberStands s f at v → testOf f v ≡ false
-      → boardAt s ≡ refused (lineOf f) at
+  board-test : (f : FileStage) (at v : ℕ) → NumberStands currentEdition s f at v → testOf f v ≡ false
+      → boardAt currentEdition s ≡ refused (lineOf f) at
   board-test f at v (here, asked, next, stands) off =
       board-stage (lineOf f) at f at (reached-read s f at here) asked
-      (wanted-fails (testOf f) (lineOf f) s at v next stands off)
+      (wanted-fails currentEdition (testOf f) (lineOf f) s at v next stands off)
 
   -- ---- 6, 8 and 9, which are no test of one number alone
 
-  board-ends : (c : Counts) (ps : List Part) (k a at : ℕ) → NumberStands s (at-second c ps k a) at a
-      → boardAt s ≡ refused endsEqual at
+  board-ends : (c : Counts) (ps : List Part) (k a at : ℕ) → NumberStands currentEdition s (at-second c ps k a) at a
+      → boardAt currentEdition s ≡ refused endsEqual at
   board-ends c ps k a at (here, asked, next, stands) =
       let read = reached-read s (at-second c ps k a) at here in
       let w = read .0 in
       let x = read .1 in
       let y = x .before in
-      let fine = wanted-found (terminalFine c) noSuchTerminal s (x .a-at) a at (x .a-read) .0 in
+      let fine = wanted-found currentEdition (terminalFine c) noSuchTerminal s (x .a-at) a at (x .a-read) .0 in
       board-part endsEqual at c ps w (y .part-at) (y .before) (y .one-more)
-      (ends-equal c w s (y .part-at) k (x .a-at) (y .kind-read) a at (x .a-read) a next
-      (wanted-passes (terminalFine c) noSuchTerminal s at a next stands fine) refl)
+      (ends-equal currentEdition c w s (y .part-at) k (x .a-at) (y .kind-read) a at (x .a-read) a next
+      (wanted-passes currentEdition (terminalFine c) noSuchTerminal s at a next stands fine) refl)
 
-  board-winding : (c : Counts) (ps : List Part) (k a b v at : ℕ) → NumberStands s (at-name c ps k a b) at v
-      → v < c .relays → Taken v ps k → boardAt s ≡ refused windingTaken at
+  board-winding : (c : Counts) (ps : List Part) (k a b v at : ℕ) → NumberStands currentEdition s (at-name c ps k a b) at v
+      → v < c .relays → Taken v ps k → boardAt currentEdition s ≡ refused windingTaken at
   board-winding c ps k a b v at (here, asked, next, stands) below taken =
       let read = reached-read s (at-name c ps k a b) at here in
       let w = read .0 in
@@ -131,12 +132,12 @@ module _ (s : List ℕ) where
       let z = y .before in
       let relay : ¬ (k ≡ buttonKind) = λ e. (let winding = taken-winding v ps k taken in omega (arith, e, winding)) in
       board-part windingTaken at c ps w (z .part-at) (z .before) (z .one-more)
-      (winding-taken-refused c w s (z .part-at) k (y .a-at) (z .kind-read) a (x .b-at) (y .a-read) b at (x .b-read)
+      (winding-taken-refused currentEdition c w s (z .part-at) k (y .a-at) (z .kind-read) a (x .b-at) (y .a-read) b at (x .b-read)
       (x .apart) v next (name-found s c k at (c .relays) v next asked (relay-limit c k relay) stands below)
       (taken-barred w ps v (z .before .so-far v) k (kind-most s c ps w k a b at x) taken))
 
-  board-lacking : (c : Counts) (ps : List Part) (r at : ℕ) → Reached s (at-part c ps) at → length ps ≡ c .parts
-      → r < c .relays → ¬ isRegular r ps → ¬ isSteel r ps → boardAt s ≡ refused windingLacking at
+  board-lacking : (c : Counts) (ps : List Part) (r at : ℕ) → Reached currentEdition s (at-part c ps) at → length ps ≡ c .parts
+      → r < c .relays → ¬ isRegular r ps → ¬ isSteel r ps → boardAt currentEdition s ≡ refused windingLacking at
   unfolding partsAt complete
   board-lacking c ps r at here all below irregular no-steel =
       let read = reached-read s (at-part c ps) at here in
@@ -150,7 +151,7 @@ module _ (s : List ℕ) where
 
 -- ---- every line
 
-pub holds-board : (s : List ℕ) (n p : ℕ) → LineHolds s n p → boardAt s ≡ refused n p
+pub holds-board : (s : List ℕ) (n p : ℕ) → LineHolds currentEdition s n p → boardAt currentEdition s ≡ refused n p
 holds-board s n p (line1 {f} {at} here asked ends) = board-form s n p f at here asked ends
 holds-board s n p (line2 {f} here asked bad) = board-form s n p f p here asked bad
 holds-board s n p (line3-T {v} x (inl under)) =

@@ -7,6 +7,7 @@ use lib.ListN.{length}
 use Rattle.refusals.specs.Outcomes.{Outcome, given, refused, Found}
 use Rattle.refusals.specs.Refusals.{inputTooLong}
 use Rattle.board.specs.declared.Board.{Board}
+use Rattle.board_reader.specs.Editions.{currentEdition}
 use Rattle.board_reader.specs.Reading.{longestInput, boardAt, answered, reading}
 use Rattle.file_means.proofs.GivesLaws.{Gives, gives-unless}
 use Rattle.file_means.proofs.BoardTrip.{BoardIsFine, board-read}
@@ -18,8 +19,8 @@ unfolding answered
 answer-read s (given b) was = was
 answer-read s (refused n p) was = tt
 
-pub read-fine : (s : List ℕ) → Gives (BoardIsFine s (reading s .0)) (reading s .1)
+pub read-fine : (s : List ℕ) → Gives (BoardIsFine s (reading currentEdition s .0)) (reading currentEdition s .1)
 unfolding reading
 read-fine s =
-    answer-read s _ (gives-unless _ (leb (length s) longestInput) inputTooLong 0 (boardAt s)
+    answer-read s _ (gives-unless _ (leb (length s) longestInput) inputTooLong 0 (boardAt currentEdition s)
     (λ short. board-read s))

@@ -14,6 +14,7 @@ use Rattle.board.specs.Rules.{boardFine, countsFine}
 use Rattle.bits.proofs.BoolLaws.{both-true}
 use Rattle.board.proofs.PaddedLaws.{padded-parts}
 use Rattle.board.proofs.RuleLaws.{counts-in-range}
+use Rattle.board_reader.specs.Editions.{currentEdition}
 use Rattle.board_reader.specs.Reading.{boardOf, longestInput, answered, reading}
 use Rattle.board_writer.specs.File.{boardBytes}
 use Rattle.board_writer.specs.Writing.{writing, bytesWritten}
@@ -33,7 +34,7 @@ begins bytes rest n long =
 -- a board's bytes, whatever stands after them, are read as that board
 module _ (b : Board) (rest : List ℕ) (n : ℕ) (places : length (b .parts) ≡ mostParts) (fine : boardFine b ≡ true)
     (long : n ≡ length (boardBytes b)) (short : length (boardBytes b ++ rest) ≤ longestInput) where
-  reads-back : reading (boardBytes b ++ rest) ≡ (boardOf (b .counts) (partsOf b), given n)
+  reads-back : reading currentEdition (boardBytes b ++ rest) ≡ (boardOf (b .counts) (partsOf b), given n)
   unfolding reading answered
   reads-back =
       rw (
@@ -62,7 +63,7 @@ write-then-read b out out′ more n w r places wrote told =
           (let few : length (boardBytes b ++ more) ≤ longestInput =
           omega (arith, written .count, length-append (boardBytes b) more) in
           let back =
-          read ∙ ap (λ (l : List ℕ). reading (l ++ more)) begins
+          read ∙ ap (λ (l : List ℕ). reading currentEdition (l ++ more)) begins
           ∙ reads-back b more n places (written .fine) (written .count) few in (
             ap (λ (a : Board × Outcome ℕ). a .1) back,
             sym (ap (λ (a : Board × Outcome ℕ). a .0 .counts) back),

@@ -13,6 +13,7 @@ use Rattle.number.specs.declared.Number.the-variants.{Read, Refused}
 use Rattle.refusals.specs.Outcomes.{refused, found}
 use Rattle.refusals.specs.Refusals.{noSuchName}
 use Rattle.number.specs.Numbers.{ReadsNumber}
+use Rattle.board_reader.specs.Editions.{currentEdition}
 use Rattle.board_reader.specs.Reading.{longestInput}
 use Rattle.board_reader.proofs.FieldLaws.{wanted-refused, wanted-fails, wanted-passes, told-found, told-refused}
 use Rattle.session.specs.declared.Stage.the-variants as stage
@@ -70,7 +71,7 @@ module _ (z : Session) (s : List ℕ) where
     unfolding eventOf eventAt
     event-refused q is =
         let bad : eventAt (z .board) s (z .place) ≡ refused (q .number) (q .place) =
-        wanted-refused _ noSuchName s (z .place) _ _ (told-refused _ x q is read) in
+        wanted-refused currentEdition _ noSuchName s (z .place) _ _ (told-refused _ x q is read) in
         ap (eventOf z) (sym bad) ∙ event-by
 
     pub event-no-name : (v next : ℕ) → x ≡ Read v next → z .board .counts .buttons ≤ v / 2
@@ -78,7 +79,7 @@ module _ (z : Session) (s : List ℕ) where
     unfolding eventOf eventAt
     event-no-name v next is beyond =
         let bad : eventAt (z .board) s (z .place) ≡ refused noSuchName (z .place) =
-        wanted-fails _ noSuchName s (z .place) v next (told-found _ x v next is read)
+        wanted-fails currentEdition _ noSuchName s (z .place) v next (told-found _ x v next is read)
         (le-ltb (v / 2) (z .board .counts .buttons) beyond) in
         ap (eventOf z) (sym bad) ∙ event-by
 
@@ -87,7 +88,7 @@ module _ (z : Session) (s : List ℕ) where
     unfolding eventOf eventAt
     event-made v next y is below told =
         let ok : eventAt (z .board) s (z .place) ≡ found v next =
-        wanted-passes _ noSuchName s (z .place) v next (told-found _ x v next is read)
+        wanted-passes currentEdition _ noSuchName s (z .place) v next (told-found _ x v next is read)
         (lt-ltb (v / 2) (z .board .counts .buttons) below) in
         ap (λ (x : Shown). goesOn z x next) told ∙ ap (eventOf z) (sym ok) ∙ event-by
 

@@ -10,7 +10,9 @@ use lib.ListN.{length}
 use borrow.Author.Tests.{leb-true, leb-false}
 use Rattle.refusals.specs.Outcomes.{Outcome, given, refused, Found}
 use Rattle.refusals.specs.Refusals.{noSuchName}
+use Rattle.number.specs.Numbers.{currentWidth}
 use Rattle.number.proofs.NumberLaws.{number-next-within}
+use Rattle.board_reader.specs.Editions.{currentEdition}
 use Rattle.board_reader.proofs.FieldLaws.{wanted-found}
 use Rattle.board.specs.declared.Board.{Board}
 use Rattle.lines.specs.Lines.{Line}
@@ -64,7 +66,7 @@ module _ (z : Session) (s : List ℕ) where
 pub event-next : (b : Board) (s : List ℕ) (at : ℕ) (v : Found ℕ) → eventAt b s at ≡ given v → at < v .next
 unfolding eventAt
 event-next b s at v e =
-    number-next-within s at (v .value) (v .next) (wanted-found _ noSuchName s at (v .value) (v .next) e .1) .1
+    number-next-within currentWidth s at (v .value) (v .next) (wanted-found currentEdition _ noSuchName s at (v .value) (v .next) e .1) .1
 
 pub line-never : (l : Line) → no-line ≡ line l → ⊥
 line-never l e = let z : _≡_ {A = ℕ} 0 1 = cc in omega arith

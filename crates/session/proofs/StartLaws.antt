@@ -6,7 +6,7 @@ use Rattle.refusals.specs.declared.Refusal.{Refusal}
 use Rattle.number.specs.declared.Number as number
 use Rattle.number.specs.declared.Number.the-variants as number-was
 use Rattle.refusals.specs.Outcomes.{Outcome, refused, _>>=_}
-use Rattle.number.specs.Numbers.{numberAt, toldNumber, ReadsNumber}
+use Rattle.number.specs.Numbers.{currentWidth, numberAt, toldNumber, ReadsNumber}
 use Rattle.board.specs.declared.Board.{Board}
 use Rattle.board.specs.Parts.{emptyBoard}
 use Rattle.state.specs.declared.State.{State}
@@ -38,9 +38,9 @@ module _ (b : Board) (x : number.Number) where
 
 -- the head of a session, by what reading its board came to
 module _ (s : List ℕ) (r : BoardRead) (read : Reads s r) where
-  head-by : headAt s ≡ (toldReadAnswer (r .answer) >>= (λ at. withAllowance (r .board) (numberAt s at)))
+  head-by : headAt s ≡ (toldReadAnswer (r .answer) >>= (λ at. withAllowance (r .board) (numberAt currentWidth s at)))
   unfolding headAt
-  head-by = ap (λ (x : Board × Outcome ℕ). x .1 >>= (λ at. withAllowance (x .0) (numberAt s at))) (sym read)
+  head-by = ap (λ (x : Board × Outcome ℕ). x .1 >>= (λ at. withAllowance (x .0) (numberAt currentWidth s at))) (sym read)
 
   pub beginning-board : (at : ℕ) (x : number.Number) → r .answer ≡ board-was.Read at → ReadsNumber s at x
       → begunFrom (withAllowance (r .board) (toldNumber x)) ≡ beginning s

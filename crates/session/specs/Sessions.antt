@@ -19,10 +19,11 @@ use mathlib.Core.List.{List, [], _∷_, _++_}
 use lib.Dec.{leb}
 use lib.ListN.{length}
 use Rattle.refusals.specs.Outcomes.{Outcome, given, refused, Found, found, _>>=_}
-use Rattle.number.specs.Numbers.{numberAt}
+use Rattle.number.specs.Numbers.{currentWidth, numberAt}
 use Rattle.board.specs.declared.Board.{Board}
 use Rattle.state.specs.declared.State.{State}
 use Rattle.state.specs.States.{freshState}
+use Rattle.board_reader.specs.Editions.{currentEdition}
 use Rattle.board_reader.specs.Reading.{reading}
 use Rattle.lines.specs.Lines.{Line, closing, lineText}
 use Rattle.events.specs.Events.{Shown, eventAt, ranLine, eventLine}
@@ -38,8 +39,8 @@ withAllowance b o = do
 
 unfoldable pub headAt : List ℕ → Outcome (Found Head)
 headAt s = do
-  at ← reading s .1
-  withAllowance (reading s .0) (numberAt s at)
+  at ← reading currentEdition s .1
+  withAllowance (reading currentEdition s .0) (numberAt currentWidth s at)
 
 abbrev pub eventLines : Outcome (Found ℕ) → (ℕ → Shown) → (State → ℕ → List Line) → List Line
 eventLines (given v) tell go = tell (v .value) .0 ∷ go (tell (v .value) .1) (v .next)

@@ -9,9 +9,10 @@ use lib.ListN.{length}
 use borrow.Author.Tests.{leb-true, leb-false}
 use Rattle.refusals.specs.Outcomes.{Outcome, given, refused, Found}
 use Rattle.refusals.specs.Refusals.{inputTooLong}
-use Rattle.number.specs.Numbers.{numberAt}
+use Rattle.number.specs.Numbers.{currentWidth, numberAt}
 use Rattle.refusals.proofs.OutcomeLaws.{refused-never, handed}
 use Rattle.board.specs.declared.Board.{Board}
+use Rattle.board_reader.specs.Editions.{currentEdition}
 use Rattle.board_reader.specs.Reading.{longestInput, answered, reading}
 use Rattle.board_reader.proofs.ReadLaws.{reading-long}
 use Rattle.session.specs.Sessions.{Head, withAllowance, headAt, headLines, sessionLines}
@@ -28,12 +29,12 @@ pub beginning-still : (s : List ℕ) → still (beginning s) s ≡ sessionLines 
 unfolding beginning sessionLines
 beginning-still s = begun-still (headAt s) s
 
-long-refused : (s : List ℕ) → longestInput < length s → reading s .1 ≡ refused inputTooLong 0
+long-refused : (s : List ℕ) → longestInput < length s → reading currentEdition s .1 ≡ refused inputTooLong 0
 unfolding answered
-long-refused s long = ap (λ (x : Board × Outcome ℕ). x .1) (sym (reading-long s long))
+long-refused s long = ap (λ (x : Board × Outcome ℕ). x .1) (sym (reading-long currentEdition s long))
 
 -- an input whose board was read is not too long
-read-short : (s : List ℕ) (at : ℕ) → reading s .1 ≡ given at → length s ≤ longestInput
+read-short : (s : List ℕ) (at : ℕ) → reading currentEdition s .1 ≡ given at → length s ≤ longestInput
 read-short s at read = by (leb (length s) longestInput) refl
   where
     by : (t : Bool) → leb (length s) longestInput ≡ t → length s ≤ longestInput
@@ -44,7 +45,7 @@ read-short s at read = by (leb (length s) longestInput) refl
 head-short : (s : List ℕ) (h : Found Head) → headAt s ≡ given h → length s ≤ longestInput
 unfolding headAt
 head-short s h e =
-    let board = handed (reading s .1) (λ at. withAllowance (reading s .0) (numberAt s at)) h e in
+    let board = handed (reading currentEdition s .1) (λ at. withAllowance (reading currentEdition s .0) (numberAt currentWidth s at)) h e in
     read-short s (board .value) (board .first)
 
 begun-numbered : (o : Outcome (Found Head)) (s : List ℕ)

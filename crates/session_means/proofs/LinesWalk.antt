@@ -9,12 +9,13 @@ use lib.Dec.{leb, ltb}
 use lib.ListN.{length}
 use Rattle.refusals.specs.Outcomes.{Outcome, given, refused, Found, _>>=_, _>>_, unless}
 use Rattle.refusals.specs.Refusals.{inputEnds, badForm, noSuchName}
-use Rattle.number.specs.Numbers.{numberAt}
+use Rattle.number.specs.Numbers.{currentWidth, numberAt}
 use Rattle.number.proofs.NumberLaws.{number-refusal}
 use Rattle.board.specs.Rules.{boardFine}
 use Rattle.state.specs.declared.State.{State}
 use Rattle.state.specs.States.{freshState, stateFine}
 use Rattle.state.proofs.StateLaws.{fresh-fits}
+use Rattle.board_reader.specs.Editions.{currentEdition}
 use Rattle.board_reader.specs.Reading.{wanted, reading}
 use Rattle.file_means.proofs.GivesLaws.{Gives, gives-then, gives-after}
 use Rattle.file_means.proofs.BoardTrip.{BoardIsFine}
@@ -45,17 +46,17 @@ module _ (h : Head) (s : List ℕ) (fine : boardFine (h .board) ≡ true) (Q : �
 
   event-read : (at : ℕ) → EventRead (eventAt (h .board) s at)
   unfolding eventAt wanted
-  event-read at = by (numberAt s at) refl
+  event-read at = by (numberAt currentWidth s at) refl
     where
       below : (v : Found ℕ) (t : Bool) → ltb (v .value / 2) (h .board .counts .buttons) ≡ t
           → EventRead (unless t noSuchName at >> given v)
       below v true e = e
       below v false e = inr (inr refl)
 
-      by : (o : Outcome (Found ℕ)) → numberAt s at ≡ o
+      by : (o : Outcome (Found ℕ)) → numberAt currentWidth s at ≡ o
           → EventRead (o >>= λ v. unless (ltb (v .value / 2) (h .board .counts .buttons)) noSuchName at >> given v)
       by (given v) is = below v _ refl
-      by (refused n p) is = either (number-refusal s at n p is)
+      by (refused n p) is = either (number-refusal currentWidth s at n p is)
         where
           either : ((n ≡ inputEnds) × (p ≡ length s)) ⊎ ((n ≡ badForm) × (p ≡ at)) → EventRead (refused n p)
           either (inl ends) = inl (ends .0)
@@ -94,8 +95,8 @@ HeadFine h = boardFine (h .value .board) ≡ true
 pub head-fine : (s : List ℕ) → Gives HeadFine (headAt s)
 unfolding headAt withAllowance
 head-fine s =
-    gives-then (BoardIsFine s (reading s .0)) HeadFine (reading s .1) _ (read-fine s)
-    (λ at was. gives-after HeadFine (numberAt s at) _ (λ w read. was .fine))
+    gives-then (BoardIsFine s (reading currentEdition s .0)) HeadFine (reading currentEdition s .1) _ (read-fine s)
+    (λ at was. gives-after HeadFine (numberAt currentWidth s at) _ (λ w read. was .fine))
 
 pub head-walk : (h : Found Head) (s : List ℕ) → HeadFine h → (Q : ℕ → State → List Line → Type 0)
     → Along (h .value) Q → Q 0 freshState (headLines (given h) s)
