@@ -70,6 +70,7 @@ one-answer = record {
   kinds-of = λ k n. one-itself _;
   kinds-number = λ k. one-itself _;
   kinds-name = λ k. one-itself _;
+  kinds-fields = λ k a b. one-itself _;
   windings-none = one-itself _;
   windings-free = λ w k. one-itself _;
   windings-with = λ w k. one-itself _;

@@ -14,7 +14,7 @@ use Rattle.refusals.specs.declared.Against.{Against}
 use Rattle.refusals.specs.Order.{AsksNext}
 use Rattle.number.specs.Numbers.{ReadsNumber, NumberLength, WritesNumber}
 use Rattle.kinds.specs.declared.Kind.{Kind}
-use Rattle.kinds.specs.Kinds.{KindOf, KindNumber, KindName}
+use Rattle.kinds.specs.Kinds.{KindOf, KindNumber, KindName, KindFields}
 use Rattle.windings.specs.declared.WoundSoFar.{WoundSoFar}
 use Rattle.windings.specs.Windings.{WoundNone, WoundFree, WoundWith, WoundComplete}
 use Rattle.board.specs.declared.Counts.{Counts}
@@ -73,6 +73,7 @@ pub record OneAnswer : Type 0 where
   pub kinds-of : (k n : ℕ) → One (KindOf k n)
   pub kinds-number : (k : Kind) → One (KindNumber k)
   pub kinds-name : (k : Kind) → One (KindName k)
+  pub kinds-fields : (k : Kind) (a b : ℕ) → One (KindFields k a b)
   pub windings-none : One WoundNone
   pub windings-free : (w : WoundSoFar) (k : Kind) → One (WoundFree w k)
   pub windings-with : (w : WoundSoFar) (k : Kind) → One (WoundWith w k)

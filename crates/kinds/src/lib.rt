@@ -1,5 +1,7 @@
 // The rule book's table of kinds: what a kind of part is, its number, the relay or button that it carries, and its fields.
-ghost use Rattle.kinds.specs.Kinds.{KindOf, KindNumber, KindName, KindFields};
+ghost use mathlib.Core.Path.{_≡_};
+ghost use mathlib.Core.List.{[], _∷_};
+ghost use Rattle.kinds.specs.Kinds.{inPlaces, KindOf, KindNumber, KindName, KindFields};
 
 // The kinds of part in the order of the rule book's table, each with its relay or button.
 pub enum Kind {
@@ -30,6 +32,28 @@ pub const LAST_KIND: u32 = 6;
 pub struct Fields {
     pub count: usize,
     pub numbers: [u8; 3],
+}
+
+impl Fields {
+    // Two fields.
+    fn two(a: u8, b: u8) -> Self
+        ensures { λ r. ⌜ r ≡ inPlaces (a ∷ b ∷ []) ⌝ }
+    {
+        Fields {
+            count: 2,
+            numbers: [a, b, 0],
+        }
+    }
+
+    // Three fields.
+    fn three(a: u8, b: u8, name: u8) -> Self
+        ensures { λ r. ⌜ r ≡ inPlaces (a ∷ b ∷ name ∷ []) ⌝ }
+    {
+        Fields {
+            count: 3,
+            numbers: [a, b, name],
+        }
+    }
 }
 
 impl Kind {
@@ -82,34 +106,13 @@ impl Kind {
         ensures { λ r. ⌜ KindFields self a b r ⌝ }
     {
         match self {
-            Kind::Wire => Fields {
-                count: 2,
-                numbers: [a, b, 0],
-            },
-            Kind::Upper(relay) => Fields {
-                count: 3,
-                numbers: [a, b, relay],
-            },
-            Kind::Lower(relay) => Fields {
-                count: 3,
-                numbers: [a, b, relay],
-            },
-            Kind::Button(button) => Fields {
-                count: 3,
-                numbers: [a, b, button],
-            },
-            Kind::Regular(relay) => Fields {
-                count: 3,
-                numbers: [a, b, relay],
-            },
-            Kind::Drawing(relay) => Fields {
-                count: 3,
-                numbers: [a, b, relay],
-            },
-            Kind::Dropping(relay) => Fields {
-                count: 3,
-                numbers: [a, b, relay],
-            },
+            Kind::Wire => Fields::two(a, b),
+            Kind::Upper(relay) => Fields::three(a, b, relay),
+            Kind::Lower(relay) => Fields::three(a, b, relay),
+            Kind::Button(button) => Fields::three(a, b, button),
+            Kind::Regular(relay) => Fields::three(a, b, relay),
+            Kind::Drawing(relay) => Fields::three(a, b, relay),
+            Kind::Dropping(relay) => Fields::three(a, b, relay),
         }
     }
 }
