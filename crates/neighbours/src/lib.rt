@@ -60,7 +60,11 @@ pub fn neighbours(board: Board, state: State) -> Sets
     let parts = board.parts;
     let count = board.counts.parts;
     let mut near = [0u64; 64];
-    let mut i = if MOST_PARTS < count { MOST_PARTS } else { count };
+    let mut i = if MOST_PARTS < count {
+        MOST_PARTS
+    } else {
+        count
+    };
     while 0 < i {
         i -= 1;
         let part = parts[i];
