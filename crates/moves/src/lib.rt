@@ -93,7 +93,11 @@ fn steel(drawn: bool, drawing: bool, dropping: bool) -> Move
     ensures { λ r. ⌜ toldMove r ≡ steelMove drawn drawing dropping ⌝ }
 {
     if drawing {
-        if dropping { Move::Conflict } else { draws(drawn) }
+        if dropping {
+            Move::Conflict
+        } else {
+            draws(drawn)
+        }
     } else {
         if dropping { drops(drawn) } else { Move::Rests }
     }
