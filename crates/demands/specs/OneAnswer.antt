@@ -7,6 +7,7 @@
 --     OneAnswer    the list; an argument of `wide` is a byte
 use Prim.Native.Nat.{ℕ, _<_}
 use mathlib.Core.Path.{_≡_}
+use mathlib.Core.Bool.{Bool}
 use mathlib.Core.List.{List}
 use Rattle.bits.specs.Sets.{SetHas, SetWith, SetWithout, SetRemaining, SetLowestFrom, SetAllBelow, WideByte}
 use Rattle.number.specs.Numbers.{ReadsNumber, NumberLength, WritesNumber}
@@ -25,14 +26,16 @@ use Rattle.presses.specs.Presses.{Pushes, Releases}
 use Rattle.board_reader.specs.Reading.{Reads}
 use Rattle.board_writer.specs.Writing.{Writes}
 use Rattle.neighbours.specs.Conduction.{Conducts}
+use Rattle.neighbours.specs.declared.Sets.{Sets}
 use Rattle.neighbours.specs.Neighbours.{Neighbours}
 use Rattle.search.specs.declared.Winding.{Winding}
 use Rattle.search.specs.Verdicts.{Searches}
 use Rattle.judge.specs.declared.Which.{Which}
 use Rattle.judge.specs.RelayWindings.{SeeksWinding}
 use Rattle.judge.specs.Judging.{Judges}
+use Rattle.moves.specs.declared.Findings.{Findings}
 use Rattle.moves.specs.declared.Move.{Move}
-use Rattle.moves.specs.Steps.{StepsRelay, AfterMove}
+use Rattle.moves.specs.Steps.{Decides, StepsRelay, AfterMove}
 use Rattle.moves.specs.Moving.{Moves}
 use Rattle.runs.specs.Running.{Runs}
 use Rattle.lines.specs.declared.Line.{Line}
@@ -92,7 +95,8 @@ pub record OneAnswer : Type 0 where
   pub search-search : (near : List ℕ) (t : ℕ) (v : Winding) (w : ℕ) → One (Searches near t v w)
   pub judge-winding : (b : Board) (r : ℕ) (k : Which) → One (SeeksWinding b r k)
   pub judge-judge : (b : Board) (s : State) (r : ℕ) (k : Which) (w : ℕ) → One (Judges b s r k w)
-  pub moves-step : (near : List ℕ) (b : Board) (s : State) (r w : ℕ) → One (StepsRelay near b s r w)
+  pub moves-decide : (d : Bool) (f : Findings) → One (Decides d f)
+  pub moves-step : (k : Sets) (b : Board) (s : State) (r w : ℕ) → One (StepsRelay k b s r w)
   pub moves-after : (s : State) (r : ℕ) (m : Move) → One (AfterMove s r m)
   pub moves-move-relay : (b : Board) (s : State) (r w : ℕ) → One (Moves b s r w)
   pub runs-run : (b : Board) (s : State) (log : List ℕ) (w : ℕ) → OneLent (Runs b s log w)

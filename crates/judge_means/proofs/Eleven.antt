@@ -109,7 +109,7 @@ module _ (b : Board) (r : ℕ) (n : Which) where
   its-counted e i = member-counted (its n r) (partsOf b) (i .part) (i .on-board) (i .is-winding)
 
   -- the relay's winding is found
-  its-found : (e : Winding) → ItsWinding b r n e → windingOf n r (partsOf b) ≡ some e
+  pub its-found : (e : Winding) → ItsWinding b r n e → windingOf n r (partsOf b) ≡ some e
   its-found e i =
       ⊎-elim (λ f. f .found ∙ ap some (same-ends f (i .only (f .part) (f .among) (f .is-winding))))
       (λ m. absurd (omega (arith, m .no-part, its-counted e i))) (sought n r (partsOf b))

@@ -118,7 +118,7 @@ module _ (b : Board) (s : State) (e : Winding) (fine : boardFine b ≡ true) whe
   abbrev test : List ℕ → Bool
   test = shows (e .a) (e .b)
 
-  listed-live : (c : List ℕ) → firstShown test (chainsOf b s) ≡ some c → IsLive b s e
+  pub listed-live : (c : List ℕ) → firstShown test (chainsOf b s) ≡ some c → IsLive b s e
   listed-live c first =
       let shown = first-shown-some test (chainsOf b s) c first in
       record {
@@ -127,7 +127,7 @@ module _ (b : Board) (s : State) (e : Winding) (fine : boardFine b ≡ true) whe
         showing = shows-true (e .a) (e .b) c (shown .1);
       }
 
-  unlisted-dead : firstShown test (chainsOf b s) ≡ none → ¬ (IsLive b s e)
+  pub unlisted-dead : firstShown test (chainsOf b s) ≡ none → ¬ (IsLive b s e)
   unlisted-dead first live =
       false≢true
       (sym (first-shown-none test (chainsOf b s) first (live .chain) (chain-listed b s (live .chain) fine

@@ -1,5 +1,5 @@
--- Laws of what a relay does: by plain tests, one for each way out of `regular` and `steel`; and by what was found on its
--- windings, one for each way out of `decide`, and that undecided alone can change with the allowance.
+-- Laws of what a relay does: by plain tests, one for each way out of `regular` and `steel`; and by what was found on
+-- its windings, one for each way out of `decide`, and that undecided alone can change with the allowance.
 use mathlib.Core.Path.{_≡_, refl, sym, ap, _∙_}
 use mathlib.Core.Logic.{_⊎_, inl, inr}
 use mathlib.Core.Bool.{Bool, true, false, cond, _||_}
@@ -11,8 +11,8 @@ use Rattle.search.specs.Verdicts.{toldFinding}
 use Rattle.judge.specs.RelayWindings.{OfRelay, regular, steel, absent}
 use Rattle.moves.specs.declared.Findings.{Findings}
 use Rattle.moves.specs.declared.Findings.the-variants as found
-use Rattle.moves.specs.Steps.{Move, drew, dropped, rests, undecided, conflict, regularMove, steelMove, isUndecided}
-use Rattle.moves.specs.Steps.{isLive, anyUndecided, moveBy, decide, findingsBy, toldFindings}
+use Rattle.moves.specs.Steps.{Move, drew, dropped, rests, undecided, conflict, regularMove, steelMove, isLive}
+use Rattle.moves.specs.Steps.{isUndecided, anyUndecided, moveBy, decide, findingsBy, toldFindings}
 
 -- ---- a regular relay, drawn if d, its winding live if l
 
@@ -61,7 +61,8 @@ module _ (d : Bool) (f : OfRelay (Outcome verdict.Finding)) where
 -- as the code has it, f, one law for each way out of `decide`
 module _ (d : Bool) (f : Findings) (settled : anyUndecided (toldFindings f) ≡ false) where
   decide-told : (g : Findings) → f ≡ g → moveBy d (toldFindings g) ≡ decide d (toldFindings f)
-  decide-told g is = ap (λ (h : Findings). moveBy d (toldFindings h)) (sym is) ∙ decide-settled d (toldFindings f) settled
+  decide-told g is =
+      ap (λ (h : Findings). moveBy d (toldFindings h)) (sym is) ∙ decide-settled d (toldFindings f) settled
 
   pub decide-regular : (x : Finding) (l : Bool) (m : Move) → f ≡ found.Regular x → l ≡ isLive (toldFinding x)
       → m ≡ regularMove d l → m ≡ decide d (toldFindings f)
@@ -75,28 +76,36 @@ module _ (d : Bool) (f : Findings) (settled : anyUndecided (toldFindings f) ≡ 
   pub decide-absent : f ≡ found.Absent → rests ≡ decide d (toldFindings f)
   decide-absent is = decide-told found.Absent is
 
+-- ---- a larger allowance
+
+-- one finding that is undecided is enough
+undecided-first : (x y : Outcome verdict.Finding) → x ≡ given verdict.undecided → anyUndecided (steel x y) ≡ true
+undecided-first x y e = rw e refl
+
+undecided-second : (x y : Outcome verdict.Finding) → y ≡ given verdict.undecided → anyUndecided (steel x y) ≡ true
+undecided-second x y e = rw e (or-true (isUndecided x))
+  where
+    or-true : (t : Bool) → (t || true) ≡ true
+    or-true true = refl
+    or-true false = refl
+
 -- the finding g on each winding is undecided or the same as h: then what the relay does is undecided or the same
 module _ (d : Bool) (g h : Winding → Outcome verdict.Finding)
     (same : (v : Winding) → (g v ≡ given verdict.undecided) ⊎ (h v ≡ g v)) where
   pub decide-larger : (x : OfRelay Winding) → (decide d (findingsBy g x) ≡ undecided)
       ⊎ (decide d (findingsBy h x) ≡ decide d (findingsBy g x))
   decide-larger absent = inr refl
-  decide-larger (regular v) = by-first (same v)
+  decide-larger (regular v) = by-one (same v)
     where
-      by-first : (g v ≡ given verdict.undecided) ⊎ (h v ≡ g v) → (decide d (regular (g v)) ≡ undecided)
+      by-one : (g v ≡ given verdict.undecided) ⊎ (h v ≡ g v) → (decide d (regular (g v)) ≡ undecided)
           ⊎ (decide d (regular (h v)) ≡ decide d (regular (g v)))
-      by-first (inl e) = inl (sym (decide-undecided d (regular (g v)) (ap isUndecided e)))
-      by-first (inr e) = inr (ap (λ (o : Outcome verdict.Finding). decide d (regular o)) e)
+      by-one (inl e) = inl (sym (decide-undecided d (regular (g v)) (ap isUndecided e)))
+      by-one (inr e) = inr (ap (λ (o : Outcome verdict.Finding). decide d (regular o)) e)
   decide-larger (steel v u) = by-both (same v) (same u)
     where
-      either : (t : Bool) → (t || true) ≡ true
-      either true = refl
-      either false = refl
-
       by-both : (g v ≡ given verdict.undecided) ⊎ (h v ≡ g v) → (g u ≡ given verdict.undecided) ⊎ (h u ≡ g u)
           → (decide d (steel (g v) (g u)) ≡ undecided)
           ⊎ (decide d (steel (h v) (h u)) ≡ decide d (steel (g v) (g u)))
-      by-both (inl e) k = inl (sym (decide-undecided d (steel (g v) (g u)) (ap (λ (o : Outcome verdict.Finding). isUndecided o || isUndecided (g u)) e)))
-      by-both (inr e) (inl k) =
-          inl (sym (decide-undecided d (steel (g v) (g u)) (ap (λ (o : Outcome verdict.Finding). isUndecided (g v) || isUndecided o) k ∙ either (isUndecided (g v)))))
+      by-both (inl e) k = inl (sym (decide-undecided d (steel (g v) (g u)) (undecided-first (g v) (g u) e)))
+      by-both (inr e) (inl k) = inl (sym (decide-undecided d (steel (g v) (g u)) (undecided-second (g v) (g u) k)))
       by-both (inr e) (inr k) = inr (rw (e, k) refl)

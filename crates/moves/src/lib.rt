@@ -98,8 +98,10 @@ fn steel(drawn: bool, drawing: bool, dropping: bool) -> Move
         } else {
             draws(drawn)
         }
+    } else if dropping {
+        drops(drawn)
     } else {
-        if dropping { drops(drawn) } else { Move::Rests }
+        Move::Rests
     }
 }
 

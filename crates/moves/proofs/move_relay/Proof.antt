@@ -1,5 +1,5 @@
--- `moves::move_relay` meets its contract: its lines are those of the definition, in that order, and where nothing stands
--- against it, the relay's step is made.
+-- `moves::move_relay` meets its contract: its lines are those of the definition, in that order, and where nothing
+-- stands against it, the relay's step is made.
 use borrow.Author.Needs.{needs}
 use Rattle.moves.proofs.move_relay.Statement.{statement}
 use Rattle.moves.proofs.move_relay.Tie as tie
