@@ -42,13 +42,13 @@ pub fn follow(board: Board, state: State, log: &mut [u8], allowance: u32) -> Ran
     let mut state = state;
     let mut moves = 0;
     let stop = 'run: loop {
-        let near = neighbours::neighbours(board, state);
+        let sets = neighbours::neighbours(board, state);
         let mut relay = 0;
         'scan: loop {
             if relays <= relay {
                 break 'run Stop(Ending::Idle, NO_RELAY);
             }
-            let motion = moves::step(&near, board, state, bits::wide(relay), allowance);
+            let motion = moves::step(sets, board, state, bits::wide(relay), allowance);
             match motion {
                 Move::Rests => relay += 1,
                 Move::Undecided => break 'run Stop(Ending::Undecided, relay),
