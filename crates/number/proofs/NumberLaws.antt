@@ -178,7 +178,8 @@ pub number-written-read : (s : List ℕ) (at v : ℕ) (rest : List ℕ) → v �
 unfolding numberAt numberBytes
 number-written-read s at v rest h e =
     ap (λ (l : List ℕ). placed currentWidth (length s) at (form (currentWidth .longest) l)) e
-    ∙ ap (placed currentWidth (length s) at) (form-written (currentWidth .longest) v rest current-some (current-room v h))
+    ∙ ap (placed currentWidth (length s) at)
+    (form-written (currentWidth .longest) v rest current-some (current-room v h))
     ∙ placed-as currentWidth (length s) at v (length (encode (currentWidth .longest) v)) h
 
 -- what is known where the number v was read at a place of s, with the place n just after it
@@ -257,7 +258,8 @@ pub number-asked : (v : ℕ) (out : List ℕ) (at : ℕ) {bytes : ℕ} {room : B
     → p ≡ firstNo (numberLines v out at)
 number-asked v out at {bytes} {room} {o} long fits first second =
     second
-    ∙ asks-then ((leb v (currentWidth .largest), badForm) ∷ []) room bufferTooShort o (first ∙ sym (asks-first _ badForm))
+    ∙ asks-then ((leb v (currentWidth .largest), badForm) ∷ []) room bufferTooShort o
+    (first ∙ sym (asks-first _ badForm))
     ∙ ap (λ (t : Bool). firstNo ((leb v (currentWidth .largest), badForm) ∷ (t, bufferTooShort) ∷ []))
     (fits ∙ ap (λ (n : ℕ). leb (at + n) (length out)) long)
 
