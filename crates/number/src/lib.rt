@@ -23,15 +23,15 @@ pub enum NumberWritten {
     Refused(Refusal),
 }
 
-// What some bytes are as a number: its value and how many bytes it takes; cut; or no number. The value has room for
-// every group that a number's bytes can have, though not each of them is a number.
+// What some bytes are as a number: what they are worth, with room for five groups of seven bits, and how many they are;
+// cut; or no number.
 enum Form {
     Got(u64, usize),
     Ends,
     Bad,
 }
 
-// The longest form, in bytes, and the largest value.
+// The current width: the longest form, in bytes, and the largest value.
 const LONGEST: usize = 3;
 
 const LARGEST: u32 = 2_097_151;
