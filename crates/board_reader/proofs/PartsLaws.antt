@@ -57,13 +57,15 @@ module _ (e : Edition) (c : Counts) (w : WoundSoFar) (s : List ℕ) (at : ℕ) w
   parts-done h = rw h
 
 -- all the parts are those read so far, which fill the array, and then those from `at` on after the windings w
-pub record Walk (e : Edition) (c : Counts) (s : List ℕ) (start : ℕ) (parts : List Part) (w : WoundSoFar) (at i : ℕ) : Type 0 where
+pub record Walk (e : Edition) (c : Counts) (s : List ℕ) (start : ℕ) (parts : List Part) (w : WoundSoFar)
+    (at i : ℕ) : Type 0 where
   pub so-far : List Part
   pub counted : length so-far ≡ i
   pub array : parts ≡ padded so-far
   pub rest : partsAt e c (c .parts) noneWound s start ≡ readAfter so-far (partsAt e c (c .parts - i) w s at)
 
-pub walk-start : (e : Edition) (c : Counts) (s : List ℕ) (start : ℕ) (p : Part) (w : WoundSoFar) → p ≡ blank → w ≡ noneWound
+pub walk-start : (e : Edition) (c : Counts) (s : List ℕ) (start : ℕ) (p : Part) (w : WoundSoFar) → p ≡ blank
+    → w ≡ noneWound
     → Walk e c s start (replicate mostParts p) w start 0
 unfolding padded
 walk-start e c s start p w filler none =
@@ -93,7 +95,8 @@ module _ (e : Edition) (c : Counts) (s : List ℕ) (start : ℕ) (parts : List P
             ∙ ap (λ (n : ℕ). readAfter ps (partsAt e c n w s at)) one
             ∙ ap (readAfter ps) (parts-next e c (c .parts - (i + 1)) w s at p next here)
             ∙ read-after-more ps p (partsAt e c (c .parts - (i + 1)) (gained w (p .kind)) s next)
-            ∙ ap (λ (v : WoundSoFar). readAfter (ps ++ (p ∷ [])) (partsAt e c (c .parts - (i + 1)) v s next)) (sym more);
+            ∙ ap (λ (v : WoundSoFar). readAfter (ps ++ (p ∷ [])) (partsAt e c (c .parts - (i + 1)) v s next))
+            (sym more);
       }
 
   pub walk-refused : (k p : ℕ) → i < c .parts → partAt e c w s at ≡ refused k p

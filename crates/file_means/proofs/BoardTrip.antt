@@ -71,7 +71,8 @@ counts-stand e c s next written read =
 
 -- parts one after the other
 parts-reads : (c : Counts) (ps : List Part) (w : WoundSoFar) (s : List ℕ) (at next : ℕ) → InRange c
-    → partsFine c w ps ≡ true → StandsTo s at next (partsBytes ps) → partsAt currentEdition c (length ps) w s at ≡ found ps next
+    → partsFine c w ps ≡ true → StandsTo s at next (partsBytes ps)
+    → partsAt currentEdition c (length ps) w s at ≡ found ps next
 unfolding partsFine partsBytes partsAt
 parts-reads c [] w s at next range fine here =
     let same : at ≡ next = omega (arith, here .ends) in
@@ -85,7 +86,8 @@ parts-reads c (p ∷ ps) w s at next range fine here =
     (stands-second s at next (partBytes p) (partsBytes ps) here) in
     rw (first, rest)
 
-record PartsRead (e : Edition) (c : Counts) (n : ℕ) (w : WoundSoFar) (s : List ℕ) (at : ℕ) (ps : Found (List Part)) : Type 0 where
+record PartsRead (e : Edition) (c : Counts) (n : ℕ) (w : WoundSoFar) (s : List ℕ) (at : ℕ)
+    (ps : Found (List Part)) : Type 0 where
   counted : length (ps .value) ≡ n
   fine : partsFine c w (ps .value) ≡ true
   stands : AsWritten e s → StandsTo s at (ps .next) (partsBytes (ps .value))
@@ -99,7 +101,8 @@ parts-read e known c zero w s at =
 parts-read e known c (suc n) w s at =
     gives-then (PartIsFine e c w s at) _ (partAt e c w s at) _ (part-read e known c w s at) (λ p first.
     let w′ = gained w (p .value .kind) in
-    gives-then (PartsRead e c n w′ s (p .next)) _ (partsAt e c n w′ s (p .next)) _ (parts-read e known c n w′ s (p .next))
+    gives-then (PartsRead e c n w′ s (p .next)) _ (partsAt e c n w′ s (p .next)) _
+    (parts-read e known c n w′ s (p .next))
     (λ ps rest.
     record {
       counted = ap suc (rest .counted);

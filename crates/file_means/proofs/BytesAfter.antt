@@ -30,7 +30,8 @@ reached-within e s f at (first-fine x stands below) = number-next-within (e .wid
 reached-within e s f at (second-fine x stands below apart) = number-next-within (e .width) s _ _ at stands .0
 reached-within e s f at (wire-fine x) = reached-within e s _ at x
 reached-within e s f at (button-fine x stands below) = number-next-within (e .width) s _ _ at stands .0
-reached-within e s f at (relay-fine x carries relay stands below untaken) = number-next-within (e .width) s _ _ at stands .0
+reached-within e s f at (relay-fine x carries relay stands below untaken) =
+    number-next-within (e .width) s _ _ at stands .0
 
 module _ (e : Edition) (s s′ : List ℕ) where
   -- a number stands in both, and what stands before it is the same in both
@@ -79,7 +80,8 @@ bytes-after s s′ r r′ n read told =
       λ short same read′.
           (let first = read ∙ reached-reading currentEdition current-known s c ps n (was .0) here (was .2) (was .3) in
           let again =
-          read′ ∙ reached-reading currentEdition current-known s′ c ps n short (reached-same currentEdition s s′ (at-part c ps) n same here) (was .2) (was .3) in (
+          read′ ∙ reached-reading currentEdition current-known s′ c ps n short
+          (reached-same currentEdition s s′ (at-part c ps) n same here) (was .2) (was .3) in (
             ap (λ (x : Board × Outcome ℕ). x .0) (again ∙ sym first),
             ap (λ (x : Board × Outcome ℕ). x .1) again,
           )),

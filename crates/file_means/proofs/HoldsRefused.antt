@@ -95,13 +95,15 @@ module _ (e : Edition) (known : Known e) (s : List ℕ) where
         let y = x .before in
         let z = y .before in
         board-part c ps w (z .part-at) (z .before) (z .one-more)
-        (name-refused e c w s (z .part-at) k (y .a-at) (z .kind-read) a (x .b-at) (y .a-read) b at (x .b-read) (x .apart)
-        n p (sym (name-carried e c k s at asked) ∙ stops))
+        (name-refused e c w s (z .part-at) k (y .a-at) (z .kind-read) a (x .b-at) (y .a-read) b at (x .b-read)
+        (x .apart) n p (sym (name-carried e c k s at asked) ∙ stops))
 
-  board-form : (n p : ℕ) (f : FileStage) (at : ℕ) → Reached e s f at → NumberWanted f → numberAt (e .width) s at ≡ refused n p
+  board-form : (n p : ℕ) (f : FileStage) (at : ℕ) → Reached e s f at → NumberWanted f
+      → numberAt (e .width) s at ≡ refused n p
       → boardAt e s ≡ refused n p
   board-form n p f at here asked stops =
-      board-stage n p f at (reached-read e known s f at here) asked (wanted-refused e (testOf e f) (lineOf f) s at n p stops)
+      board-stage n p f at (reached-read e known s f at here) asked
+      (wanted-refused e (testOf e f) (lineOf f) s at n p stops)
 
   board-test : (f : FileStage) (at v : ℕ) → NumberStands e s f at v → testOf e f v ≡ false
       → boardAt e s ≡ refused (lineOf f) at
@@ -176,6 +178,7 @@ holds-board e known s n p (line7-button {c} {ps} {a} {b} {v} x over) =
     board-test e known s (at-name c ps buttonKind a b) p v x (le-ltb v (c .buttons) over)
 holds-board e known s n p (line7-relay {c} {ps} {k} {a} {b} {v} x relay over) =
     board-test e known s (at-name c ps k a b) p v x (rw (relay-limit c k relay) (le-ltb v (c .relays) over))
-holds-board e known s n p (line8 {c} {ps} {k} {a} {b} {v} x below taken) = board-winding e known s c ps k a b v p x below taken
+holds-board e known s n p (line8 {c} {ps} {k} {a} {b} {v} x below taken) =
+    board-winding e known s c ps k a b v p x below taken
 holds-board e known s n p (line9 {c} {ps} {r} x all below irregular no-steel) =
     board-lacking e known s c ps r p x all below irregular no-steel

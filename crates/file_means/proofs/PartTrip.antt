@@ -81,7 +81,8 @@ part-reads c w p s at next range fine here =
     let from-name = stands-second s ab next (numberBytes (p .b)) after-b from-b in
     let most : k ≤ lastKind = kind-number-most (p .kind) in
     let kinds =
-    wanted-reads (inRange 0 (currentEdition .lastKind)) noSuchKind s at ka k (omega arith) (range-within 0 lastKind k (omega arith) most)
+    wanted-reads (inRange 0 (currentEdition .lastKind)) noSuchKind s at ka k (omega arith)
+    (range-within 0 (currentEdition .lastKind) k (omega arith) most)
     (stands-first s at next (numberBytes k) after-kind here) in
     let as-a =
     terminal-reads c s ka ab (p .a) range (rules .a-below)
@@ -91,8 +92,8 @@ part-reads c w p s at next range fine here =
     (stands-first s ab next (numberBytes (p .b)) after-b from-b) in
     let names = name-reads c (p .kind) s bn next range (rules .named) from-name in
     let same = kind-of-parts (p .kind) in
-    sym (part-found currentEdition c w s at k ka kinds (p .a) ab as-a (p .b) bn as-b (eqb-false _ _ (not-true _ (rules .apart)))
-    (nameOf (p .kind)) next names (ap (windingFree w) same ∙ both .1))
+    sym (part-found currentEdition c w s at k ka kinds (p .a) ab as-a (p .b) bn as-b
+    (eqb-false _ _ (not-true _ (rules .apart))) (nameOf (p .kind)) next names (ap (windingFree w) same ∙ both .1))
     ∙ part-as _ _ next refl refl same
 
 -- a name that was read is below its limit and stands there by its bytes; a wire carries none

@@ -67,12 +67,14 @@ pub record KindRead (e : Edition) (s : List ℕ) (c : Counts) (ps : List Part) (
   pub one-more : length ps < c .parts
   pub kind-read : wanted e (inRange 0 (e .lastKind)) noSuchKind s part-at ≡ found k at
 
-pub record FirstRead (e : Edition) (s : List ℕ) (c : Counts) (ps : List Part) (w : WoundSoFar) (k a at : ℕ) : Type 0 where
+pub record FirstRead (e : Edition) (s : List ℕ) (c : Counts) (ps : List Part) (w : WoundSoFar)
+    (k a at : ℕ) : Type 0 where
   pub a-at : ℕ
   pub before : KindRead e s c ps w k a-at
   pub a-read : wanted e (terminalFine c) noSuchTerminal s a-at ≡ found a at
 
-pub record EndsRead (e : Edition) (s : List ℕ) (c : Counts) (ps : List Part) (w : WoundSoFar) (k a b at : ℕ) : Type 0 where
+pub record EndsRead (e : Edition) (s : List ℕ) (c : Counts) (ps : List Part) (w : WoundSoFar)
+    (k a b at : ℕ) : Type 0 where
   pub b-at : ℕ
   pub before : FirstRead e s c ps w k a b-at
   pub b-read : wanted e (terminalFine c) noSuchTerminal s b-at ≡ found b at
@@ -84,7 +86,8 @@ StageRead e s (at-R t) at = countAt e leastTerminals mostTerminals s 0 ≡ found
 StageRead e s (at-B t r) at =
     (p : ℕ) × (countAt e leastTerminals mostTerminals s 0 ≡ found t p) × (countAt e 0 mostRelays s p ≡ found r at)
 StageRead e s (at-C t r b) at =
-    (p : ℕ) × (q : ℕ) × (countAt e leastTerminals mostTerminals s 0 ≡ found t p) × (countAt e 0 mostRelays s p ≡ found r q)
+    (p : ℕ) × (q : ℕ) × (countAt e leastTerminals mostTerminals s 0 ≡ found t p)
+    × (countAt e 0 mostRelays s p ≡ found r q)
     × (countAt e 0 mostButtons s q ≡ found b at)
 StageRead e s (at-part c ps) at = (w : WoundSoFar) × PartsSoFar e s c ps w at
 StageRead e s (at-first c ps k) at = (w : WoundSoFar) × KindRead e s c ps w k at
@@ -108,7 +111,8 @@ module _ (e : Edition) (known : Known e) (s : List ℕ) where
         so-far = tallied-none;
         whole = λ m all.
             (let left : c .parts ≡ m = omega (arith, all) in
-            let parts = ap (λ (i : ℕ). partsAt e c i noneWound s at) left ∙ behind-none (partsAt e c m noneWound s at) in
+            let parts =
+            ap (λ (i : ℕ). partsAt e c i noneWound s at) left ∙ behind-none (partsAt e c m noneWound s at) in
             rw (← read, parts));
       }
 

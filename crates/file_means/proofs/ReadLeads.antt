@@ -67,7 +67,8 @@ module _ (e : Edition) (known : Known e) (s : List ℕ) where
     form-holds n p stops (inr (two, place)) = rw (two, place) (line2 here asked (rw (two, place) at stops))
 
     wanted-leads : (ok : ℕ → Bool) (n : ℕ) → ((v : ℕ) → NumberStands e s f at v → ok v ≡ false → LineHolds e s n at)
-        → Leads (LineHolds e s) (λ v. StandsAt e s at (v .value) (v .next) × (ok (v .value) ≡ true)) (wanted e ok n s at)
+        → Leads (LineHolds e s) (λ v. StandsAt e s at (v .value) (v .next) × (ok (v .value) ≡ true))
+        (wanted e ok n s at)
     unfolding wanted
     wanted-leads ok n fails =
         leads-then (LineHolds e s) (λ v. numberAt (e .width) s at ≡ given v) _ (numberAt (e .width) s at) _

@@ -96,7 +96,8 @@ HeadFine h = boardFine (h .value .board) ≡ true
 pub head-fine : (s : List ℕ) → Gives HeadFine (headAt s)
 unfolding headAt withAllowance
 head-fine s =
-    gives-then (BoardIsFine currentEdition s (reading currentEdition s .0)) HeadFine (reading currentEdition s .1) _ (read-fine currentEdition current-known s)
+    gives-then (BoardIsFine currentEdition s (reading currentEdition s .0)) HeadFine (reading currentEdition s .1) _
+    (read-fine currentEdition current-known s)
     (λ at was. gives-after HeadFine (numberAt currentWidth s at) _ (λ w read. was .fine))
 
 pub head-walk : (h : Found Head) (s : List ℕ) → HeadFine h → (Q : ℕ → State → List Line → Type 0)

@@ -22,11 +22,13 @@ terminals : (c : tie.After-terminals-read)
 terminals c = told-found _ _ _ _ (c .terminals-read .given .1) (c .before .before .read-count .ensures)
 
 relays : (c : tie.After-relays-read) → let before = c .before .before .before .before in
-    countAt currentEdition 0 mostRelays (input before) (before .terminals-read .given .0 .1 .0) ≡ bound (c .relays-read .given .0)
+    countAt currentEdition 0 mostRelays (input before) (before .terminals-read .given .0 .1 .0)
+    ≡ bound (c .relays-read .given .0)
 relays c = told-found _ _ _ _ (c .relays-read .given .1) (c .before .before .read-count2 .ensures)
 
 buttons : (c : tie.After-buttons-read) → let before = c .before .before .before .before in
-    countAt currentEdition 0 mostButtons (input (before .before .before .before .before)) (before .relays-read .given .0 .1 .0)
+    countAt currentEdition 0 mostButtons (input (before .before .before .before .before))
+    (before .relays-read .given .0 .1 .0)
     ≡ bound (c .buttons-read .given .0)
 buttons c = told-found _ _ _ _ (c .buttons-read .given .1) (c .before .before .read-count3 .ensures)
 

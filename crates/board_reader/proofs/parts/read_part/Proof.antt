@@ -21,24 +21,28 @@ abbrev entry : tie.After-kind-read → tie.Start
 entry k = k .before .before .before .before
 
 kind : (k : tie.After-kind-read)
-    → wanted currentEdition (inRange 0 (currentEdition .lastKind)) noSuchKind (entry k .args .s .now) (entry k .args .at)
+    → wanted currentEdition (inRange 0 (currentEdition .lastKind)) noSuchKind (entry k .args .s .now)
+    (entry k .args .at)
     ≡ bound (k .kind-read .given .0)
 kind k = told-found _ _ _ _ (k .kind-read .given .1) (k .before .before .read-within .ensures)
 
 first-end : (a : tie.After-a-read) → let k = a .before .before .before .before in
-    wanted currentEdition (terminalFine (entry k .args .counts)) noSuchTerminal (entry k .args .s .now) (k .kind-read .given .0 .1 .0)
+    wanted currentEdition (terminalFine (entry k .args .counts)) noSuchTerminal (entry k .args .s .now)
+    (k .kind-read .given .0 .1 .0)
     ≡ bound (a .a-read .given .0)
 first-end a = told-found _ _ _ _ (a .a-read .given .1) (a .before .before .read-terminal .ensures)
 
 second-end : (b : tie.After-b-read) → let a = b .before .before .before .before in
     let k = a .before .before .before .before in
-    wanted currentEdition (terminalFine (entry k .args .counts)) noSuchTerminal (entry k .args .s .now) (a .a-read .given .0 .1 .0)
+    wanted currentEdition (terminalFine (entry k .args .counts)) noSuchTerminal (entry k .args .s .now)
+    (a .a-read .given .0 .1 .0)
     ≡ bound (b .b-read .given .0)
 second-end b = told-found _ _ _ _ (b .b-read .given .1) (b .before .before .read-terminal2 .ensures)
 
 name : (n : tie.After-name-read) → let b = n .before .before .before .before .before in
     let k = b .before .before .before .before .before .before .before .before in
-    nameAt currentEdition (entry k .args .counts) (k .kind-read .given .0 .0) (entry k .args .s .now) (b .b-read .given .0 .1 .0)
+    nameAt currentEdition (entry k .args .counts) (k .kind-read .given .0 .0) (entry k .args .s .now)
+    (b .b-read .given .0 .1 .0)
     ≡ bound (n .name-read .given .0)
 name n = told-found _ _ _ _ (n .name-read .given .1) (n .before .before .read-name .ensures)
 
@@ -48,8 +52,8 @@ returns c =
     let args = c .before .before .before .before .before .args in
     number-stopped (c .no-field .result .part) (c .no-field .result .answer) _ _ (c .no-field .ensures) refusal
     ∙ kind-refused _ _ _ _ _ _ _
-    (told-refused (wanted currentEdition (inRange 0 (currentEdition .lastKind)) noSuchKind (args .s .now) (args .at)) _ _ refusal
-    (c .before .before .before .read-within .ensures))
+    (told-refused (wanted currentEdition (inRange 0 (currentEdition .lastKind)) noSuchKind (args .s .now)
+    (args .at)) _ _ refusal (c .before .before .before .read-within .ensures))
 
 returns-2 : tie.Need-returns-2
 returns-2 c =
@@ -101,7 +105,8 @@ returns-6 c =
     let b = apart .before .before in
     let a = b .before .before .before .before in
     no-part-told (c .no-part2 .result) _ _ _ (c .no-part2 .ensures) (c .before .refuse2 .ensures)
-    ∙ winding-taken-refused _ _ _ _ _ _ _ (kind (a .before .before .before .before)) _ _ (first-end a) _ _ (second-end b)
+    ∙ winding-taken-refused _ _ _ _ _ _ _ (kind (a .before .before .before .before)) _ _ (first-end a) _ _
+    (second-end b)
     (apart .if1 .left) _ _ (name n)
     (ap (windingFree _) (sym (c .before .before .before .before .of .ensures))
     ∙ sym (c .before .before .before .free .ensures) ∙ not-true _ (c .before .before .if2 .taken))
