@@ -26,7 +26,8 @@ loop-holds c =
 loop-again : tie.Need-loop-again Inv-loop μ-loop
 loop-again c =
     let in-loop = c .before .before .before in
-    sets-walk-on _ _ _ _ _ _ (in-loop .before .loop .inv) (in-loop .loop-test .taken) (c .bridge .ensures)
+    sets-walk-on _ _ _ _ _ _ (in-loop .before .loop .inv) (omega (arith, in-loop .loop-test .taken))
+    (c .bridge .ensures)
 
 returns : tie.Need-returns Inv-loop μ-loop
 returns c =
