@@ -1,5 +1,5 @@
--- Laws of the set at a terminal: what a part does to it, and that a part which does not end there leaves it alone; and of
--- the sets as their table, which the loop of `neighbours` builds part by part.
+-- Laws of the set at a terminal: what a part does to it, and that a part which does not end there leaves it alone; and
+-- of the sets as their table, which the loop of `neighbours` builds part by part.
 use Prim.Native.Nat.{ℕ, zero, suc, _+_, _-_, _≤_, _<_}
 use native.Mathlib.Omega.{arith}
 use mathlib.Core.Path.{_≡_, refl, sym, ap, _∙_}
@@ -42,7 +42,8 @@ module _ (s : State) (p : Part) (x k : ℕ) where
   pub with-part-apart : ¬ (x ≡ p .a) → ¬ (x ≡ p .b) → withPart s p x k ≡ k
   with-part-apart not-a not-b =
       by-test (conducts s (p .kind))
-      (λ on. with-part-conducting on ∙ with-other-else (p .b) (p .a) x _ not-b ∙ with-other-else (p .a) (p .b) x k not-a)
+      (λ on. with-part-conducting on ∙ with-other-else (p .b) (p .a) x _ not-b
+      ∙ with-other-else (p .a) (p .b) x k not-a)
       with-part-open
 
 pub set-at-none : (s : State) (x : ℕ) → setAt s x [] ≡ 0
@@ -140,10 +141,10 @@ pub record SetsFrom (s : State) (l : List Part) (n i : ℕ) (near : List ℕ) : 
   pub here : near ≡ setsAt s (drop i (take n l))
 
 module _ (s : State) (l : List Part) (n i : ℕ) where
-  pub walk-starts : (near : List ℕ) → length l ≡ mostParts
+  pub sets-walk-starts : (near : List ℕ) → length l ≡ mostParts
       → ((mostParts < n) × (i ≡ mostParts)) ⊎ ((n ≤ mostParts) × (i ≡ n)) → near ≡ replicate mostTerminals 0
       → SetsFrom s l n i near
-  walk-starts near long start none =
+  sets-walk-starts near long start none =
       record {
         long = long;
         below = ⊎-elim (λ (past, at). omega (arith, past, at)) (λ (few, at). omega (arith, few, at)) start;
@@ -152,9 +153,9 @@ module _ (s : State) (l : List Part) (n i : ℕ) where
             (λ (few, at). taken-past blank l n i (omega (arith, at))) start) ∙ sets-none s);
       }
 
-  pub walk-on : (near next : List ℕ) → SetsFrom s l n i near → 0 < i
+  pub sets-walk-on : (near next : List ℕ) → SetsFrom s l n i near → 0 < i
       → EachSet near next (withPart s (getD l (i - 1) blank)) → SetsFrom s l n (i - 1) next
-  walk-on near next so more each =
+  sets-walk-on near next so more each =
       let down : i ≡ i - 1 + 1 = omega (arith, more) in
       record {
         long = so .long;
@@ -166,8 +167,8 @@ module _ (s : State) (l : List Part) (n i : ℕ) where
             (omega (arith, so .long, so .inside, more))));
       }
 
-  pub walk-ends : (near : List ℕ) → SetsFrom s l n i near → i ≤ 0 → near ≡ setsAt s (take n l)
-  walk-ends near so end =
+  pub sets-walk-ends : (near : List ℕ) → SetsFrom s l n i near → i ≤ 0 → near ≡ setsAt s (take n l)
+  sets-walk-ends near so end =
       let none : i ≡ 0 = omega (arith, end) in
       so .here ∙ ap (λ (k : ℕ). setsAt s (drop k (take n l))) none
 

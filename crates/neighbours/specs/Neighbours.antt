@@ -13,8 +13,8 @@
 --     Neighbours b s r     promise: `neighbours` of board b in state s answers r
 -- What the functions of this crate promise each other:
 --     EachSet near r f     the sets r are as many as `near`, each what f makes of the one there at its terminal
--- `proofs/SetAtLaws.antt` shows that a part which does not end at x leaves the set of x alone, and `proofs/JoinedLaws.antt`
--- of a board whose counts and parts fit: y is in the set of x exactly if `Joined` says so.
+-- `proofs/SetAtLaws.antt` shows that a part which does not end at x leaves the set of x alone, and
+-- `proofs/JoinedLaws.antt` of a board whose counts and parts fit: y is in the set of x exactly if `Joined` says so.
 use Prim.Native.Nat.{ℕ, zero, suc, _<_}
 use mathlib.Core.Path.{_≡_}
 use mathlib.Core.Logic.{_⊎_}

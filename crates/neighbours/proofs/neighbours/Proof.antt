@@ -6,7 +6,8 @@ use mathlib.Core.Path.{refl, sym, ap, _∙_}
 use mathlib.Core.Logic.{⊎-map}
 use mathlib.Core.List.{List}
 use lib.ListN.{length-map}
-use Rattle.neighbours.proofs.SetAtLaws.{neighbours-sets, SetsFrom, walk-starts, walk-on, walk-ends}
+use Rattle.neighbours.proofs.SetAtLaws.{neighbours-sets, SetsFrom, sets-walk-starts, sets-walk-on}
+use Rattle.neighbours.proofs.SetAtLaws.{sets-walk-ends}
 use Rattle.neighbours.proofs.neighbours.Statement.{statement}
 use Rattle.neighbours.proofs.neighbours.Tie as tie
 
@@ -19,18 +20,18 @@ abbrev μ-loop : tie.MeasureT-loop
 loop-holds : tie.Need-loop-holds Inv-loop μ-loop
 loop-holds c =
     let start = c .before .before in
-    walk-starts _ _ _ _ _ (sym (length-map (start .args .board .parts) _) ∙ start .good .0 .1 .1 .1 .0 .1 .0 .1)
+    sets-walk-starts _ _ _ _ _ (sym (length-map (start .args .board .parts) _) ∙ start .good .0 .1 .1 .1 .0 .1 .0 .1)
     (⊎-map (λ x. (x .0 .taken, x .1)) (λ x. (x .0 .left, x .1)) (c .if1 .came)) refl
 
 loop-again : tie.Need-loop-again Inv-loop μ-loop
 loop-again c =
     let in-loop = c .before .before .before in
-    walk-on _ _ _ _ _ _ (in-loop .before .loop .inv) (in-loop .loop-test .taken) (c .bridge .ensures)
+    sets-walk-on _ _ _ _ _ _ (in-loop .before .loop .inv) (in-loop .loop-test .taken) (c .bridge .ensures)
 
 returns : tie.Need-returns Inv-loop μ-loop
 returns c =
     ap (λ (k : List ℕ). record { near = k })
-    (walk-ends _ _ _ _ _ (c .before .loop .inv) (c .loop-test .left) ∙ sym (neighbours-sets _ _))
+    (sets-walk-ends _ _ _ _ _ (c .before .loop .inv) (c .loop-test .left) ∙ sym (neighbours-sets _ _))
 
 pub neighbours-spec : {M : Type 1} → statement M
 neighbours-spec =
@@ -39,7 +40,7 @@ neighbours-spec =
     Inv-loop
     μ-loop
     loop-holds
-    (λ c. omega arith) (λ c. omega arith) (λ c. omega (arith, c .before .before .loop .inv .inside)) (λ c κs. search needs)
-    (λ c. omega arith)
+    (λ c. omega arith) (λ c. omega arith) (λ c. omega (arith, c .before .before .loop .inv .inside))
+    (λ c κs. search needs) (λ c. omega arith)
     loop-again
     returns)
