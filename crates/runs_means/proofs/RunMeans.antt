@@ -21,41 +21,32 @@ use Rattle.runs_means.proofs.LookMeans.{LookMeans, look-means}
 module _ (b : Board) (w : ℕ) where
   -- ---- one move
 
-  drew-allowed : (s : State) (r : ℕ) → r < b .counts .relays → Comes b s r step.drew w
-      → AllowedMove b s (byteOf r step.drew) (step.made s r step.drew) w
-  drew-allowed s r below comes =
+  -- a relay of the board that comes to m, drew or dropped
+  comes-allowed : (s : State) (m : step.Move) (r : ℕ) → r < b .counts .relays
+      → ((m ≡ step.drew) × Comes b s r step.drew w) ⊎ ((m ≡ step.dropped) × Comes b s r step.dropped w)
+      → AllowedMove b s (byteOf r m) (step.made s r m) w
+  comes-allowed s m r below comes =
       record {
         relay = r;
         on-board = below;
-        made = inl (refl, comes, refl);
-        else-as-before = made-else s r step.drew;
-        guarded = inl (comes .2);
+        made = ⊎-elim (λ (is, x). inl (rw is (refl, x, refl))) (λ (is, x). inr (rw is (refl, x, refl))) comes;
+        else-as-before = made-else s r m;
+        guarded = ⊎-elim (λ (is, x). inl (x .2)) (λ (is, x). inr (x .2)) comes;
       }
 
-  dropped-allowed : (s : State) (r : ℕ) → r < b .counts .relays → Comes b s r step.dropped w
-      → AllowedMove b s (byteOf r step.dropped) (step.made s r step.dropped) w
-  dropped-allowed s r below comes =
-      record {
-        relay = r;
-        on-board = below;
-        made = inr (refl, comes, refl);
-        else-as-before = made-else s r step.dropped;
-        guarded = inr (comes .2);
-      }
-
-  -- of the relays below one that all rest below no guard holds
+  -- a relay that rests has no guard that holds
   resting-lowest : (s : State) (c : ℕ) (t : State) (move : AllowedMove b s c t w) → Resting b s (move .relay) w
       → LowestMove b s c t w
   resting-lowest s c t move rest =
       record { move = move; resting = rest; lowest = λ q below. (rest q below .2, rest q below .3) }
 
-  stopped-moves : (s : State) (m : step.Move) (r : ℕ) → LookMeans b w s (makes m r)
+  look-lowest : (s : State) (m : step.Move) (r : ℕ) → LookMeans b w s (makes m r)
       → LowestMove b s (byteOf r m) (step.made s r m) w
-  unfolding drew-allowed dropped-allowed
-  stopped-moves s m r (inl (is, (below, rest, comes))) =
-      rw is (resting-lowest s _ _ (drew-allowed s r below comes) rest)
-  stopped-moves s m r (inr (is, (below, rest, comes))) =
-      rw is (resting-lowest s _ _ (dropped-allowed s r below comes) rest)
+  unfolding comes-allowed
+  look-lowest s m r (inl (is, (below, rest, comes))) =
+      resting-lowest s _ _ (comes-allowed s m r below (inl (is, comes))) rest
+  look-lowest s m r (inr (is, (below, rest, comes))) =
+      resting-lowest s _ _ (comes-allowed s m r below (inr (is, comes))) rest
 
   -- ---- the whole run
 
@@ -105,7 +96,7 @@ module _ (b : Board) (w : ℕ) where
     goes-says : {n : ℕ} {s : State} {x : Run} → RunGoes (step.stepper b w) (b .counts .relays) n s x → Says n s x
     goes-says (stops {n = n} {s = s} {e = h} {r = r} why) = says-ends n s h r (stops-ended why)
     goes-says (moved {n = n} {s = s} {x = x} m r e on) =
-        says-logged n s (byteOf r m) (step.made s r m) x (stopped-moves s m r (means s (makes m r) e)) (goes-says on)
+        says-logged n s (byteOf r m) (step.made s r m) x (look-lowest s m r (means s (makes m r) e)) (goes-says on)
 
     pub run-says : (n : ℕ) (s : State) → Says n s (runOf (step.stepper b w) (b .counts .relays) n s)
     run-says n s = goes-says (run-goes (step.stepper b w) (b .counts .relays) n s)
