@@ -34,7 +34,7 @@ look-below f s k zero r most = tt
 look-below f s k (suc n) r most =
     decides-below k (f s r) r (lookFrom f s n (suc r)) (omega arith) (look-below f s k n (suc r) (omega arith))
 
-pub look-makes-below : (f : Stepper) (s : State) (k : ℕ) (m : step.Move) (r : ℕ) → lookFrom f s k 0 ≡ makes m r → r < k
+look-makes-below : (f : Stepper) (s : State) (k : ℕ) (m : step.Move) (r : ℕ) → lookFrom f s k 0 ≡ makes m r → r < k
 look-makes-below f s k m r is = subst (MovesBelow k) is (look-below f s k k 0 (omega arith))
 
 -- ---- the run

@@ -8,57 +8,45 @@ use lib.ListN.{length}
 use Rattle.board.specs.declared.Board.{Board}
 use Rattle.board.specs.Rules.{boardFine}
 use Rattle.state.specs.declared.State.{State}
-use Rattle.state.specs.States.{stateFine}
 use Rattle.moves.specs.Steps as step
-use Rattle.moves.proofs.StepLaws.{made-fits}
 use Rattle.moves_means.specs.SingleMoves.{Comes}
 use Rattle.moves_means.proofs.ComesLaws.{comes-exclusive}
 use Rattle.moves_means.proofs.OneRelay.{made-else}
 use Rattle.runs.specs.Looks.{Ending, idle, spent, undecided, conflict, Look, quiet, halts, makes, byteOf, lookFrom}
 use Rattle.runs.specs.Runs.{noRelay, Run, ends, logged, runOf}
 use Rattle.runs.proofs.RunLaws.{RunStops, rested, halted, filled, RunGoes, stops, moved, run-goes}
-use Rattle.runs.proofs.RunFits.{look-makes-below}
 use Rattle.runs_means.specs.Courses.{AllowedMove, LowestMove, Follows, Resting, StoppedBy, Ended}
 use Rattle.runs_means.proofs.LookMeans.{LookMeans, look-means}
 
 module _ (b : Board) (w : ℕ) where
   -- ---- one move
 
-  drew-allowed : (s : State) (r : ℕ) → r < b .counts .relays → Comes b s r step.drew w
-      → AllowedMove b s (byteOf r step.drew) (step.made s r step.drew) w
-  drew-allowed s r below comes =
+  -- a relay of the board that comes to m, drew or dropped
+  comes-allowed : (s : State) (m : step.Move) (r : ℕ) → r < b .counts .relays
+      → ((m ≡ step.drew) × Comes b s r step.drew w) ⊎ ((m ≡ step.dropped) × Comes b s r step.dropped w)
+      → AllowedMove b s (byteOf r m) (step.made s r m) w
+  comes-allowed s m r below comes =
       record {
         relay = r;
         on-board = below;
-        made = inl (refl, comes, refl);
-        else-as-before = made-else s r step.drew;
-        guarded = inl (comes .2);
+        made = ⊎-elim (λ (is, x). inl (rw is (refl, x, refl))) (λ (is, x). inr (rw is (refl, x, refl))) comes;
+        else-as-before = made-else s r m;
+        guarded = ⊎-elim (λ (is, x). inl (x .2)) (λ (is, x). inr (x .2)) comes;
       }
 
-  dropped-allowed : (s : State) (r : ℕ) → r < b .counts .relays → Comes b s r step.dropped w
-      → AllowedMove b s (byteOf r step.dropped) (step.made s r step.dropped) w
-  dropped-allowed s r below comes =
-      record {
-        relay = r;
-        on-board = below;
-        made = inr (refl, comes, refl);
-        else-as-before = made-else s r step.dropped;
-        guarded = inr (comes .2);
-      }
-
-  -- of the relays below one that all rest below no guard holds
+  -- a relay that rests has no guard that holds
   resting-lowest : (s : State) (c : ℕ) (t : State) (move : AllowedMove b s c t w) → Resting b s (move .relay) w
       → LowestMove b s c t w
   resting-lowest s c t move rest =
       record { move = move; resting = rest; lowest = λ q below. (rest q below .2, rest q below .3) }
 
-  stopped-moves : (s : State) (m : step.Move) (r : ℕ) → LookMeans b w s (makes m r)
+  look-lowest : (s : State) (m : step.Move) (r : ℕ) → LookMeans b w s (makes m r)
       → LowestMove b s (byteOf r m) (step.made s r m) w
-  unfolding drew-allowed dropped-allowed
-  stopped-moves s m r (inl (is, (below, rest, comes))) =
-      rw is (resting-lowest s _ _ (drew-allowed s r below comes) rest)
-  stopped-moves s m r (inr (is, (below, rest, comes))) =
-      rw is (resting-lowest s _ _ (dropped-allowed s r below comes) rest)
+  unfolding comes-allowed
+  look-lowest s m r (inl (is, (below, rest, comes))) =
+      resting-lowest s _ _ (comes-allowed s m r below (inl (is, comes))) rest
+  look-lowest s m r (inr (is, (below, rest, comes))) =
+      resting-lowest s _ _ (comes-allowed s m r below (inr (is, comes))) rest
 
   -- ---- the whole run
 
@@ -96,27 +84,22 @@ module _ (b : Board) (w : ℕ) where
       }
 
   module _ (fine : boardFine b ≡ true) where
-    means : (s : State) (l : Look) → lookFrom (step.stepper b w) s (b .counts .relays) 0 ≡ l
-        → stateFine (b .counts) s ≡ true → LookMeans b w s l
-    means s l e fits = subst (LookMeans b w s) e (look-means b w s fine fits)
+    means : (s : State) (l : Look) → lookFrom (step.stepper b w) s (b .counts .relays) 0 ≡ l → LookMeans b w s l
+    means s l e = subst (LookMeans b w s) e (look-means b w s fine)
 
     stops-ended : {n : ℕ} {s : State} {h : Ending} {r : ℕ} → RunStops (step.stepper b w) (b .counts .relays) n s h r
-        → stateFine (b .counts) s ≡ true → Ended b n 0 s r h w
-    stops-ended (rested {s = s} e) fits = (refl, means s quiet e fits)
-    stops-ended (halted {n = n} {s = s} {e = h} {r = r} e) fits = halts-ended n s h r (means s (halts h r) e fits)
-    stops-ended (filled {s = s} {r = r} m e) fits = full-ended s m r (means s (makes m r) e fits)
+        → Ended b n 0 s r h w
+    stops-ended (rested {s = s} e) = (refl, means s quiet e)
+    stops-ended (halted {n = n} {s = s} {e = h} {r = r} e) = halts-ended n s h r (means s (halts h r) e)
+    stops-ended (filled {s = s} {r = r} m e) = full-ended s m r (means s (makes m r) e)
 
-    goes-says : {n : ℕ} {s : State} {x : Run} → RunGoes (step.stepper b w) (b .counts .relays) n s x
-        → stateFine (b .counts) s ≡ true → Says n s x
-    goes-says (stops {n = n} {s = s} {e = h} {r = r} why) fits = says-ends n s h r (stops-ended why fits)
-    goes-says (moved {n = n} {s = s} {x = x} m r e on) fits =
-        says-logged n s (byteOf r m) (step.made s r m) x (stopped-moves s m r (means s (makes m r) e fits))
-        (goes-says on (made-fits (b .counts) s r m fits
-        (look-makes-below (step.stepper b w) s (b .counts .relays) m r e)))
+    goes-says : {n : ℕ} {s : State} {x : Run} → RunGoes (step.stepper b w) (b .counts .relays) n s x → Says n s x
+    goes-says (stops {n = n} {s = s} {e = h} {r = r} why) = says-ends n s h r (stops-ended why)
+    goes-says (moved {n = n} {s = s} {x = x} m r e on) =
+        says-logged n s (byteOf r m) (step.made s r m) x (look-lowest s m r (means s (makes m r) e)) (goes-says on)
 
-    pub run-says : (n : ℕ) (s : State) → stateFine (b .counts) s ≡ true
-        → Says n s (runOf (step.stepper b w) (b .counts .relays) n s)
-    run-says n s fits = goes-says (run-goes (step.stepper b w) (b .counts .relays) n s) fits
+    pub run-says : (n : ℕ) (s : State) → Says n s (runOf (step.stepper b w) (b .counts .relays) n s)
+    run-says n s = goes-says (run-goes (step.stepper b w) (b .counts .relays) n s)
 
   -- ---- of one run only one word can be said
 
