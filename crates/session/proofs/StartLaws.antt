@@ -19,15 +19,23 @@ use Rattle.session.specs.Sessions.{withAllowance, headAt}
 use Rattle.session.specs.Carried.{begunFrom, beginning, toldSession}
 
 pub begun-refused : (b : Board) (t : State) (q : Refusal) → b ≡ emptyBoard → t ≡ freshState
-    → toldSession (record { board = b; allowance = 0; state = t; event = 0; place = 0; stage = stage.Refused q })
-    ≡ begunFrom (refused (q .number) (q .place))
+    → toldSession
+    (record {
+      board = b;
+      allowance = 0;
+      ahead = record { state = t; event = 0; place = 0; stage = stage.Refused q };
+    }) ≡ begunFrom (refused (q .number) (q .place))
 unfolding begunFrom
 begun-refused b t q empty fresh = rw (empty, fresh)
 
 module _ (b : Board) (x : number.Number) where
   pub begun-read : (t : State) (w at : ℕ) → x ≡ number-was.Read w at → t ≡ freshState
-      → toldSession (record { board = b; allowance = w; state = t; event = 0; place = at; stage = stage.First })
-      ≡ begunFrom (withAllowance b (toldNumber x))
+      → toldSession
+      (record {
+        board = b;
+        allowance = w;
+        ahead = record { state = t; event = 0; place = at; stage = stage.First };
+      }) ≡ begunFrom (withAllowance b (toldNumber x))
   unfolding begunFrom withAllowance
   begun-read t w at is fresh = rw (is, fresh)
 

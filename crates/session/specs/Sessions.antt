@@ -25,6 +25,7 @@ use Rattle.state.specs.declared.State.{State}
 use Rattle.state.specs.States.{freshState}
 use Rattle.board_reader.specs.Reading.{reading}
 use Rattle.lines.specs.Lines.{Line, closing, lineText}
+use Rattle.events.specs.declared.Event.{Event}
 use Rattle.events.specs.Events.{Shown, eventAt, ranLine, eventLine}
 
 pub record Head : Type 0 where
@@ -41,7 +42,7 @@ headAt s = do
   at ← reading s .1
   withAllowance (reading s .0) (numberAt s at)
 
-abbrev pub eventLines : Outcome (Found ℕ) → (ℕ → Shown) → (State → ℕ → List Line) → List Line
+abbrev pub eventLines : Outcome (Found Event) → (Event → Shown) → (State → ℕ → List Line) → List Line
 eventLines (given v) tell go = tell (v .value) .0 ∷ go (tell (v .value) .1) (v .next)
 eventLines (refused n p) tell go = closing n p ∷ []
 
@@ -50,7 +51,8 @@ linesFrom zero b s t e at w = []
 linesFrom (suc k) b s t e at w =
     cond (leb (length s) at)
     []
-    (eventLines (eventAt b s at) (λ v. eventLine b e t v w) (λ u next. linesFrom k b s u (suc e) next w))
+    (eventLines (eventAt (b .counts .buttons) s at) (λ v. eventLine b e t v w)
+    (λ u next. linesFrom k b s u (suc e) next w))
 
 unfoldable pub headLines : Outcome (Found Head) → List ℕ → List Line
 headLines (refused n p) s = closing n p ∷ []
