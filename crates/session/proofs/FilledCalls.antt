@@ -2,7 +2,7 @@
 -- for the theorem on all the buffers.
 use Prim.Native.Nat.{ℕ, _<_, _≤_}
 use native.Mathlib.Omega.{arith}
-use mathlib.Core.Path.{_≡_, refl, sym, ap, ap₂, _∙_}
+use mathlib.Core.Path.{_≡_, refl, sym, ap, ap₂, subst, _∙_}
 use mathlib.Core.List.{List, [], _∷_}
 use mathlib.Core.Logic.{inl, inr, _⊎_}
 use lib.Dec.{leb}
@@ -118,17 +118,28 @@ module _ (z : code-session.Session) (s out out′ : List ℕ) (r : code-handed.H
   pub came-lines : (n : ℕ) → r .answer ≡ said.Written n → CameLines n
   came-lines n is = came-lines-by n is (fits-in) refl
 
+  -- the head stays
+  pub filled-head : headOf (toldSession (r .session)) ≡ headOf (toldSession z)
+  unfolding nextLines
+  filled-head = ap (λ (h : Handed). headOf (h .session)) called
+
   -- they are as many as fit
   pub came-full : (n : ℕ) (is : r .answer ≡ said.Written n)
-      → Full (headOf (toldSession z)) s (length out) (toldAhead (r .session .ahead), came-lines n is .lines-told)
+      → Full (headOf (toldSession (r .session))) s (length out)
+      (toldAhead (r .session .ahead), came-lines n is .lines-told)
   came-full n is =
-      rw (came-lines n is .lines-fit) at (fitting-full (headOf (toldSession z)) s (length out) (toldAhead (z .ahead)) (length out) (omega arith))
+      subst (λ (h : Head). Full h s (length out) (toldAhead (r .session .ahead), came-lines n is .lines-told))
+      (sym filled-head)
+      (rw (came-lines n is .lines-fit) at
+      (fitting-full (headOf (toldSession z)) s (length out) (toldAhead (z .ahead)) (length out) (omega arith)))
 
   -- lines that were handed out fit the buffer, and leave less to come
   pub filled-advances : Advances z s (length out) r
   filled-advances n is =
       let c = came-lines n is in
-      let within = rw (c .lines-fit) at (fitting-within (headOf (toldSession z)) s (length out) (toldAhead (z .ahead)) (length out) (omega arith)) in
+      let within =
+      rw (c .lines-fit) at
+      (fitting-within (headOf (toldSession z)) s (length out) (toldAhead (z .ahead)) (length out) (omega arith)) in
       (omega (arith, within .0, c .lines-bytes), omega (arith, within .1, c .lines-some))
 
   -- ---- nothing comes
@@ -173,11 +184,6 @@ module _ (z : code-session.Session) (s out out′ : List ℕ) (r : code-handed.H
       ap (λ (h : Handed). h .session .ahead) (filled-by nothing (ap toldHandOut is) _ fits)
       ∙ ap (λ (x : Ahead × List Line). x .0) (sym fits ∙ goes)
       ∙ none-same _ (toldAhead (z .ahead)) w s next
-
-  -- the head stays
-  pub filled-head : headOf (toldSession (r .session)) ≡ headOf (toldSession z)
-  unfolding nextLines
-  filled-head = ap (λ (h : Handed). headOf (h .session)) called
 
   none-left : r .answer ≡ said.Over → nextIn (r .session) s .1 ≡ no-line
   none-left is =

@@ -12,9 +12,10 @@ use Rattle.refusals.specs.Outcomes.{Outcome, given, refused, Found}
 use Rattle.board.specs.declared.Board.{Board}
 use Rattle.state.specs.declared.State.{State}
 use Rattle.lines.specs.Lines.{Line}
+use Rattle.events.specs.declared.Event.{Event}
 use Rattle.events.specs.Events.{Shown, eventAt, eventLine}
 use Rattle.session.specs.Sessions.{eventLines, linesFrom}
-use Rattle.session.proofs.AheadLaws.{event-next}
+use Rattle.session.proofs.ComingLaws.{event-next}
 
 module _ (b : Board) (w : ℕ) (s : List ℕ) where
   pub from-end : (k : ℕ) (t : State) (e at : ℕ) → length s ≤ at → linesFrom k b s t e at w ≡ []
@@ -24,17 +25,17 @@ module _ (b : Board) (w : ℕ) (s : List ℕ) where
 
   pub from-event : (k : ℕ) (t : State) (e at : ℕ) → at < length s
       → linesFrom (suc k) b s t e at w
-      ≡ eventLines (eventAt b s at) (λ v. eventLine b e t v w) (λ u next. linesFrom k b s u (suc e) next w)
+      ≡ eventLines (eventAt (b .counts .buttons) s at) (λ v. eventLine b e t v w) (λ u next. linesFrom k b s u (suc e) next w)
   unfolding linesFrom
   from-event k t e at there = rw (lt-leb (length s) at there) refl
 
   -- two ways to go on after an event that agree at the places after it
-  lines-same : (at : ℕ) (tell : ℕ → Shown) (go stay : State → ℕ → List Line)
+  lines-same : (at : ℕ) (tell : Event → Shown) (go stay : State → ℕ → List Line)
       → ((u : State) (next : ℕ) → at < next → go u next ≡ stay u next)
-      → (o : Outcome (Found ℕ)) → eventAt b s at ≡ o → eventLines o tell go ≡ eventLines o tell stay
+      → (o : Outcome (Found Event)) → eventAt (b .counts .buttons) s at ≡ o → eventLines o tell go ≡ eventLines o tell stay
   lines-same at tell go stay same (given v) e =
       ap {B = List Line} (λ ls. tell (v .value) .0 ∷ ls)
-      (same (tell (v .value) .1) (v .next) (event-next b s at v e))
+      (same (tell (v .value) .1) (v .next) (event-next (b .counts .buttons) s at v e))
   lines-same at tell go stay same (refused n p) e = refl
 
   enough-by : (k m : ℕ) (t : State) (e at : ℕ)
@@ -46,7 +47,7 @@ module _ (b : Board) (w : ℕ) (s : List ℕ) where
   enough-by k m t e at same false there =
       from-event k t e at (leb-false (length s) at there)
       ∙ lines-same at (λ v. eventLine b e t v w) (λ u next. linesFrom k b s u (suc e) next w)
-      (λ u next. linesFrom m b s u (suc e) next w) same (eventAt b s at) refl
+      (λ u next. linesFrom m b s u (suc e) next w) same (eventAt (b .counts .buttons) s at) refl
       ∙ sym (from-event m t e at (leb-false (length s) at there))
 
   -- k and m both allow for an event on each byte left

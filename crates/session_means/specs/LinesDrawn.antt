@@ -18,13 +18,14 @@ use Rattle.refusals.specs.Outcomes.{given, Found}
 use Rattle.state.specs.declared.State.{State}
 use Rattle.state.specs.States.{freshState, stateFine}
 use Rattle.lines.specs.Lines.{Line, event, closing}
+use Rattle.events.specs.declared.Event.{Event}
 use Rattle.events.specs.Events.{Shown, ranLine, eventLine}
 use Rattle.events.specs.Drawn.{sumBelow}
 use Rattle.session.specs.Sessions.{Head, headAt, sessionLines}
 
 abbrev pub EventShows : Head → ℕ → State → Shown → Type 0
 EventShows h zero t x = x ≡ ranLine (h .board) 0 t (h .allowance)
-EventShows h (suc e) t x = (v : ℕ) × (x ≡ eventLine (h .board) (suc e) t v (h .allowance))
+EventShows h (suc e) t x = (v : Event) × (x ≡ eventLine (h .board) (suc e) t v (h .allowance))
 
 pub record PrintsSum (h : Head) (e : ℕ) (t : State) (l : Line) (d : ℕ) (u : State) : Type 0 where
   pub shows : EventShows h e t (l, u)
