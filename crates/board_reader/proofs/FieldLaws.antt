@@ -8,7 +8,7 @@ use lib.Dec.{leb, ltb}
 use borrow.Author.Tests.{le-leb, lt-leb, leb-true, eq-eqb, ne-eqb}
 use Rattle.refusals.specs.Outcomes.{Outcome, given, refused, Found, found, _>>_, unless}
 use Rattle.refusals.specs.Refusals.{noSuchName}
-use Rattle.number.specs.Numbers.{numberAt, toldNumber, ReadsNumber}
+use Rattle.number.specs.Numbers.{currentWidth, numberAt, toldNumber, ReadsNumber}
 use Rattle.number.specs.declared.Number.{Number}
 use Rattle.number.specs.declared.Number.the-variants.{Read, Refused}
 use Rattle.refusals.specs.declared.Refusal.{Refusal}
@@ -16,20 +16,23 @@ use Rattle.board.specs.declared.Counts.{Counts}
 use Rattle.bits.proofs.BoolLaws.{both-true}
 use Rattle.board.specs.Rules.{inRange, limitOf}
 use Rattle.board_reader.specs.declared.ReadAnswer.{ReadAnswer}
+use Rattle.board_reader.specs.Editions.{Edition, currentEdition}
 use Rattle.board_reader.specs.Reading.{wanted, nameAt, toldReadAnswer}
 use Rattle.board_reader.specs.Steps.{foundAt, placeOf}
 use Rattle.refusals.proofs.OutcomeLaws.{given-injective, handed, passed}
 
-module _ (ok : ℕ → Bool) (n : ℕ) (s : List ℕ) (at : ℕ) where
-  pub wanted-refused : (k p : ℕ) → numberAt s at ≡ refused k p → wanted ok n s at ≡ refused k p
+module _ (e : Edition) (ok : ℕ → Bool) (n : ℕ) (s : List ℕ) (at : ℕ) where
+  pub wanted-refused : (k p : ℕ) → numberAt (e .width) s at ≡ refused k p → wanted e ok n s at ≡ refused k p
   unfolding wanted
   wanted-refused k p h = rw h
 
-  pub wanted-fails : (v next : ℕ) → numberAt s at ≡ found v next → ok v ≡ false → wanted ok n s at ≡ refused n at
+  pub wanted-fails : (v next : ℕ) → numberAt (e .width) s at ≡ found v next → ok v ≡ false
+      → wanted e ok n s at ≡ refused n at
   unfolding wanted
   wanted-fails v next h off = rw (h, off)
 
-  pub wanted-passes : (v next : ℕ) → numberAt s at ≡ found v next → ok v ≡ true → wanted ok n s at ≡ found v next
+  pub wanted-passes : (v next : ℕ) → numberAt (e .width) s at ≡ found v next → ok v ≡ true
+      → wanted e ok n s at ≡ found v next
   unfolding wanted
   wanted-passes v next h fine = rw (h, fine)
 
@@ -53,18 +56,20 @@ pub number-stopped : {A : Type 0} (a : A) (x : ReadAnswer) (n : Number) (r : Ref
 number-stopped a x n r h e = ap (foundAt a) (h ∙ ap (λ (m : Number). placeOf (toldNumber m)) e)
 
 pub number-refused : (ok : ℕ → Bool) (n : ℕ) (s : List ℕ) (at : ℕ) (x : Number) (r : Refusal) → x ≡ Refused r
-    → ReadsNumber s at x → toldNumber x ≡ wanted ok n s at
+    → ReadsNumber s at x → toldNumber x ≡ wanted currentEdition ok n s at
 number-refused ok n s at x r e h =
-    ap toldNumber e ∙ sym (wanted-refused ok n s at (r .number) (r .place) (told-refused (numberAt s at) x r e h))
+    ap toldNumber e
+    ∙ sym (wanted-refused currentEdition ok n s at (r .number) (r .place)
+    (told-refused (numberAt currentWidth s at) x r e h))
 
 -- a number that was found passed its test
-pub wanted-found : (ok : ℕ → Bool) (n : ℕ) (s : List ℕ) (at v next : ℕ) → wanted ok n s at ≡ found v next
-    → (ok v ≡ true) × (numberAt s at ≡ found v next)
+pub wanted-found : (e : Edition) (ok : ℕ → Bool) (n : ℕ) (s : List ℕ) (at v next : ℕ)
+    → wanted e ok n s at ≡ found v next → (ok v ≡ true) × (numberAt (e .width) s at ≡ found v next)
 unfolding wanted
-wanted-found ok n s at v next h =
+wanted-found e ok n s at v next h =
     let number =
-    handed (numberAt s at) (λ f. unless (ok (f .value)) n at >> given f) (record { value = v; next = next }) h
-    in
+    handed (numberAt (e .width) s at) (λ f. unless (ok (f .value)) n at >> given f)
+    (record { value = v; next = next }) h in
     let fine =
     passed (ok (number .value .value)) n at (given (number .value)) (record { value = v; next = next })
     (number .then) in
@@ -91,15 +96,15 @@ module _ (low high v : ℕ) where
       (leb-true low v (both .0), leb-true v high (both .1))
 
 -- a limit that is the same is the same test
-pub wanted-below : (n : ℕ) (s : List ℕ) (at l m : ℕ) → l ≡ m → wanted (λ v. ltb v l) n s at ≡ wanted (λ v. ltb v m)
-    n s at
-wanted-below n s at l m e = ap (λ (k : ℕ). wanted (λ v. ltb v k) n s at) e
+pub wanted-below : (e : Edition) (n : ℕ) (s : List ℕ) (at l m : ℕ) → l ≡ m
+    → wanted e (λ v. ltb v l) n s at ≡ wanted e (λ v. ltb v m) n s at
+wanted-below e n s at l m same = ap (λ (k : ℕ). wanted e (λ v. ltb v k) n s at) same
 
-module _ (c : Counts) (k : ℕ) (s : List ℕ) (at : ℕ) where
-  pub name-wire : k ≡ 0 → found 0 at ≡ nameAt c k s at
+module _ (e : Edition) (c : Counts) (k : ℕ) (s : List ℕ) (at : ℕ) where
+  pub name-wire : k ≡ 0 → found 0 at ≡ nameAt e c k s at
   unfolding nameAt
-  name-wire e = rw (eq-eqb k 0 e)
+  name-wire wire = rw (eq-eqb k 0 wire)
 
-  pub name-carried : (k ≡ 0 → ⊥) → wanted (λ v. ltb v (limitOf c k)) noSuchName s at ≡ nameAt c k s at
+  pub name-carried : (k ≡ 0 → ⊥) → wanted e (λ v. ltb v (limitOf c k)) noSuchName s at ≡ nameAt e c k s at
   unfolding nameAt
-  name-carried e = rw (ne-eqb k 0 e)
+  name-carried carried = rw (ne-eqb k 0 carried)

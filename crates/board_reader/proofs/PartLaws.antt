@@ -9,11 +9,12 @@ use borrow.Author.Tests.{eq-eqb, ne-eqb, ltb-true}
 use Rattle.refusals.specs.Outcomes.{refused, found}
 use Rattle.refusals.specs.Refusals.{noSuchKind, noSuchTerminal, endsEqual, noSuchName, windingTaken}
 use Rattle.windings.specs.declared.WoundSoFar.{WoundSoFar}
-use Rattle.kinds.specs.Kinds.{buttonKind, lastKind, kindOf}
+use Rattle.kinds.specs.Kinds.{buttonKind, kindOf}
 use Rattle.windings.specs.Windings.{windingFree}
 use Rattle.board.specs.declared.Counts.{Counts}
 use Rattle.board.specs.declared.Part.{Part}
 use Rattle.board.specs.Rules.{inRange, terminalFine, limitOf}
+use Rattle.board_reader.specs.Editions.{Edition}
 use Rattle.board_reader.specs.Reading.{wanted, nameAt, partAt, toldReadAnswer}
 use Rattle.board_reader.specs.Steps.{foundAt, toldPartRead}
 use Rattle.board_reader.specs.declared.ReadAnswer.{ReadAnswer}
@@ -26,66 +27,67 @@ pub no-part-told : (a : PartRead) (b : ReadAnswer) (k p : ℕ) → a .answer ≡
     → toldPartRead a ≡ refused k p
 no-part-told a b k p e h = ap (foundAt (a .part)) (ap toldReadAnswer e ∙ h)
 
-module _ (c : Counts) (w : WoundSoFar) (s : List ℕ) (at k p : ℕ) where
-  pub kind-refused : wanted (inRange 0 lastKind) noSuchKind s at ≡ refused k p → refused k p ≡ partAt c w s at
+module _ (e : Edition) (c : Counts) (w : WoundSoFar) (s : List ℕ) (at k p : ℕ) where
+  pub kind-refused : wanted e (inRange 0 (e .lastKind)) noSuchKind s at ≡ refused k p → refused k p ≡ partAt e c w s at
   unfolding partAt
   kind-refused h = rw h
 
-module _ (c : Counts) (w : WoundSoFar) (s : List ℕ) (at kind ka : ℕ)
-    (kinds : wanted (inRange 0 lastKind) noSuchKind s at ≡ found kind ka) where
-  pub a-refused : (k p : ℕ) → wanted (terminalFine c) noSuchTerminal s ka ≡ refused k p → refused k p ≡ partAt c w s at
+module _ (e : Edition) (c : Counts) (w : WoundSoFar) (s : List ℕ) (at kind ka : ℕ)
+    (kinds : wanted e (inRange 0 (e .lastKind)) noSuchKind s at ≡ found kind ka) where
+  pub a-refused : (k p : ℕ) → wanted e (terminalFine c) noSuchTerminal s ka ≡ refused k p
+      → refused k p ≡ partAt e c w s at
   unfolding partAt
   a-refused k p h = rw (kinds, h)
 
-  module _ (a ab : ℕ) (as-a : wanted (terminalFine c) noSuchTerminal s ka ≡ found a ab) where
-    pub b-refused : (k p : ℕ) → wanted (terminalFine c) noSuchTerminal s ab ≡ refused k p
-        → refused k p ≡ partAt c w s at
+  module _ (a ab : ℕ) (as-a : wanted e (terminalFine c) noSuchTerminal s ka ≡ found a ab) where
+    pub b-refused : (k p : ℕ) → wanted e (terminalFine c) noSuchTerminal s ab ≡ refused k p
+        → refused k p ≡ partAt e c w s at
     unfolding partAt
     b-refused k p h = rw (kinds, as-a, h)
 
-    module _ (b bn : ℕ) (as-b : wanted (terminalFine c) noSuchTerminal s ab ≡ found b bn) where
-      pub ends-equal : a ≡ b → refused endsEqual ab ≡ partAt c w s at
+    module _ (b bn : ℕ) (as-b : wanted e (terminalFine c) noSuchTerminal s ab ≡ found b bn) where
+      pub ends-equal : a ≡ b → refused endsEqual ab ≡ partAt e c w s at
       unfolding partAt
-      ends-equal e = rw (kinds, as-a, as-b, eq-eqb a b e)
+      ends-equal same = rw (kinds, as-a, as-b, eq-eqb a b same)
 
       module _ (apart : a ≡ b → ⊥) where
-        pub name-refused : (k p : ℕ) → nameAt c kind s bn ≡ refused k p → refused k p ≡ partAt c w s at
+        pub name-refused : (k p : ℕ) → nameAt e c kind s bn ≡ refused k p → refused k p ≡ partAt e c w s at
         unfolding partAt
         name-refused k p h = rw (kinds, as-a, as-b, ne-eqb a b apart, h)
 
-        module _ (name next : ℕ) (names : nameAt c kind s bn ≡ found name next) where
+        module _ (name next : ℕ) (names : nameAt e c kind s bn ≡ found name next) where
           pub winding-taken-refused : windingFree w (kindOf kind name) ≡ false
-              → refused windingTaken bn ≡ partAt c w s at
+              → refused windingTaken bn ≡ partAt e c w s at
           unfolding partAt
           winding-taken-refused h = rw (kinds, as-a, as-b, ne-eqb a b apart, names, h)
 
           pub part-found : windingFree w (kindOf kind name) ≡ true
-              → found (record { a = a; b = b; kind = kindOf kind name }) next ≡ partAt c w s at
+              → found (record { a = a; b = b; kind = kindOf kind name }) next ≡ partAt e c w s at
           unfolding partAt
           part-found h = rw (kinds, as-a, as-b, ne-eqb a b apart, names, h)
 
 -- a terminal that was found is below T
-pub terminal-below : (c : Counts) (s : List ℕ) (at v next : ℕ) → wanted (terminalFine c) noSuchTerminal s at ≡ found
-    v next → v < c .terminals
-terminal-below c s at v next h =
-    ltb-true v (c .terminals) (wanted-found (terminalFine c) noSuchTerminal s at v next h .0)
+pub terminal-below : (e : Edition) (c : Counts) (s : List ℕ) (at v next : ℕ)
+    → wanted e (terminalFine c) noSuchTerminal s at ≡ found v next → v < c .terminals
+terminal-below e c s at v next h =
+    ltb-true v (c .terminals) (wanted-found e (terminalFine c) noSuchTerminal s at v next h .0)
 
 -- a name that was found is below whatever R and B are at most
-pub name-below : (c : Counts) (k : ℕ) (s : List ℕ) (at v next m : ℕ) → nameAt c k s at ≡ found v next
+pub name-below : (e : Edition) (c : Counts) (k : ℕ) (s : List ℕ) (at v next m : ℕ) → nameAt e c k s at ≡ found v next
     → c .relays ≤ m → c .buttons ≤ m → 0 < m → v < m
 unfolding nameAt
-name-below c k s at v next m h relays buttons some = go (eqb k 0) h
+name-below e c k s at v next m h relays buttons some = go (eqb k 0) h
   where
     limit : (t : Bool) → cond t (c .buttons) (c .relays) ≤ m
     limit true = buttons
     limit false = relays
 
-    go : (t : Bool) → cond t (found 0 at) (wanted (λ n. ltb n (limitOf c k)) noSuchName s at) ≡ found v next → v < m
-    go true e = omega (arith, found-value 0 v at next e)
-    go false e =
+    go : (t : Bool) → cond t (found 0 at) (wanted e (λ n. ltb n (limitOf c k)) noSuchName s at) ≡ found v next → v < m
+    go true h = omega (arith, found-value 0 v at next h)
+    go false h =
         omega (
           arith,
-          ltb-true v (limitOf c k) (wanted-found (λ n. ltb n (limitOf c k)) noSuchName s at v next e .0),
+          ltb-true v (limitOf c k) (wanted-found e (λ n. ltb n (limitOf c k)) noSuchName s at v next h .0),
           limit (eqb k buttonKind),
         )
 

@@ -15,6 +15,7 @@ use Rattle.board.specs.declared.Part.{Part}
 use Rattle.board.specs.declared.Board.{Board}
 use Rattle.board.specs.Parts.{mostParts, blank, padded, emptyBoard}
 use Rattle.board.proofs.PaddedLaws.{padded-set}
+use Rattle.board_reader.specs.Editions.{Edition}
 use Rattle.board_reader.specs.Reading.{partAt, partsAt, boardFrom, answered, toldReadAnswer, toldBoardRead}
 use Rattle.board_reader.specs.Steps.{foundAt}
 use Rattle.board_reader.specs.declared.ReadAnswer.{ReadAnswer}
@@ -36,48 +37,50 @@ read-after-more : (ps : List Part) (p : Part) (o : Outcome (Found (List Part)))
 read-after-more ps p (given f) = ap (λ (l : List Part). found l (f .next)) (sym (append-assoc ps (p ∷ []) (f .value)))
 read-after-more ps p (refused k q) = refl
 
-module _ (c : Counts) (n : ℕ) (w : WoundSoFar) (s : List ℕ) (at : ℕ) where
-  parts-next : (p : Part) (next : ℕ) → partAt c w s at ≡ found p next
-      → partsAt c (suc n) w s at ≡ (partsAt c n (gained w (p .kind)) s next >>= λ f. found (p ∷ f .value) (f .next))
+module _ (e : Edition) (c : Counts) (n : ℕ) (w : WoundSoFar) (s : List ℕ) (at : ℕ) where
+  parts-next : (p : Part) (next : ℕ) → partAt e c w s at ≡ found p next
+      → partsAt e c (suc n) w s at ≡ (partsAt e c n (gained w (p .kind)) s next >>= λ f. found (p ∷ f .value) (f .next))
   unfolding partsAt
   parts-next p next h = rw h
 
-  parts-stop : (k p : ℕ) → partAt c w s at ≡ refused k p → partsAt c (suc n) w s at ≡ refused k p
+  parts-stop : (k p : ℕ) → partAt e c w s at ≡ refused k p → partsAt e c (suc n) w s at ≡ refused k p
   unfolding partsAt
   parts-stop k p h = rw h
 
-module _ (c : Counts) (w : WoundSoFar) (s : List ℕ) (at : ℕ) where
-  parts-lacking : complete (c .relays) w ≡ false → partsAt c 0 w s at ≡ refused windingLacking at
+module _ (e : Edition) (c : Counts) (w : WoundSoFar) (s : List ℕ) (at : ℕ) where
+  parts-lacking : complete (c .relays) w ≡ false → partsAt e c 0 w s at ≡ refused windingLacking at
   unfolding partsAt
   parts-lacking h = rw h
 
-  parts-done : complete (c .relays) w ≡ true → partsAt c 0 w s at ≡ found [] at
+  parts-done : complete (c .relays) w ≡ true → partsAt e c 0 w s at ≡ found [] at
   unfolding partsAt
   parts-done h = rw h
 
 -- all the parts are those read so far, which fill the array, and then those from `at` on after the windings w
-pub record Walk (c : Counts) (s : List ℕ) (start : ℕ) (parts : List Part) (w : WoundSoFar) (at i : ℕ) : Type 0 where
+pub record Walk (e : Edition) (c : Counts) (s : List ℕ) (start : ℕ) (parts : List Part) (w : WoundSoFar)
+    (at i : ℕ) : Type 0 where
   pub so-far : List Part
   pub counted : length so-far ≡ i
   pub array : parts ≡ padded so-far
-  pub rest : partsAt c (c .parts) noneWound s start ≡ readAfter so-far (partsAt c (c .parts - i) w s at)
+  pub rest : partsAt e c (c .parts) noneWound s start ≡ readAfter so-far (partsAt e c (c .parts - i) w s at)
 
-pub walk-start : (c : Counts) (s : List ℕ) (start : ℕ) (p : Part) (w : WoundSoFar) → p ≡ blank → w ≡ noneWound
-    → Walk c s start (replicate mostParts p) w start 0
+pub walk-start : (e : Edition) (c : Counts) (s : List ℕ) (start : ℕ) (p : Part) (w : WoundSoFar) → p ≡ blank
+    → w ≡ noneWound
+    → Walk e c s start (replicate mostParts p) w start 0
 unfolding padded
-walk-start c s start p w filler none =
+walk-start e c s start p w filler none =
     let whole : c .parts - 0 ≡ c .parts = omega arith in
     record {
       so-far = [];
       counted = refl;
       array = ap (replicate mostParts) filler;
-      rest = rw (whole, none) (read-after-none (partsAt c (c .parts) noneWound s start));
+      rest = rw (whole, none) (read-after-none (partsAt e c (c .parts) noneWound s start));
     }
 
-module _ (c : Counts) (s : List ℕ) (start : ℕ) (parts : List Part) (w : WoundSoFar) (at i : ℕ)
-    (walk : Walk c s start parts w at i) where
+module _ (e : Edition) (c : Counts) (s : List ℕ) (start : ℕ) (parts : List Part) (w : WoundSoFar) (at i : ℕ)
+    (walk : Walk e c s start parts w at i) where
   pub walk-on : (p : Part) (next : ℕ) (w′ : WoundSoFar) → i < c .parts → c .parts ≤ mostParts
-      → partAt c w s at ≡ found p next → w′ ≡ gained w (p .kind) → Walk c s start (set parts i p) w′ next (i + 1)
+      → partAt e c w s at ≡ found p next → w′ ≡ gained w (p .kind) → Walk e c s start (set parts i p) w′ next (i + 1)
   walk-on p next w′ below most here more =
       let ps = walk .so-far in
       let one : c .parts - i ≡ suc (c .parts - (i + 1)) = omega arith in
@@ -89,33 +92,34 @@ module _ (c : Counts) (s : List ℕ) (start : ℕ) (parts : List Part) (w : Woun
             ap (λ (l : List Part). set l i p) (walk .array) ∙ ap (λ (n : ℕ). set (padded ps) n p) (sym long)
             ∙ padded-set ps p (omega arith);
         rest = walk .rest
-            ∙ ap (λ (n : ℕ). readAfter ps (partsAt c n w s at)) one
-            ∙ ap (readAfter ps) (parts-next c (c .parts - (i + 1)) w s at p next here)
-            ∙ read-after-more ps p (partsAt c (c .parts - (i + 1)) (gained w (p .kind)) s next)
-            ∙ ap (λ (v : WoundSoFar). readAfter (ps ++ (p ∷ [])) (partsAt c (c .parts - (i + 1)) v s next)) (sym more);
+            ∙ ap (λ (n : ℕ). readAfter ps (partsAt e c n w s at)) one
+            ∙ ap (readAfter ps) (parts-next e c (c .parts - (i + 1)) w s at p next here)
+            ∙ read-after-more ps p (partsAt e c (c .parts - (i + 1)) (gained w (p .kind)) s next)
+            ∙ ap (λ (v : WoundSoFar). readAfter (ps ++ (p ∷ [])) (partsAt e c (c .parts - (i + 1)) v s next))
+            (sym more);
       }
 
-  pub walk-refused : (k p : ℕ) → i < c .parts → partAt c w s at ≡ refused k p
-      → partsAt c (c .parts) noneWound s start ≡ refused k p
+  pub walk-refused : (k p : ℕ) → i < c .parts → partAt e c w s at ≡ refused k p
+      → partsAt e c (c .parts) noneWound s start ≡ refused k p
   walk-refused k p below here =
       let one : c .parts - i ≡ suc (c .parts - (i + 1)) = omega arith in
-      walk .rest ∙ ap (λ (n : ℕ). readAfter (walk .so-far) (partsAt c n w s at)) one
-      ∙ ap (readAfter (walk .so-far)) (parts-stop c (c .parts - (i + 1)) w s at k p here)
+      walk .rest ∙ ap (λ (n : ℕ). readAfter (walk .so-far) (partsAt e c n w s at)) one
+      ∙ ap (readAfter (walk .so-far)) (parts-stop e c (c .parts - (i + 1)) w s at k p here)
 
   pub walk-lacking : c .parts ≤ i → complete (c .relays) w ≡ false
-      → partsAt c (c .parts) noneWound s start ≡ refused windingLacking at
+      → partsAt e c (c .parts) noneWound s start ≡ refused windingLacking at
   walk-lacking past off =
       let none : c .parts - i ≡ 0 = omega arith in
-      walk .rest ∙ ap (λ (n : ℕ). readAfter (walk .so-far) (partsAt c n w s at)) none
-      ∙ ap (readAfter (walk .so-far)) (parts-lacking c w s at off)
+      walk .rest ∙ ap (λ (n : ℕ). readAfter (walk .so-far) (partsAt e c n w s at)) none
+      ∙ ap (readAfter (walk .so-far)) (parts-lacking e c w s at off)
 
-  pub walk-end : c .parts ≤ i → complete (c .relays) w ≡ true → partsAt c (c .parts) noneWound s start ≡ found
+  pub walk-end : c .parts ≤ i → complete (c .relays) w ≡ true → partsAt e c (c .parts) noneWound s start ≡ found
       (walk .so-far) at
   walk-end past fine =
       let none : c .parts - i ≡ 0 = omega arith in
       walk .rest
-      ∙ ap (λ (n : ℕ). readAfter (walk .so-far) (partsAt c n w s at)) none
-      ∙ ap (readAfter (walk .so-far)) (parts-done c w s at fine)
+      ∙ ap (λ (n : ℕ). readAfter (walk .so-far) (partsAt e c n w s at)) none
+      ∙ ap (readAfter (walk .so-far)) (parts-done e c w s at fine)
       ∙ ap (λ (l : List Part). found l at) (append-nil (walk .so-far))
 
 -- what the answer beside a thing says of the outcome that both tell

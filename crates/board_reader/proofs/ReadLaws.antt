@@ -11,30 +11,31 @@ use Rattle.windings.specs.Windings.{noneWound}
 use Rattle.board.specs.declared.Counts.{Counts}
 use Rattle.board.specs.declared.Board.{Board}
 use Rattle.board.specs.Parts.{emptyBoard}
+use Rattle.board_reader.specs.Editions.{Edition}
 use Rattle.board_reader.specs.Reading.{countsAt, partsAt, boardFrom, boardAt, longestInput, answered, reading}
 use Rattle.refusals.proofs.OutcomeLaws.{refused-never}
 
-module _ (s : List ℕ) where
-  pub reading-long : longestInput < length s → answered (refused inputTooLong 0) ≡ reading s
+module _ (e : Edition) (s : List ℕ) where
+  pub reading-long : longestInput < length s → answered (refused inputTooLong 0) ≡ reading e s
   unfolding reading
   reading-long long = rw (lt-leb (length s) longestInput long)
 
-  reading-board : length s ≤ longestInput → answered (boardAt s) ≡ reading s
+  reading-board : length s ≤ longestInput → answered (boardAt e s) ≡ reading e s
   unfolding reading
   reading-board short = rw (le-leb (length s) longestInput short)
 
-  pub reading-stopped : (k p : ℕ) → length s ≤ longestInput → countsAt s ≡ refused k p
-      → answered (refused k p) ≡ reading s
+  pub reading-stopped : (k p : ℕ) → length s ≤ longestInput → countsAt e s ≡ refused k p
+      → answered (refused k p) ≡ reading e s
   unfolding boardAt
   reading-stopped k p short h =
-      let stopped : refused k p ≡ boardAt s = rw h in
+      let stopped : refused k p ≡ boardAt e s = rw h in
       ap answered stopped ∙ reading-board short
 
-  pub reading-went : (c : Counts) (at : ℕ) → length s ≤ longestInput → countsAt s ≡ found c at
-      → answered (boardFrom c (partsAt c (c .parts) noneWound s at)) ≡ reading s
+  pub reading-went : (c : Counts) (at : ℕ) → length s ≤ longestInput → countsAt e s ≡ found c at
+      → answered (boardFrom c (partsAt e c (c .parts) noneWound s at)) ≡ reading e s
   unfolding boardAt
   reading-went c at short h =
-      let went : boardFrom c (partsAt c (c .parts) noneWound s at) ≡ boardAt s = rw h in
+      let went : boardFrom c (partsAt e c (c .parts) noneWound s at) ≡ boardAt e s = rw h in
       ap answered went ∙ reading-board short
 
 -- an answer is refused as what was read is, and a refused read returns the empty board
@@ -43,8 +44,8 @@ unfolding answered
 answered-refused (given f) k p e = absurd (refused-never k p (f .next) (sym e))
 answered-refused (refused m q) k p e = cc
 
-pub reading-refused : (s : List ℕ) (b : Board) (k p : ℕ) → reading s ≡ (b, refused k p) → b ≡ emptyBoard
+pub reading-refused : (e : Edition) (s : List ℕ) (b : Board) (k p : ℕ) → reading e s ≡ (b, refused k p) → b ≡ emptyBoard
 unfolding reading answered
-reading-refused s b k p e =
-    let read : Outcome (Found Board) = unless (leb (length s) longestInput) inputTooLong 0 >> boardAt s in
-    sym (λ i. e i .0) ∙ ap (λ (o : Outcome (Found Board)). answered o .0) (answered-refused read k p (λ i. e i .1))
+reading-refused e s b k p is =
+    let read : Outcome (Found Board) = unless (leb (length s) longestInput) inputTooLong 0 >> boardAt e s in
+    sym (λ i. is i .0) ∙ ap (λ (o : Outcome (Found Board)). answered o .0) (answered-refused read k p (λ i. is i .1))

@@ -1,19 +1,20 @@
 -- Reading a board. Rule book: "Order: 10 first; then left to right, each number's form (1, 2) before its meaning, and
 -- for a part 4, 5, 5, 6, 7, 8 as its fields come; then 9." Each line of a `do` block that has a refusal leaves with it.
---     wanted ok n s at                 the number at a place, which must pass the test ok, else n at that place
---     countsAt s                       T, R, B and C at the start of the input
---     nameAt c k s at                  the relay or button of a part of kind number k; a wire has none
---     partAt c w s at                  a part, after parts that gave the windings w
---     partsAt c n w s at               n parts one after the other, the last of them followed by the test of 9
+-- Each definition is first given the edition e that it reads by.
+--     wanted e ok n s at               the number at a place, which must pass the test ok, else n at that place
+--     countsAt e s                     T, R, B and C at the start of the input
+--     nameAt e c k s at                the relay or button of a part of kind number k; a wire has none
+--     partAt e c w s at                a part, after parts that gave the windings w
+--     partsAt e c n w s at             n parts one after the other, the last of them followed by the test of 9
 --     boardOf c ps                     the board of counts c and parts ps
 --     boardFrom c o                    the board of counts c with the parts that were read
---     boardAt s                        the board at the start of the input, and the place just after it
+--     boardAt e s                      the board at the start of the input, and the place just after it
 --     longestInput                     the longest input that is read
 --     answered o                       the answer, by what was read: "A refused read returns number, place and the
 --                                      empty board (T 2, else 0)"
---     reading s                        what reading answers
+--     reading e s                      what reading answers
 --     toldReadAnswer, toldBoardRead    the answers' cases in the rule book's numbers
---     Reads s r                        promise: `read` of the bytes s answers r
+--     Reads s r                        promise: `read` of the bytes s answers r, by the current edition
 use Prim.Native.Nat.{ℕ, zero, suc}
 use mathlib.Core.Path.{_≡_}
 use mathlib.Core.Bool.{Bool, cond}
@@ -25,7 +26,7 @@ use Rattle.refusals.specs.Refusals.{outOfRange, noSuchKind, noSuchTerminal, end
 use Rattle.refusals.specs.Refusals.{windingLacking, inputTooLong}
 use Rattle.number.specs.Numbers.{numberAt}
 use Rattle.windings.specs.declared.WoundSoFar.{WoundSoFar}
-use Rattle.kinds.specs.Kinds.{kindOf, lastKind}
+use Rattle.kinds.specs.Kinds.{kindOf}
 use Rattle.windings.specs.Windings.{noneWound, windingFree, gained, complete}
 use Rattle.board.specs.declared.Part.{Part}
 use Rattle.board.specs.declared.Counts.{Counts}
@@ -33,44 +34,45 @@ use Rattle.board.specs.declared.Board.{Board}
 use Rattle.board.specs.Parts.{padded, emptyBoard, mostParts}
 use Rattle.board.specs.Rules.{leastTerminals, mostTerminals, mostRelays, mostButtons, inRange, terminalFine, endsFine}
 use Rattle.board.specs.Rules.{limitOf}
+use Rattle.board_reader.specs.Editions.{Edition, currentEdition}
 use Rattle.board_reader.specs.declared.BoardRead.{BoardRead}
 use Rattle.board_reader.specs.declared.ReadAnswer.{ReadAnswer}
 use Rattle.board_reader.specs.declared.ReadAnswer.the-variants.{Read, Refused}
 
-unfoldable pub wanted : (ℕ → Bool) → ℕ → List ℕ → ℕ → Outcome (Found ℕ)
-wanted ok n s at = do
-  v ← numberAt s at
+unfoldable pub wanted : Edition → (ℕ → Bool) → ℕ → List ℕ → ℕ → Outcome (Found ℕ)
+wanted e ok n s at = do
+  v ← numberAt (e .width) s at
   unless (ok (v .value)) n at
   given v
 
-unfoldable pub countsAt : List ℕ → Outcome (Found Counts)
-countsAt s = do
-  t ← wanted (inRange leastTerminals mostTerminals) outOfRange s 0
-  r ← wanted (inRange 0 mostRelays) outOfRange s (t .next)
-  b ← wanted (inRange 0 mostButtons) outOfRange s (r .next)
-  c ← wanted (inRange 0 mostParts) outOfRange s (b .next)
+unfoldable pub countsAt : Edition → List ℕ → Outcome (Found Counts)
+countsAt e s = do
+  t ← wanted e (inRange leastTerminals mostTerminals) outOfRange s 0
+  r ← wanted e (inRange 0 mostRelays) outOfRange s (t .next)
+  b ← wanted e (inRange 0 mostButtons) outOfRange s (r .next)
+  c ← wanted e (inRange 0 mostParts) outOfRange s (b .next)
   found (record { terminals = t .value; relays = r .value; buttons = b .value; parts = c .value }) (c .next)
 
-unfoldable pub nameAt : Counts → ℕ → List ℕ → ℕ → Outcome (Found ℕ)
-nameAt c k s at = cond (eqb k 0) (found 0 at) (wanted (λ n. ltb n (limitOf c k)) noSuchName s at)
+unfoldable pub nameAt : Edition → Counts → ℕ → List ℕ → ℕ → Outcome (Found ℕ)
+nameAt e c k s at = cond (eqb k 0) (found 0 at) (wanted e (λ n. ltb n (limitOf c k)) noSuchName s at)
 
-unfoldable pub partAt : Counts → WoundSoFar → List ℕ → ℕ → Outcome (Found Part)
-partAt c w s at = do
-  k ← wanted (inRange 0 lastKind) noSuchKind s at
-  a ← wanted (terminalFine c) noSuchTerminal s (k .next)
-  b ← wanted (terminalFine c) noSuchTerminal s (a .next)
+unfoldable pub partAt : Edition → Counts → WoundSoFar → List ℕ → ℕ → Outcome (Found Part)
+partAt e c w s at = do
+  k ← wanted e (inRange 0 (e .lastKind)) noSuchKind s at
+  a ← wanted e (terminalFine c) noSuchTerminal s (k .next)
+  b ← wanted e (terminalFine c) noSuchTerminal s (a .next)
   unless (endsFine (a .value) (b .value)) endsEqual (a .next)
-  n ← nameAt c (k .value) s (b .next)
+  n ← nameAt e c (k .value) s (b .next)
   unless (windingFree w (kindOf (k .value) (n .value))) windingTaken (b .next)
   found (record { a = a .value; b = b .value; kind = kindOf (k .value) (n .value) }) (n .next)
 
-unfoldable pub partsAt : Counts → ℕ → WoundSoFar → List ℕ → ℕ → Outcome (Found (List Part))
-partsAt c zero w s at = do
+unfoldable pub partsAt : Edition → Counts → ℕ → WoundSoFar → List ℕ → ℕ → Outcome (Found (List Part))
+partsAt e c zero w s at = do
   unless (complete (c .relays) w) windingLacking at
   found [] at
-partsAt c (suc n) w s at = do
-  p ← partAt c w s at
-  ps ← partsAt c n (gained w (p .value .kind)) s (p .next)
+partsAt e c (suc n) w s at = do
+  p ← partAt e c w s at
+  ps ← partsAt e c n (gained w (p .value .kind)) s (p .next)
   found (p .value ∷ ps .value) (ps .next)
 
 abbrev pub boardOf : Counts → List Part → Board
@@ -81,10 +83,10 @@ boardFrom c o = do
   ps ← o
   found (boardOf c (ps .value)) (ps .next)
 
-unfoldable pub boardAt : List ℕ → Outcome (Found Board)
-boardAt s = do
-  c ← countsAt s
-  boardFrom (c .value) (partsAt (c .value) (c .value .parts) noneWound s (c .next))
+unfoldable pub boardAt : Edition → List ℕ → Outcome (Found Board)
+boardAt e s = do
+  c ← countsAt e s
+  boardFrom (c .value) (partsAt e (c .value) (c .value .parts) noneWound s (c .next))
 
 abbrev pub longestInput : ℕ
 longestInput = 65_536
@@ -93,10 +95,10 @@ unfoldable pub answered : Outcome (Found Board) → Board × Outcome ℕ
 answered (given f) = (f .value, given (f .next))
 answered (refused n p) = (emptyBoard, refused n p)
 
-unfoldable pub reading : List ℕ → Board × Outcome ℕ
-reading s = answered (do
+unfoldable pub reading : Edition → List ℕ → Board × Outcome ℕ
+reading e s = answered (do
   unless (leb (length s) longestInput) inputTooLong 0
-  boardAt s)
+  boardAt e s)
 
 abbrev pub toldReadAnswer : ReadAnswer → Outcome ℕ
 toldReadAnswer (Read next) = given next
@@ -106,4 +108,4 @@ abbrev pub toldBoardRead : BoardRead → Board × Outcome ℕ
 toldBoardRead r = (r .board, toldReadAnswer (r .answer))
 
 abbrev pub Reads : List ℕ → BoardRead → Type 0
-Reads s r = toldBoardRead r ≡ reading s
+Reads s r = toldBoardRead r ≡ reading currentEdition s

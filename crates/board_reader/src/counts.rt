@@ -6,6 +6,7 @@ use number::Number;
 ghost use mathlib.Core.Path.{_≡_};
 ghost use Rattle.number.specs.Numbers.{toldNumber};
 ghost use Rattle.refusals.specs.Refusals.{outOfRange};
+ghost use Rattle.board_reader.specs.Editions.{currentEdition};
 ghost use Rattle.board_reader.specs.Reading.{wanted, countsAt, toldReadAnswer};
 ghost use Rattle.board_reader.specs.Steps.{placeOf, toldCountsRead};
 ghost use Rattle.board.specs.Rules.{inRange};
@@ -34,14 +35,14 @@ fn no_counts(number: Number) -> CountsRead
 
 // The count at a place, refused by 3 there unless it is from low to high.
 fn read_count(s: &[u8], at: usize, low: u32, high: u32) -> Number
-    ensures { λ r. ⌜ toldNumber r ≡ wanted (inRange low high) outOfRange (now (s .entry)) at ⌝ }
+    ensures { λ r. ⌜ toldNumber r ≡ wanted currentEdition (inRange low high) outOfRange (now (s .entry)) at ⌝ }
 {
     fields::read_within(s, at, low, high, refusals::OUT_OF_RANGE)
 }
 
 // T, R, B and C at the start of the input.
 pub fn read_counts(s: &[u8]) -> CountsRead
-    ensures { λ r. ⌜ toldCountsRead r ≡ countsAt (now (s .entry)) ⌝ }
+    ensures { λ r. ⌜ toldCountsRead r ≡ countsAt currentEdition (now (s .entry)) ⌝ }
 {
     let terminals_read = read_count(
         s,

@@ -7,12 +7,13 @@ ghost use lib.Dec.{ltb};
 ghost use Rattle.number.specs.Numbers.{toldNumber};
 ghost use Rattle.refusals.specs.Outcomes.{refused};
 ghost use Rattle.board.specs.Rules.{inRange};
+ghost use Rattle.board_reader.specs.Editions.{currentEdition};
 ghost use Rattle.board_reader.specs.Reading.{wanted, toldReadAnswer};
 ghost use Rattle.board_reader.specs.Steps.{placeOf};
 
 // The number at a place, refused by `refusal` there unless it is from low to high.
 pub fn read_within(s: &[u8], at: usize, low: u32, high: u32, refusal: u32) -> Number
-    ensures { λ r. ⌜ toldNumber r ≡ wanted (inRange low high) refusal (now (s .entry)) at ⌝ }
+    ensures { λ r. ⌜ toldNumber r ≡ wanted currentEdition (inRange low high) refusal (now (s .entry)) at ⌝ }
 {
     let number = number::read_number(s, at);
     let Number::Read(value, _) = number else {
@@ -35,7 +36,7 @@ pub fn read_within(s: &[u8], at: usize, low: u32, high: u32, refusal: u32) -> Nu
 
 // The number at a place, refused by `refusal` there unless it is below the limit.
 pub fn read_below(s: &[u8], at: usize, limit: u32, refusal: u32) -> Number
-    ensures { λ r. ⌜ toldNumber r ≡ wanted (λ v. ltb v limit) refusal (now (s .entry)) at ⌝ }
+    ensures { λ r. ⌜ toldNumber r ≡ wanted currentEdition (λ v. ltb v limit) refusal (now (s .entry)) at ⌝ }
 {
     let number = number::read_number(s, at);
     let Number::Read(value, _) = number else {

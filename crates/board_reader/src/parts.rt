@@ -15,6 +15,7 @@ ghost use Rattle.refusals.specs.Refusals.{noSuchTerminal};
 ghost use Rattle.windings.specs.Windings.{noneWound};
 ghost use Rattle.board.specs.Parts.{mostParts, emptyBoard};
 ghost use Rattle.board.specs.Rules.{terminalFine};
+ghost use Rattle.board_reader.specs.Editions.{currentEdition};
 ghost use Rattle.board_reader.specs.Reading.{wanted, nameAt, partAt, partsAt, boardFrom, answered};
 ghost use Rattle.board_reader.specs.Reading.{toldReadAnswer, toldBoardRead};
 ghost use Rattle.board_reader.specs.Steps.{placeOf, toldPartRead};
@@ -50,7 +51,7 @@ pub fn no_board(answer: ReadAnswer) -> BoardRead
 
 // The terminal at a place, refused by 5 there unless it is below T.
 fn read_terminal(s: &[u8], at: usize, counts: Counts) -> Number
-    ensures { λ r. ⌜ toldNumber r ≡ wanted (terminalFine counts) noSuchTerminal (now (s .entry)) at ⌝ }
+    ensures { λ r. ⌜ toldNumber r ≡ wanted currentEdition (terminalFine counts) noSuchTerminal (now (s .entry)) at ⌝ }
 {
     let limit = bits::wide(counts.terminals);
     fields::read_below(s, at, limit, refusals::NO_SUCH_TERMINAL)
@@ -58,7 +59,7 @@ fn read_terminal(s: &[u8], at: usize, counts: Counts) -> Number
 
 // The relay or button of a part of this kind number, refused by 7 unless it is there; a wire has none.
 fn read_name(s: &[u8], at: usize, counts: Counts, kind: u32) -> Number
-    ensures { λ r. ⌜ toldNumber r ≡ nameAt counts kind (now (s .entry)) at ⌝ }
+    ensures { λ r. ⌜ toldNumber r ≡ nameAt currentEdition counts kind (now (s .entry)) at ⌝ }
 {
     if kind == 0 {
         return Number::Read(0, at);
@@ -69,7 +70,7 @@ fn read_name(s: &[u8], at: usize, counts: Counts, kind: u32) -> Number
 
 // The part at a place, after parts that gave these windings.
 fn read_part(s: &[u8], at: usize, counts: Counts, windings: WoundSoFar) -> PartRead
-    ensures { λ r. ⌜ toldPartRead r ≡ partAt counts windings (now (s .entry)) at ⌝ }
+    ensures { λ r. ⌜ toldPartRead r ≡ partAt currentEdition counts windings (now (s .entry)) at ⌝ }
 {
     let kind_read = fields::read_within(s, at, 0, kinds::LAST_KIND, refusals::NO_SUCH_KIND);
     let Number::Read(kind_number, a_at) = kind_read else {
@@ -108,8 +109,8 @@ fn read_part(s: &[u8], at: usize, counts: Counts, windings: WoundSoFar) -> PartR
 // The parts from a place on, and with them the board.
 pub fn read_parts(s: &[u8], start: usize, counts: Counts) -> BoardRead
     requires { ⌜ counts .parts ≤ mostParts ⌝ }
-    ensures { λ r. ⌜ toldBoardRead r
-        ≡ answered (boardFrom counts (partsAt counts (counts .parts) noneWound (now (s .entry)) start)) ⌝ }
+    ensures { λ r. ⌜ toldBoardRead r ≡ answered
+        (boardFrom counts (partsAt currentEdition counts (counts .parts) noneWound (now (s .entry)) start)) ⌝ }
 {
     let filler = board::blank();
     let mut parts = [filler; 256];

@@ -7,7 +7,7 @@ use native.Mathlib.Nat.{zero-add}
 use native.Mathlib.Omega.{arith}
 use lib.ListN.{length, length-append}
 use lib.Seq.{sets, length-sets}
-use Rattle.number.specs.Numbers.{numberBytes, largest}
+use Rattle.number.specs.Numbers.{currentWidth, numberBytes}
 use Rattle.number.proofs.Buffers.{sets-append}
 
 -- of the bytes `all`, which go into `before` from `start` on, `rest` is still to come: it goes into `out` from `at` on
@@ -61,7 +61,7 @@ numbers-all {before} {all} {start} vs is fits =
 module _ {before all out : List ℕ} {start at v w : ℕ} {vs : List ℕ} (is : w ≡ v)
     (t : NumbersToCome before start all out at (v ∷ vs)) where
   -- the next number, of which w is a copy, has room
-  pub number-room : w ≤ largest → (w ≤ largest) × (at + length (numberBytes w) ≤ length out)
+  pub number-room : w ≤ currentWidth .largest → (w ≤ currentWidth .largest) × (at + length (numberBytes w) ≤ length out)
   unfolding numbersBytes
   number-room small = (small, rw is (to-come-room (numberBytes v) (numbersBytes vs) (t .bytes)))
 

@@ -14,7 +14,7 @@ use Rattle.number.specs.declared.NumberWritten.{NumberWritten}
 use Rattle.number.specs.declared.NumberWritten.the-variants.{Next, Refused}
 use Rattle.refusals.specs.Outcomes.{Outcome, given, refused}
 use Rattle.refusals.specs.Refusals.{brokenBoard, bufferTooShort}
-use Rattle.number.specs.Numbers.{numberBytes, numberWriting, toldNumberWritten, largest}
+use Rattle.number.specs.Numbers.{numberBytes, numberWriting, toldNumberWritten, currentWidth}
 use Rattle.number.proofs.Buffers.{sets-append, sets-at-zero}
 use Rattle.number.proofs.NumberLaws.{number-written}
 use Rattle.refusals.proofs.OutcomeLaws.{given-injective, refused-never}
@@ -35,7 +35,7 @@ use Rattle.board_writer.proofs.PieceLaws.{numbersBytes, numbers-all}
 
 -- ---- a number that has room: `write_number` writes it, and does not refuse it
 
-module _ (v : ℕ) (out : List ℕ) (at : ℕ) {out′ : List ℕ} (x : NumberWritten) (small : v ≤ largest)
+module _ (v : ℕ) (out : List ℕ) (at : ℕ) {out′ : List ℕ} (x : NumberWritten) (small : v ≤ currentWidth .largest)
     (room : at + length (numberBytes v) ≤ length out)
     (wrote : _≡_ {A = Outcome ℕ × List ℕ} (toldNumberWritten x, out′) (numberWriting v out at)) where
   told : _≡_ {A = Outcome ℕ × List ℕ} (toldNumberWritten x, out′)

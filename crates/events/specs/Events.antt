@@ -2,7 +2,8 @@
 -- for the first run (event 0), then one for each event"; "An event refused by 12 prints its number, `refused` and 12;
 -- nothing is run"; "After spent, undecided or conflict the next event acts on the state left."
 --     eventOf v                the event of the number v: its button, and whether it pushes or releases it
---     eventAt n s at           the event at a place of the input: a number (1, 2) that names one of n buttons (7)
+--     eventAt ed n s at        the event at a place of the input, by the edition ed: a number (1, 2) that names one of
+--                              n buttons (7)
 --     pressing b t v           the event v pushes or releases its button in state t
 --     madeLines b t v          the lines of that: those of its push or of its release
 --     sessionLog               "a log of 4,096"
@@ -27,6 +28,7 @@ use Rattle.refusals.specs.Order.{Order}
 use Rattle.board.specs.declared.Board.{Board}
 use Rattle.state.specs.declared.State.{State}
 use Rattle.presses.specs.Presses.{pushLines, releaseLines, pushing, releasing}
+use Rattle.board_reader.specs.Editions.{Edition}
 use Rattle.board_reader.specs.Reading.{wanted}
 use Rattle.runs.specs.Running.{Ran, running}
 use Rattle.lines.specs.Lines.{Line, event, toldLine}
@@ -36,9 +38,9 @@ use Rattle.events.specs.declared.Shown as code
 abbrev pub eventOf : ℕ → Event
 eventOf v = record { button = v / 2; push = eqb (v % 2) 1 }
 
-unfoldable pub eventAt : ℕ → List ℕ → ℕ → Outcome (Found Event)
-eventAt n s at = do
-  v ← wanted (λ v. ltb (eventOf v .button) n) noSuchName s at
+unfoldable pub eventAt : Edition → ℕ → List ℕ → ℕ → Outcome (Found Event)
+eventAt ed n s at = do
+  v ← wanted ed (λ v. ltb (eventOf v .button) n) noSuchName s at
   found (eventOf (v .value)) (v .next)
 
 unfoldable pub pressing : Board → State → Event → State × Outcome (Unit {0})

@@ -7,6 +7,7 @@ use mathlib.Core.Bool.{Bool, true, false}
 use mathlib.Core.List.{List}
 use Rattle.refusals.specs.Outcomes.{Outcome, given, refused, Found, _>>=_, _>>_, unless}
 use Rattle.number.specs.Numbers.{numberAt}
+use Rattle.board_reader.specs.Editions.{Edition}
 use Rattle.board_reader.specs.Reading.{wanted}
 
 abbrev pub Gives : {A : Type 0} → (A → Type 0) → Outcome A → Type 0
@@ -30,16 +31,17 @@ gives-unless Q true n p o later = later refl
 gives-unless Q false n p o later = tt
 
 -- a number that was wanted was read and passed its test
-pub wanted-gives : (Q : Found ℕ → Type 0) (ok : ℕ → Bool) (n : ℕ) (s : List ℕ) (at : ℕ)
-    → ((v : Found ℕ) → numberAt s at ≡ given v → ok (v .value) ≡ true → Q v) → Gives Q (wanted ok n s at)
+pub wanted-gives : (Q : Found ℕ → Type 0) (e : Edition) (ok : ℕ → Bool) (n : ℕ) (s : List ℕ) (at : ℕ)
+    → ((v : Found ℕ) → numberAt (e .width) s at ≡ given v → ok (v .value) ≡ true → Q v) → Gives Q (wanted e ok n s at)
 unfolding wanted
-wanted-gives Q ok n s at so =
-    gives-after Q (numberAt s at) _ (λ v read. gives-unless Q (ok (v .value)) n at (given v) (so v read))
+wanted-gives Q e ok n s at so =
+    gives-after Q (numberAt (e .width) s at) _ (λ v read. gives-unless Q (ok (v .value)) n at (given v) (so v read))
 
-pub wanted-then : {B : Type 0} (Q : B → Type 0) (ok : ℕ → Bool) (n : ℕ) (s : List ℕ) (at : ℕ)
-    (f : Found ℕ → Outcome B) → ((v : Found ℕ) → numberAt s at ≡ given v → ok (v .value) ≡ true → Gives Q (f v))
-    → Gives Q (wanted ok n s at >>= f)
-wanted-then Q ok n s at f later =
-    let passes : Found ℕ → Type 0 = λ v. (numberAt s at ≡ given v) × (ok (v .value) ≡ true) in
-    gives-then passes Q (wanted ok n s at) f (wanted-gives passes ok n s at (λ v read passed. (read, passed)))
+pub wanted-then : {B : Type 0} (Q : B → Type 0) (e : Edition) (ok : ℕ → Bool) (n : ℕ) (s : List ℕ) (at : ℕ)
+    (f : Found ℕ → Outcome B)
+    → ((v : Found ℕ) → numberAt (e .width) s at ≡ given v → ok (v .value) ≡ true → Gives Q (f v))
+    → Gives Q (wanted e ok n s at >>= f)
+wanted-then Q e ok n s at f later =
+    let passes : Found ℕ → Type 0 = λ v. (numberAt (e .width) s at ≡ given v) × (ok (v .value) ≡ true) in
+    gives-then passes Q (wanted e ok n s at) f (wanted-gives passes e ok n s at (λ v read passed. (read, passed)))
     (λ v so. later v (so .0) (so .1))

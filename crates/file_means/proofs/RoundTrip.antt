@@ -14,13 +14,15 @@ use Rattle.board.specs.Rules.{boardFine, countsFine}
 use Rattle.bits.proofs.BoolLaws.{both-true}
 use Rattle.board.proofs.PaddedLaws.{padded-parts}
 use Rattle.board.proofs.RuleLaws.{counts-in-range}
+use Rattle.board_reader.specs.Editions.{currentEdition}
 use Rattle.board_reader.specs.Reading.{boardOf, longestInput, answered, reading}
+use Rattle.board_reader.proofs.EditionLaws.{current-known}
 use Rattle.board_writer.specs.File.{boardBytes}
 use Rattle.board_writer.specs.Writing.{writing, bytesWritten}
 use Rattle.board_writer.proofs.WriteLaws.{writing-with-room}
 use Rattle.board_writer.proofs.FileLaws.{board-file-bound, WasWritten, writing-given, write-bytes}
 use Rattle.file_means.specs.RoundTrip.{WriteThenRead, RestStays, ReadThenWrite}
-use Rattle.file_means.proofs.StandLaws.{StandsTo}
+use Rattle.file_means.proofs.StandLaws.{StandsTo, bytes-as-written}
 use Rattle.file_means.proofs.GivesLaws.{Gives}
 use Rattle.file_means.proofs.BoardTrip.{board-reads, BoardIsFine}
 use Rattle.file_means.proofs.ReadFine.{read-fine}
@@ -33,7 +35,7 @@ begins bytes rest n long =
 -- a board's bytes, whatever stands after them, are read as that board
 module _ (b : Board) (rest : List ℕ) (n : ℕ) (places : length (b .parts) ≡ mostParts) (fine : boardFine b ≡ true)
     (long : n ≡ length (boardBytes b)) (short : length (boardBytes b ++ rest) ≤ longestInput) where
-  reads-back : reading (boardBytes b ++ rest) ≡ (boardOf (b .counts) (partsOf b), given n)
+  reads-back : reading currentEdition (boardBytes b ++ rest) ≡ (boardOf (b .counts) (partsOf b), given n)
   unfolding reading answered
   reads-back =
       rw (
@@ -62,7 +64,7 @@ write-then-read b out out′ more n w r places wrote told =
           (let few : length (boardBytes b ++ more) ≤ longestInput =
           omega (arith, written .count, length-append (boardBytes b) more) in
           let back =
-          read ∙ ap (λ (l : List ℕ). reading (l ++ more)) begins
+          read ∙ ap (λ (l : List ℕ). reading currentEdition (l ++ more)) begins
           ∙ reads-back b more n places (written .fine) (written .count) few in (
             ap (λ (a : Board × Outcome ℕ). a .1) back,
             sym (ap (λ (a : Board × Outcome ℕ). a .0 .counts) back),
@@ -86,10 +88,10 @@ writes b out n fine long room =
 pub read-then-write : ReadThenWrite
 read-then-write s out out′ n r w bytes read told wrote =
     let b = r .board in
-    let was : BoardIsFine s b n =
-    subst (λ (a : Board × Outcome ℕ). Gives (BoardIsFine s (a .0)) (a .1))
-    (sym read ∙ ap (λ (o : Outcome ℕ). (b, o)) told) (read-fine s) in
-    let long : n ≡ length (boardBytes b) = omega (arith, was .stands bytes .ends) in (
+    let was : BoardIsFine currentEdition s b n =
+    subst (λ (a : Board × Outcome ℕ). Gives (BoardIsFine currentEdition s (a .0)) (a .1))
+    (sym read ∙ ap (λ (o : Outcome ℕ). (b, o)) told) (read-fine currentEdition current-known s) in
+    let long : n ≡ length (boardBytes b) = omega (arith, was .stands (bytes-as-written s bytes) .ends) in (
       was .fine,
       λ room.
           (let answer = wrote ∙ writes b out n (was .fine) long room in (
@@ -97,6 +99,6 @@ read-then-write s out out′ n r w bytes read told wrote =
             ap (λ (a : Outcome ℕ × List ℕ). take n (a .1)) answer
                 ∙ take-at (boardBytes b) (drop n out) n (sym long)
                 ∙ sym (take-at (boardBytes b) (drop n s) n (sym long))
-                ∙ ap (take n) (sym (was .stands bytes .there)),
+                ∙ ap (take n) (sym (was .stands (bytes-as-written s bytes) .there)),
           )),
     )

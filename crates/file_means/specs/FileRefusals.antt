@@ -4,29 +4,30 @@
 -- Nothing here goes by how the reader is put together; a number's form is `numberAt`'s to say, and `FormExactly`
 -- (`crates/number/specs/FormExactly.antt`) says what that is, byte by byte. A stage of the file is reached by the
 -- numbers that stand there one after the other and by how they compare, so that no line holds of those before it; and
--- windings are counted over the parts so far, by `crates/board/specs/Sorts.antt`.
---     StandsAt s p v next     the number v stands at place p, and `next` is the place just after it
---     Taken r ps k            by the parts ps relay r already has the winding of kind number k, or is of the other
---                             sort
---     FileStage               what comes next in the file, after what was read:
---       at-T                  T
---       at-R t                R, after T is t
---       at-B t r              B, after R is r
---       at-C t r b            C, after B is b
---       at-part c ps          one more part or the board's end, after the counts c and the parts ps
---       at-first c ps k       the first end of a part of kind number k
---       at-second c ps k a    its second end, after the first end a
---       at-name c ps k a b    its relay or button, after the second end b; a wire has none
---     NumberWanted f          a number is wanted at stage f: for a part while the parts are fewer than C, for a name
---                             unless the part is a wire
---     Reached s f p           stage f is reached at place p: every number before it is fine
---     NumberStands s f p v    stage f is reached at place p, a number is wanted, and v stands there
---     LineHolds s n p         line n of the table holds at place p, and none before it
---     FileRefused             over the call `board_reader::read`: it is refused by n at p exactly if line n holds
---                             there, and none before it
---     FileAccepted            over the same call: it is accepted up to place n, and the board has the counts c and the
---                             parts ps, exactly if these are the numbers that stand before n, the parts are C, and
---                             every relay is regular or steel-core
+-- windings are counted over the parts so far, by `crates/board/specs/Sorts.antt`. The table is that of an edition e,
+-- which says what stands as a number and which kind is the last; the call reads by the current one.
+--     StandsAt e s p v next     the number v stands at place p, and `next` is the place just after it
+--     Taken r ps k              by the parts ps relay r already has the winding of kind number k, or is of the other
+--                               sort
+--     FileStage                 what comes next in the file, after what was read:
+--       at-T                    T
+--       at-R t                  R, after T is t
+--       at-B t r                B, after R is r
+--       at-C t r b              C, after B is b
+--       at-part c ps            one more part or the board's end, after the counts c and the parts ps
+--       at-first c ps k         the first end of a part of kind number k
+--       at-second c ps k a      its second end, after the first end a
+--       at-name c ps k a b      its relay or button, after the second end b; a wire has none
+--     NumberWanted f            a number is wanted at stage f: for a part while the parts are fewer than C, for a name
+--                               unless the part is a wire
+--     Reached e s f p           stage f is reached at place p: every number before it is fine
+--     NumberStands e s f p v    stage f is reached at place p, a number is wanted, and v stands there
+--     LineHolds e s n p         line n of the table holds at place p, and none before it
+--     FileRefused               over the call `board_reader::read`: it is refused by n at p exactly if line n holds
+--                               there, and none before it
+--     FileAccepted              over the same call: it is accepted up to place n, and the board has the counts c and
+--                               the parts ps, exactly if these are the numbers that stand before n, the parts are C,
+--                               and every relay is regular or steel-core
 use Prim.Native.Nat.{ℕ, _+_, _<_, _≤_}
 use mathlib.Core.Path.{_≡_}
 use mathlib.Core.Logic.{_⊎_, _↔_}
@@ -36,7 +37,7 @@ use Rattle.refusals.specs.Outcomes.{refused, given, found}
 use Rattle.refusals.specs.Refusals.{inputEnds, badForm, outOfRange, noSuchKind, noSuchTerminal, endsEqual, noSuchName}
 use Rattle.refusals.specs.Refusals.{windingTaken, windingLacking, inputTooLong}
 use Rattle.number.specs.Numbers.{numberAt}
-use Rattle.kinds.specs.Kinds.{buttonKind, regularKind, drawingKind, droppingKind, lastKind, kindOf}
+use Rattle.kinds.specs.Kinds.{buttonKind, regularKind, drawingKind, droppingKind, kindOf}
 use Rattle.kinds.specs.declared.Kind.the-variants.{Wire, Button}
 use Rattle.board.specs.declared.Counts.{Counts}
 use Rattle.board.specs.declared.Part.{Part}
@@ -44,10 +45,11 @@ use Rattle.board.specs.Parts.{partsOf, mostParts}
 use Rattle.board.specs.Rules.{leastTerminals, mostTerminals, mostRelays, mostButtons}
 use Rattle.board.specs.Sorts.{windingsOf, isRegular, isSteel, Wound}
 use Rattle.board_reader.specs.declared.BoardRead.{BoardRead}
+use Rattle.board_reader.specs.Editions.{Edition, currentEdition}
 use Rattle.board_reader.specs.Reading.{longestInput, toldReadAnswer, Reads}
 
-abbrev pub StandsAt : List ℕ → ℕ → ℕ → ℕ → Type 0
-StandsAt s p v next = numberAt s p ≡ found v next
+abbrev pub StandsAt : Edition → List ℕ → ℕ → ℕ → ℕ → Type 0
+StandsAt e s p v next = numberAt (e .width) s p ≡ found v next
 
 pub data Taken (r : ℕ) (ps : List Part) : ℕ → Type 0 where
   has-it : {k : ℕ} → regularKind ≤ k → 0 < windingsOf k r ps → Taken r ps k
@@ -74,68 +76,74 @@ NumberWanted (at-first c ps k) = Unit {0}
 NumberWanted (at-second c ps k a) = Unit {0}
 NumberWanted (at-name c ps k a b) = ¬ (k ≡ 0)
 
-pub data Reached (s : List ℕ) : FileStage → ℕ → Type 0 where
-  start : Reached s at-T 0
-  T-fine : {t p next : ℕ} → Reached s at-T p → StandsAt s p t next → leastTerminals ≤ t → t ≤ mostTerminals
-      → Reached s (at-R t) next
-  R-fine : {t r p next : ℕ} → Reached s (at-R t) p → StandsAt s p r next → r ≤ mostRelays → Reached s (at-B t r) next
-  B-fine : {t r b p next : ℕ} → Reached s (at-B t r) p → StandsAt s p b next → b ≤ mostButtons
-      → Reached s (at-C t r b) next
-  C-fine : {t r b c p next : ℕ} → Reached s (at-C t r b) p → StandsAt s p c next → c ≤ mostParts
-      → Reached s (at-part (record { terminals = t; relays = r; buttons = b; parts = c }) []) next
-  kind-fine : {c : Counts} {ps : List Part} {k p next : ℕ} → Reached s (at-part c ps) p → length ps < c .parts
-      → StandsAt s p k next → k ≤ lastKind → Reached s (at-first c ps k) next
-  first-fine : {c : Counts} {ps : List Part} {k a p next : ℕ} → Reached s (at-first c ps k) p → StandsAt s p a next
-      → a < c .terminals → Reached s (at-second c ps k a) next
-  second-fine : {c : Counts} {ps : List Part} {k a b p next : ℕ} → Reached s (at-second c ps k a) p
-      → StandsAt s p b next → b < c .terminals → ¬ (a ≡ b) → Reached s (at-name c ps k a b) next
-  wire-fine : {c : Counts} {ps : List Part} {a b p : ℕ} → Reached s (at-name c ps 0 a b) p
-      → Reached s (at-part c (ps ++ (record { a = a; b = b; kind = Wire } ∷ []))) p
-  button-fine : {c : Counts} {ps : List Part} {a b v p next : ℕ} → Reached s (at-name c ps buttonKind a b) p
-      → StandsAt s p v next → v < c .buttons
-      → Reached s (at-part c (ps ++ (record { a = a; b = b; kind = Button v } ∷ []))) next
-  relay-fine : {c : Counts} {ps : List Part} {k a b v p next : ℕ} → Reached s (at-name c ps k a b) p → ¬ (k ≡ 0)
-      → ¬ (k ≡ buttonKind) → StandsAt s p v next → v < c .relays → ¬ Taken v ps k
-      → Reached s (at-part c (ps ++ (record { a = a; b = b; kind = kindOf k v } ∷ []))) next
+pub data Reached (e : Edition) (s : List ℕ) : FileStage → ℕ → Type 0 where
+  start : Reached e s at-T 0
+  T-fine : {t p next : ℕ} → Reached e s at-T p → StandsAt e s p t next → leastTerminals ≤ t → t ≤ mostTerminals
+      → Reached e s (at-R t) next
+  R-fine : {t r p next : ℕ} → Reached e s (at-R t) p → StandsAt e s p r next → r ≤ mostRelays
+      → Reached e s (at-B t r) next
+  B-fine : {t r b p next : ℕ} → Reached e s (at-B t r) p → StandsAt e s p b next → b ≤ mostButtons
+      → Reached e s (at-C t r b) next
+  C-fine : {t r b c p next : ℕ} → Reached e s (at-C t r b) p → StandsAt e s p c next → c ≤ mostParts
+      → Reached e s (at-part (record { terminals = t; relays = r; buttons = b; parts = c }) []) next
+  kind-fine : {c : Counts} {ps : List Part} {k p next : ℕ} → Reached e s (at-part c ps) p → length ps < c .parts
+      → StandsAt e s p k next → k ≤ e .lastKind → Reached e s (at-first c ps k) next
+  first-fine : {c : Counts} {ps : List Part} {k a p next : ℕ} → Reached e s (at-first c ps k) p → StandsAt e s p a next
+      → a < c .terminals → Reached e s (at-second c ps k a) next
+  second-fine : {c : Counts} {ps : List Part} {k a b p next : ℕ} → Reached e s (at-second c ps k a) p
+      → StandsAt e s p b next → b < c .terminals → ¬ (a ≡ b) → Reached e s (at-name c ps k a b) next
+  wire-fine : {c : Counts} {ps : List Part} {a b p : ℕ} → Reached e s (at-name c ps 0 a b) p
+      → Reached e s (at-part c (ps ++ (record { a = a; b = b; kind = Wire } ∷ []))) p
+  button-fine : {c : Counts} {ps : List Part} {a b v p next : ℕ} → Reached e s (at-name c ps buttonKind a b) p
+      → StandsAt e s p v next → v < c .buttons
+      → Reached e s (at-part c (ps ++ (record { a = a; b = b; kind = Button v } ∷ []))) next
+  relay-fine : {c : Counts} {ps : List Part} {k a b v p next : ℕ} → Reached e s (at-name c ps k a b) p → ¬ (k ≡ 0)
+      → ¬ (k ≡ buttonKind) → StandsAt e s p v next → v < c .relays → ¬ Taken v ps k
+      → Reached e s (at-part c (ps ++ (record { a = a; b = b; kind = kindOf k v } ∷ []))) next
 
-abbrev pub NumberStands : List ℕ → FileStage → ℕ → ℕ → Type 0
-NumberStands s f p v = Reached s f p × NumberWanted f × (next : ℕ) × StandsAt s p v next
+abbrev pub NumberStands : Edition → List ℕ → FileStage → ℕ → ℕ → Type 0
+NumberStands e s f p v = Reached e s f p × NumberWanted f × (next : ℕ) × StandsAt e s p v next
 
-pub data LineHolds (s : List ℕ) : ℕ → ℕ → Type 0 where
-  line1 : {f : FileStage} {at : ℕ} → Reached s f at → NumberWanted f → numberAt s at ≡ refused inputEnds (length s)
-      → LineHolds s inputEnds (length s)
-  line2 : {f : FileStage} {p : ℕ} → Reached s f p → NumberWanted f → numberAt s p ≡ refused badForm p
-      → LineHolds s badForm p
-  line3-T : {v p : ℕ} → NumberStands s at-T p v → (v < leastTerminals) ⊎ (mostTerminals < v) → LineHolds s outOfRange p
-  line3-R : {t v p : ℕ} → NumberStands s (at-R t) p v → mostRelays < v → LineHolds s outOfRange p
-  line3-B : {t r v p : ℕ} → NumberStands s (at-B t r) p v → mostButtons < v → LineHolds s outOfRange p
-  line3-C : {t r b v p : ℕ} → NumberStands s (at-C t r b) p v → mostParts < v → LineHolds s outOfRange p
-  line4 : {c : Counts} {ps : List Part} {v p : ℕ} → NumberStands s (at-part c ps) p v → lastKind < v
-      → LineHolds s noSuchKind p
-  line5-first : {c : Counts} {ps : List Part} {k v p : ℕ} → NumberStands s (at-first c ps k) p v → c .terminals ≤ v
-      → LineHolds s noSuchTerminal p
-  line5-second : {c : Counts} {ps : List Part} {k a v p : ℕ} → NumberStands s (at-second c ps k a) p v
-      → c .terminals ≤ v → LineHolds s noSuchTerminal p
-  line6 : {c : Counts} {ps : List Part} {k a p : ℕ} → NumberStands s (at-second c ps k a) p a → LineHolds s endsEqual p
-  line7-button : {c : Counts} {ps : List Part} {a b v p : ℕ} → NumberStands s (at-name c ps buttonKind a b) p v
-      → c .buttons ≤ v → LineHolds s noSuchName p
-  line7-relay : {c : Counts} {ps : List Part} {k a b v p : ℕ} → NumberStands s (at-name c ps k a b) p v
-      → ¬ (k ≡ buttonKind) → c .relays ≤ v → LineHolds s noSuchName p
-  line8 : {c : Counts} {ps : List Part} {k a b v p : ℕ} → NumberStands s (at-name c ps k a b) p v → v < c .relays
-      → Taken v ps k → LineHolds s windingTaken p
-  line9 : {c : Counts} {ps : List Part} {r p : ℕ} → Reached s (at-part c ps) p → length ps ≡ c .parts → r < c .relays
-      → ¬ isRegular r ps → ¬ isSteel r ps → LineHolds s windingLacking p
+pub data LineHolds (e : Edition) (s : List ℕ) : ℕ → ℕ → Type 0 where
+  line1 : {f : FileStage} {at : ℕ} → Reached e s f at → NumberWanted f
+      → numberAt (e .width) s at ≡ refused inputEnds (length s)
+      → LineHolds e s inputEnds (length s)
+  line2 : {f : FileStage} {p : ℕ} → Reached e s f p → NumberWanted f → numberAt (e .width) s p ≡ refused badForm p
+      → LineHolds e s badForm p
+  line3-T : {v p : ℕ} → NumberStands e s at-T p v → (v < leastTerminals) ⊎ (mostTerminals < v)
+      → LineHolds e s outOfRange p
+  line3-R : {t v p : ℕ} → NumberStands e s (at-R t) p v → mostRelays < v → LineHolds e s outOfRange p
+  line3-B : {t r v p : ℕ} → NumberStands e s (at-B t r) p v → mostButtons < v → LineHolds e s outOfRange p
+  line3-C : {t r b v p : ℕ} → NumberStands e s (at-C t r b) p v → mostParts < v → LineHolds e s outOfRange p
+  line4 : {c : Counts} {ps : List Part} {v p : ℕ} → NumberStands e s (at-part c ps) p v → e .lastKind < v
+      → LineHolds e s noSuchKind p
+  line5-first : {c : Counts} {ps : List Part} {k v p : ℕ} → NumberStands e s (at-first c ps k) p v → c .terminals ≤ v
+      → LineHolds e s noSuchTerminal p
+  line5-second : {c : Counts} {ps : List Part} {k a v p : ℕ} → NumberStands e s (at-second c ps k a) p v
+      → c .terminals ≤ v → LineHolds e s noSuchTerminal p
+  line6 : {c : Counts} {ps : List Part} {k a p : ℕ} → NumberStands e s (at-second c ps k a) p a
+      → LineHolds e s endsEqual p
+  line7-button : {c : Counts} {ps : List Part} {a b v p : ℕ} → NumberStands e s (at-name c ps buttonKind a b) p v
+      → c .buttons ≤ v → LineHolds e s noSuchName p
+  line7-relay : {c : Counts} {ps : List Part} {k a b v p : ℕ} → NumberStands e s (at-name c ps k a b) p v
+      → ¬ (k ≡ buttonKind) → c .relays ≤ v → LineHolds e s noSuchName p
+  line8 : {c : Counts} {ps : List Part} {k a b v p : ℕ} → NumberStands e s (at-name c ps k a b) p v → v < c .relays
+      → Taken v ps k → LineHolds e s windingTaken p
+  line9 : {c : Counts} {ps : List Part} {r p : ℕ} → Reached e s (at-part c ps) p → length ps ≡ c .parts → r < c .relays
+      → ¬ isRegular r ps → ¬ isSteel r ps → LineHolds e s windingLacking p
 
 abbrev pub FileRefused : Type 0
 FileRefused =
     (s : List ℕ) (r : BoardRead) (n p : ℕ)
     → Reads s r
     → toldReadAnswer (r .answer) ≡ refused n p
-    ↔ ((longestInput < length s) × (n ≡ inputTooLong) × (p ≡ 0)) ⊎ ((length s ≤ longestInput) × LineHolds s n p)
+    ↔ ((longestInput < length s) × (n ≡ inputTooLong) × (p ≡ 0))
+    ⊎ ((length s ≤ longestInput) × LineHolds currentEdition s n p)
 
 abbrev pub FileAccepted : Type 0
 FileAccepted =
     (s : List ℕ) (r : BoardRead) (c : Counts) (ps : List Part) (n : ℕ)
     → Reads s r
     → ((toldReadAnswer (r .answer) ≡ given n) × (r .board .counts ≡ c) × (partsOf (r .board) ≡ ps))
-    ↔ ((length s ≤ longestInput) × Reached s (at-part c ps) n × (length ps ≡ c .parts) × Wound (c .relays) ps)
+    ↔ ((length s ≤ longestInput) × Reached currentEdition s (at-part c ps) n × (length ps ≡ c .parts)
+    × Wound (c .relays) ps)

@@ -1,20 +1,21 @@
--- The theorem of specs/FormExactly.antt: what `form` makes of some bytes is one of its four cases, and in each case it
--- makes just that of them. Both over the longest form k.
-use Prim.Native.Nat.{ℕ, zero, suc, _-_, _^_, _≤_, _<_}
-use native.Mathlib.Nat.{one-le-pow}
+-- The theorem of specs/FormExactly.antt: what `form` makes of some bytes is one of four cases, and in each case it
+-- makes just that of them, over the longest form k. So what stands at a place of an input comes to one of five cases,
+-- at every width.
+use Prim.Native.Nat.{ℕ, zero, suc, _-_, _≤_, _<_}
 use native.Mathlib.Omega.{arith}
 use mathlib.Core.Path.{_≡_, refl, sym, ap, subst, _∙_}
 use mathlib.Core.List.{List, [], _∷_, _++_}
-use lib.ListN.{length, drop, length-append}
+use lib.ListN.{length, drop}
 use Rattle.lists.specs.Members.{All}
 use Rattle.bits.proofs.BoolLaws.{by-less}
 use Rattle.number.specs.declared.Form.{Form}
 use Rattle.number.specs.declared.Form.the-variants.{Got, Ends, Bad}
 use Rattle.refusals.specs.Outcomes.{Outcome, Found}
-use Rattle.number.specs.Numbers.{longest, largest, Bytes, below, form, placed, numberAt}
-use Rattle.number.specs.FormExactly.{TopBit, groups, NumberForm, whole, cut, too-long, not-shortest, FormExactly}
+use Rattle.number.specs.Numbers.{Width, currentWidth, Bytes, below, form, placed, numberAt}
+use Rattle.number.specs.FormExactly.{TopBit, groups, NumberForm, whole, cut, too-long, not-shortest, too-large}
+use Rattle.number.specs.FormExactly.{FormExactly}
 use Rattle.number.proofs.FormLaws.{form-too-long, form-last, form-more, below-got, bytes-rest, Bytes-drop}
-use Rattle.number.proofs.NumberLaws.{placed-as, number-ends, number-bad}
+use Rattle.number.proofs.NumberLaws.{placed-as, placed-over, number-ends, number-bad}
 
 -- ---- what bytes are worth
 
@@ -22,17 +23,6 @@ groups-some : (bs : List ℕ) (b : ℕ) → 0 < b → b < 128 → 0 < groups (bs
 unfolding groups
 groups-some [] b some small = omega arith
 groups-some (x ∷ bs) b some small = omega (arith, groups-some bs b some small)
-
-groups-small : (k : ℕ) (bs : List ℕ) → length bs ≤ k → groups bs < 128 ^ k
-unfolding groups
-groups-small k [] few = omega (arith, one-le-pow k 128 (omega arith))
-groups-small zero (b ∷ bs) few = absurd (omega arith)
-groups-small (suc k) (b ∷ bs) few = omega (arith, groups-small k bs (omega arith))
-
--- so a number of the longest form is not above the largest
-groups-most : (bs : List ℕ) (b : ℕ) → length bs < longest → groups (bs ++ (b ∷ [])) ≤ largest
-groups-most bs b few =
-    omega (arith, groups-small longest (bs ++ (b ∷ [])) (omega (arith, length-append bs (b ∷ []))))
 
 -- ---- the form of bytes, case by case
 
@@ -125,36 +115,52 @@ form-case (suc k) (x ∷ s) bytes =
 
 -- ---- at a place of an input
 
-module _ (s : List ℕ) (at : ℕ) where
-  case-placed : (f : Form) → FormCase longest (drop at s) f → NumberForm s at (placed (length s) at f)
+module _ (w : Width) (s : List ℕ) (at : ℕ) where
+  case-placed : (f : Form) → FormCase (w .longest) (drop at s) f → NumberForm w s at (placed w (length s) at f)
   unfolding placed
   case-placed f (got-it bs rest b e set few small only) =
-      rw (placed-as (length s) at (groups (bs ++ (b ∷ []))) (length (bs ++ (b ∷ []))) (groups-most bs b few))
-      (whole bs rest b e set few small only)
+      let value = groups (bs ++ (b ∷ [])) in
+      by-less (w .largest) value
+      (λ over. rw (placed-over w (length s) at value (length (bs ++ (b ∷ []))) over)
+      (too-large bs rest b e set few small only over))
+      (λ most. rw (placed-as w (length s) at value (length (bs ++ (b ∷ []))) most)
+      (whole bs rest b e set few small only most))
   case-placed f (ended set few) = cut set few
   case-placed f (too-many bs rest e set long) = too-long bs rest e set long
   case-placed f (zero-last bs rest e set some few) = not-shortest bs rest e set some few
 
-  number-form : Bytes s → NumberForm s at (numberAt s at)
+  pub number-form : Bytes s → NumberForm w s at (numberAt w s at)
   unfolding numberAt
-  number-form bytes = case-placed (form longest (drop at s)) (form-case longest (drop at s) (Bytes-drop s at bytes))
+  number-form bytes =
+      case-placed (form (w .longest) (drop at s)) (form-case (w .longest) (drop at s) (Bytes-drop s at bytes))
 
-  form-number : Bytes s → (o : Outcome (Found ℕ)) → NumberForm s at o → numberAt s at ≡ o
+  whole-placed : Bytes s → (bs rest : List ℕ) (b : ℕ) → drop at s ≡ bs ++ (b ∷ rest) → All TopBit bs
+      → length bs < w .longest → b < 128 → (b ≡ 0 → bs ≡ [])
+      → numberAt w s at ≡ placed w (length s) at (Got (groups (bs ++ (b ∷ []))) (length (bs ++ (b ∷ []))))
   unfolding numberAt
-  form-number bytes o (whole bs rest b e set few small only) =
-      ap (λ (l : List ℕ). placed (length s) at (form longest l)) e
-      ∙ ap (placed (length s) at)
-      (form-whole b rest small longest bs (subst Bytes e (Bytes-drop s at bytes)) set few only)
-      ∙ placed-as (length s) at (groups (bs ++ (b ∷ []))) (length (bs ++ (b ∷ []))) (groups-most bs b few)
+  whole-placed bytes bs rest b e set few small only =
+      ap (λ (l : List ℕ). placed w (length s) at (form (w .longest) l)) e
+      ∙ ap (placed w (length s) at)
+      (form-whole b rest small (w .longest) bs (subst Bytes e (Bytes-drop s at bytes)) set few only)
+
+  pub form-number : Bytes s → (o : Outcome (Found ℕ)) → NumberForm w s at o → numberAt w s at ≡ o
+  form-number bytes o (whole bs rest b e set few small only most) =
+      whole-placed bytes bs rest b e set few small only
+      ∙ placed-as w (length s) at (groups (bs ++ (b ∷ []))) (length (bs ++ (b ∷ []))) most
   form-number bytes o (cut set few) =
-      sym (number-ends s at (form longest (drop at s)) refl (form-cut longest (drop at s) set few))
+      sym (number-ends w s at (form (w .longest) (drop at s)) refl (form-cut (w .longest) (drop at s) set few))
   form-number bytes o (too-long bs rest e set long) =
-      sym (number-bad s at (form longest (drop at s)) refl
-      (ap (form longest) e ∙ form-long longest bs rest set long))
+      sym (number-bad w s at (form (w .longest) (drop at s)) refl
+      (ap (form (w .longest)) e ∙ form-long (w .longest) bs rest set long))
   form-number bytes o (not-shortest bs rest e set some few) =
-      sym (number-bad s at (form longest (drop at s)) refl
-      (ap (form longest) e ∙ form-zero-last longest bs rest set some few))
+      sym (number-bad w s at (form (w .longest) (drop at s)) refl
+      (ap (form (w .longest)) e ∙ form-zero-last (w .longest) bs rest set some few))
+  form-number bytes o (too-large bs rest b e set few small only over) =
+      whole-placed bytes bs rest b e set few small only
+      ∙ placed-over w (length s) at (groups (bs ++ (b ∷ []))) (length (bs ++ (b ∷ []))) over
 
 pub form-exactly : FormExactly
-form-exactly s at r o bytes read =
-    (λ is. subst (NumberForm s at) (sym read ∙ is) (number-form s at bytes), λ f. read ∙ form-number s at bytes o f)
+form-exactly s at r o bytes read = (
+  λ is. subst (NumberForm currentWidth s at) (sym read ∙ is) (number-form currentWidth s at bytes),
+  λ f. read ∙ form-number currentWidth s at bytes o f,
+)

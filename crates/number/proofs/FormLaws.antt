@@ -90,13 +90,15 @@ Bytes-drop s at h i = rw getD-drop (h (at + i))
 
 -- ---- reading undoes writing
 
-pub form-written : (k v : ℕ) (s : List ℕ) → v < 128 ^ suc k → form (suc k) (encode (suc k) v ++ s) ≡ Got v
-    (length (encode (suc k) v))
-form-written zero v s h = rw encode-last (form-last 0 v s (omega arith))
-form-written (suc k) v s h =
+pub form-written : (k v : ℕ) (s : List ℕ) → 0 < k → v < 128 ^ k → form k (encode k v ++ s) ≡ Got v
+    (length (encode k v))
+form-written zero v s some h = absurd (omega arith)
+form-written (suc zero) v s some h = rw encode-last (form-last 0 v s (omega arith))
+form-written (suc (suc k)) v s some h =
     by-less v 128
     (λ l. rw encode-last (form-last (suc k) v s l))
-    (λ m. rw encode-more (form-written-more (suc k) v s m (form-written k (v / 128) s (omega arith))))
+    (λ m. rw encode-more
+    (form-written-more (suc k) v s m (form-written (suc k) (v / 128) s (omega arith) (omega arith))))
 
 -- ---- writing undoes reading
 
@@ -194,8 +196,9 @@ form-no-further (suc k) (b ∷ s) (c ∷ t) v n p e =
 
 -- ---- how long a written form is
 
-pub encode-some : (k v : ℕ) → 0 < length (encode (suc k) v)
-encode-some k v =
+pub encode-some : (k v : ℕ) → 0 < k → 0 < length (encode k v)
+encode-some zero v some = absurd (omega arith)
+encode-some (suc k) v some =
     by-less v 128
     (λ l. rw encode-last (omega arith))
     (λ m. rw encode-more (omega arith))
@@ -221,7 +224,7 @@ encode-short (suc j) (suc k) v h =
 -- a value that j groups do not hold is written in more than j bytes
 pub encode-long : (j k v : ℕ) → j < k → 128 ^ j ≤ v → j < length (encode k v)
 encode-long j zero v l h = absurd (omega arith)
-encode-long zero (suc k) v l h = encode-some k v
+encode-long zero (suc k) v l h = encode-some (suc k) v l
 encode-long (suc j) (suc k) v l h =
     let m : 128 ≤ v = omega (arith, one-le-pow j 128 (omega arith)) in
     rw (encode-more k v m)

@@ -100,8 +100,7 @@ encode-further (suc k) v l l′ at some m e = rw encode-more (rw (add-one, suc-s
 
 -- the groups that are left have a first byte, and it has room
 pub encode-room : (left v at room : ℕ) → 0 < left → at + length (encode left v) ≤ room → at < room
-encode-room zero v at room some h = absurd (omega arith)
-encode-room (suc k) v at room some h = omega (arith, encode-some k v)
+encode-room left v at room some h = omega (arith, encode-some left v some)
 
 -- below a group that is not the last, the rest has groups and room left
 pub encode-rest : (left v at room : ℕ) → v < 128 ^ left → at + length (encode left v) ≤ room → 128 ≤ v

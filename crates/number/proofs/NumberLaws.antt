@@ -1,13 +1,13 @@
 -- The laws of the file's numbers: what is written is read back, and what is read is what would be written.
 -- Every crate that reads or writes numbers cites these, and nothing of the definitions' text. They are the laws of
--- FormLaws at the rule book's longest form.
+-- FormLaws at a width's longest form; how the current width's two numbers stand to each other is said once, below.
 use mathlib.Core.Path.{_≡_, refl, sym, ap, _∙_}
 use mathlib.Core.Logic.{_⊎_, inl, inr}
 use mathlib.Core.Bool.{Bool, true, false, cond}
 use mathlib.Core.List.{List, [], _∷_, _++_}
 use Prim.Native.Nat.{ℕ, _+_, _-_, _^_, _≤_, _<_}
 use native.Mathlib.Omega.{arith}
-use borrow.Author.Tests.{leb-true, le-leb, lt-leb}
+use borrow.Author.Tests.{leb-true, leb-false, le-leb, lt-leb}
 use lib.Dec.{leb}
 use mir.Syntax.{w8}
 use mir.Val.{Fits}
@@ -19,10 +19,16 @@ use Rattle.number.specs.declared.NumberWritten.{NumberWritten}
 use Rattle.number.specs.declared.NumberWritten.the-variants.{Next}
 use Rattle.number.specs.declared.Form.{Form}
 use Rattle.number.specs.declared.Form.the-variants.{Got, Ends, Bad}
-use Rattle.refusals.specs.Outcomes.{Outcome, given, refused, Found, found}
+use Rattle.bits.proofs.BoolLaws.{by-test}
+use Rattle.refusals.specs.declared.Refusal.{Refusal}
+use Rattle.refusals.specs.declared.Against.{Against}
+use Rattle.refusals.specs.declared.Against.the-variants as stands
+use Rattle.refusals.specs.Outcomes.{Outcome, given, refused, Found, found, _>>_, unless}
 use Rattle.refusals.specs.Refusals.{inputEnds, badForm, bufferTooShort}
-use Rattle.number.specs.Numbers.{Bytes, form, placed, numberAt, encode, numberBytes, numberWriting, toldNumber}
-use Rattle.number.specs.Numbers.{toldNumberWritten, longest, largest}
+use Rattle.refusals.specs.Order.{firstNo, toldAgainst}
+use Rattle.refusals.proofs.OrderLaws.{asks-first, asks-then, first-holds}
+use Rattle.number.specs.Numbers.{Width, currentWidth, Bytes, form, placed, numberAt, encode, numberBytes}
+use Rattle.number.specs.Numbers.{numberLines, numberWriting, toldNumber, toldNumberWritten}
 use Rattle.refusals.proofs.OutcomeLaws.{refused-never, given-injective}
 use Rattle.refusals.proofs.Told.{Told, answerOf, given-or-refused}
 use Rattle.number.proofs.FormLaws.{FormRead, Bytes-slice, Bytes-drop, form-written, form-read, form-within}
@@ -40,118 +46,176 @@ found-next : {A : Type 0} (a b : A) (m n : ℕ) → found a m ≡ found b n → 
 found-next {A} a b m n e =
     ap (λ (x : Found A). x .next) (given-injective _ _ e)
 
--- what is known of a form that is placed as a number
-record PlacedForm (at : ℕ) (f : Form) (v n : ℕ) : Type 0 where
-  bytes : ℕ
-  is : f ≡ Got v bytes
-  next : n ≡ at + bytes
-  small : v ≤ largest
+-- ---- the current width
 
-placed-found : (len at : ℕ) (f : Form) (v n : ℕ) → placed len at f ≡ found v n → PlacedForm at f v n
-unfolding placed
-placed-found len at (Got w m) v n e = placed-got (leb w largest) at w m v n refl e
-  where
-    placed-got : (t : Bool) (at w m v n : ℕ) → leb w largest ≡ t
-        → cond t (found w (at + m)) (refused badForm at) ≡ found v n → PlacedForm at (Got w m) v n
-    placed-got true at w m v n h e = record {
-      bytes = m;
-      is = ap (λ (x : ℕ). Got x m) (found-value w v (at + m) n e);
-      next = sym (found-next w v (at + m) n e);
-      small = rw (found-value w v (at + m) n e) at (leb-true w largest h);
-    }
-    placed-got false at w m v n h e = absurd (refused-never badForm at _ e)
-placed-found len at Ends v n e = absurd (refused-never inputEnds len _ e)
-placed-found len at Bad v n e = absurd (refused-never badForm at _ e)
+current-some : 0 < currentWidth .longest
+current-some = omega arith
 
-pub placed-as : (len at v m : ℕ) → v ≤ largest → placed len at (Got v m) ≡ found v (at + m)
-unfolding placed
-placed-as len at v m h = rw (le-leb v largest h)
+-- the values of the longest form are those up to the largest, and a word of 32 bits holds them
+current-whole : 128 ^ (currentWidth .longest) ≡ currentWidth .largest + 1
+current-whole = refl
 
--- a number is refused by 1 at the input's end or by 2 at its place, and by nothing else
-placed-refused : (len at : ℕ) (f : Form) (n p : ℕ) → placed len at f ≡ refused n p → ((n ≡ inputEnds) × (p ≡ len))
-    ⊎ ((n ≡ badForm) × (p ≡ at))
-unfolding placed
-placed-refused len at (Got v m) n p e = by (leb v largest) e
-  where
-    by : (t : Bool) → cond t (found v (at + m)) (refused badForm at) ≡ refused n p → ((n ≡ inputEnds) × (p ≡ len))
-        ⊎ ((n ≡ badForm) × (p ≡ at))
-    by true e = absurd (refused-never n p _ (sym e))
-    by false e = inr (cc, cc)
-placed-refused len at Ends n p e = inl (cc, cc)
-placed-refused len at Bad n p e = inr (cc, cc)
+current-word : currentWidth .largest < 2 ^ 32
+current-word = omega arith
 
-pub number-refusal : (s : List ℕ) (at n p : ℕ) → numberAt s at ≡ refused n p → ((n ≡ inputEnds) × (p ≡ length s))
-    ⊎ ((n ≡ badForm) × (p ≡ at))
+current-room : (v : ℕ) → v ≤ currentWidth .largest → v < 128 ^ (currentWidth .longest)
+current-room v h = omega (arith, current-whole)
+
+current-most : (v : ℕ) → v < 128 ^ (currentWidth .longest) → v ≤ currentWidth .largest
+current-most v h = omega (arith, current-whole)
+
+-- ---- a form at a place
+
+module _ (w : Width) where
+  -- what is known of a form that is placed as a number
+  record PlacedForm (at : ℕ) (f : Form) (v n : ℕ) : Type 0 where
+    bytes : ℕ
+    is : f ≡ Got v bytes
+    next : n ≡ at + bytes
+    small : v ≤ w .largest
+
+  placed-found : (len at : ℕ) (f : Form) (v n : ℕ) → placed w len at f ≡ found v n → PlacedForm at f v n
+  unfolding placed
+  placed-found len at (Got u m) v n e = placed-got (leb u (w .largest)) at u m v n refl e
+    where
+      placed-got : (t : Bool) (at u m v n : ℕ) → leb u (w .largest) ≡ t
+          → cond t (found u (at + m)) (refused badForm at) ≡ found v n → PlacedForm at (Got u m) v n
+      placed-got true at u m v n h e = record {
+        bytes = m;
+        is = ap (λ (x : ℕ). Got x m) (found-value u v (at + m) n e);
+        next = sym (found-next u v (at + m) n e);
+        small = rw (found-value u v (at + m) n e) at (leb-true u (w .largest) h);
+      }
+      placed-got false at u m v n h e = absurd (refused-never badForm at _ e)
+  placed-found len at Ends v n e = absurd (refused-never inputEnds len _ e)
+  placed-found len at Bad v n e = absurd (refused-never badForm at _ e)
+
+  pub placed-as : (len at v m : ℕ) → v ≤ w .largest → placed w len at (Got v m) ≡ found v (at + m)
+  unfolding placed
+  placed-as len at v m h = rw (le-leb v (w .largest) h)
+
+  pub placed-over : (len at v m : ℕ) → w .largest < v → placed w len at (Got v m) ≡ refused badForm at
+  unfolding placed
+  placed-over len at v m h = rw (lt-leb v (w .largest) h)
+
+  -- a number is refused by 1 at the input's end or by 2 at its place, and by nothing else
+  placed-refused : (len at : ℕ) (f : Form) (n p : ℕ) → placed w len at f ≡ refused n p
+      → ((n ≡ inputEnds) × (p ≡ len)) ⊎ ((n ≡ badForm) × (p ≡ at))
+  unfolding placed
+  placed-refused len at (Got v m) n p e = by (leb v (w .largest)) e
+    where
+      by : (t : Bool) → cond t (found v (at + m)) (refused badForm at) ≡ refused n p
+          → ((n ≡ inputEnds) × (p ≡ len)) ⊎ ((n ≡ badForm) × (p ≡ at))
+      by true e = absurd (refused-never n p _ (sym e))
+      by false e = inr (cc, cc)
+  placed-refused len at Ends n p e = inl (cc, cc)
+  placed-refused len at Bad n p e = inr (cc, cc)
+
+  pub number-refusal : (s : List ℕ) (at n p : ℕ) → numberAt w s at ≡ refused n p
+      → ((n ≡ inputEnds) × (p ≡ length s)) ⊎ ((n ≡ badForm) × (p ≡ at))
+  unfolding numberAt
+  number-refusal s at = placed-refused (length s) at (form (w .longest) (drop at s))
+
+  number-placed : (s : List ℕ) (at v n : ℕ) → numberAt w s at ≡ found v n
+      → PlacedForm at (form (w .longest) (drop at s)) v n
+  unfolding numberAt
+  number-placed s at v n e = placed-found (length s) at (form (w .longest) (drop at s)) v n e
+
+  -- ---- how far reading looks
+
+  -- no byte past the number, and at least one
+  pub number-next-within : (s : List ℕ) (at v n : ℕ) → numberAt w s at ≡ found v n → (n ≤ length s) × (at < n)
+  number-next-within s at v n e =
+      let p : PlacedForm at (form (w .longest) (drop at s)) v n = number-placed s at v n e in
+      omega (arith, form-within (w .longest) (drop at s) v (p .bytes) (p .is), length-drop at s)
+
+  -- reading looks at no byte past the number
+  pub number-looks-no-further : (s t : List ℕ) (at v n : ℕ) → take n s ≡ take n t → numberAt w s at ≡ found v n
+      → numberAt w t at ≡ found v n
+  unfolding numberAt
+  number-looks-no-further s t at v n q e =
+      let p : PlacedForm at (form (w .longest) (drop at s)) v n = number-placed s at v n e in
+      let same : take (p .bytes) (drop at s) ≡ take (p .bytes) (drop at t) =
+      take-drop at (p .bytes) s ∙ ap (drop at) (rw (p .next) at q) ∙ sym (take-drop at (p .bytes) t) in
+      ap (placed w (length t) at) (form-no-further (w .longest) (drop at s) (drop at t) v (p .bytes) same (p .is))
+      ∙ placed-as (length t) at v (p .bytes) (p .small)
+      ∙ ap (found v) (sym (p .next))
+
+  -- ---- a number from its form, as `read_number` reads it
+
+  pub number-ends : (s : List ℕ) (at : ℕ) (f : Form) → f ≡ form (w .longest) (drop at s) → f ≡ Ends
+      → refused inputEnds (length s) ≡ numberAt w s at
+  unfolding numberAt placed
+  number-ends s at f r is = sym (ap (placed w (length s) at) (sym r ∙ is))
+
+  pub number-bad : (s : List ℕ) (at : ℕ) (f : Form) → f ≡ form (w .longest) (drop at s) → f ≡ Bad
+      → refused badForm at ≡ numberAt w s at
+  unfolding numberAt placed
+  number-bad s at f r is = sym (ap (placed w (length s) at) (sym r ∙ is))
+
+-- a form of the longest length is worth no more than the largest
+pub form-most : (s : List ℕ) (at : ℕ) (f : Form) (v m : ℕ) → ((i : ℕ) → Fits w8 (getD s i 0))
+    → f ≡ form (currentWidth .longest) (drop at s) → f ≡ Got v m → v ≤ currentWidth .largest
+form-most s at f v m fit r is =
+    current-most v
+    (form-read (currentWidth .longest) (drop at s) v m (Bytes-drop s at (Bytes-slice s fit)) (sym r ∙ is) .small)
+
+pub form-word : (s : List ℕ) (at : ℕ) (f : Form) (v m : ℕ) → ((i : ℕ) → Fits w8 (getD s i 0))
+    → f ≡ form (currentWidth .longest) (drop at s) → f ≡ Got v m → v < 2 ^ 32
+form-word s at f v m fit r is = omega (arith, form-most s at f v m fit r is, current-word)
+
+pub number-got : (s : List ℕ) (at : ℕ) (f : Form) (v m : ℕ) → ((i : ℕ) → Fits w8 (getD s i 0))
+    → f ≡ form (currentWidth .longest) (drop at s) → f ≡ Got v m → found v (at + m) ≡ numberAt currentWidth s at
 unfolding numberAt
-number-refusal s at = placed-refused (length s) at (form longest (drop at s))
-
-number-placed : (s : List ℕ) (at v n : ℕ) → numberAt s at ≡ found v n → PlacedForm at (form longest (drop at s)) v n
-unfolding numberAt
-number-placed s at v n e = placed-found (length s) at (form longest (drop at s)) v n e
+number-got s at f v m fit r is =
+    sym (ap (placed currentWidth (length s) at) (sym r ∙ is)
+    ∙ placed-as currentWidth (length s) at v m (form-most s at f v m fit r is))
 
 -- ---- reading what was written, and writing what was read
 
-pub number-written-read : (s : List ℕ) (at v : ℕ) (rest : List ℕ) → v ≤ largest → drop at s ≡ numberBytes v ++ rest
-    → numberAt s at ≡ found v (at + length (numberBytes v))
+pub number-written-read : (s : List ℕ) (at v : ℕ) (rest : List ℕ) → v ≤ currentWidth .largest
+    → drop at s ≡ numberBytes v ++ rest → numberAt currentWidth s at ≡ found v (at + length (numberBytes v))
 unfolding numberAt numberBytes
 number-written-read s at v rest h e =
-    ap (λ (l : List ℕ). placed (length s) at (form longest l)) e
-    ∙ ap (placed (length s) at) (form-written 2 v rest (omega arith))
-    ∙ placed-as (length s) at v (length (encode longest v)) h
+    ap (λ (l : List ℕ). placed currentWidth (length s) at (form (currentWidth .longest) l)) e
+    ∙ ap (placed currentWidth (length s) at)
+    (form-written (currentWidth .longest) v rest current-some (current-room v h))
+    ∙ placed-as currentWidth (length s) at v (length (encode (currentWidth .longest) v)) h
 
 -- what is known where the number v was read at a place of s, with the place n just after it
 pub record ReadBack (s : List ℕ) (at v n : ℕ) : Type 0 where
   pub bytes : drop at s ≡ numberBytes v ++ drop n s
   pub next : n ≡ at + length (numberBytes v)
-  pub small : v ≤ largest
+  pub small : v ≤ currentWidth .largest
 
-pub number-read-written : (s : List ℕ) (at v n : ℕ) → Bytes s → numberAt s at ≡ found v n → ReadBack s at v n
+pub number-read-written : (s : List ℕ) (at v n : ℕ) → Bytes s → numberAt currentWidth s at ≡ found v n
+    → ReadBack s at v n
 unfolding numberBytes
 number-read-written s at v n h e =
-    let p : PlacedForm at (form longest (drop at s)) v n = number-placed s at v n e in
-    let r : FormRead longest (drop at s) v (p .bytes) =
-    form-read longest (drop at s) v (p .bytes) (Bytes-drop s at h) (p .is) in
+    let p = number-placed currentWidth s at v n e in
+    let r : FormRead (currentWidth .longest) (drop at s) v (p .bytes) =
+    form-read (currentWidth .longest) (drop at s) v (p .bytes) (Bytes-drop s at h) (p .is) in
     record {
       bytes =
-          r .bytes ∙ ap (λ (l : List ℕ). encode longest v ++ l)
+          r .bytes ∙ ap (λ (l : List ℕ). encode (currentWidth .longest) v ++ l)
           (drop-drop (p .bytes) at s ∙ ap (λ (i : ℕ). drop i s) (sym (p .next)));
       next = p .next ∙ ap (λ (m : ℕ). at + m) (r .next);
       small = p .small;
     }
 
--- ---- how far reading looks
-
--- no byte past the number, and at least one
-pub number-next-within : (s : List ℕ) (at v n : ℕ) → numberAt s at ≡ found v n → (n ≤ length s) × (at < n)
-number-next-within s at v n e =
-    let p : PlacedForm at (form longest (drop at s)) v n = number-placed s at v n e in
-    omega (arith, form-within longest (drop at s) v (p .bytes) (p .is), length-drop at s)
-
--- reading looks at no byte past the number
-pub number-looks-no-further : (s t : List ℕ) (at v n : ℕ) → take n s ≡ take n t → numberAt s at ≡ found v n
-    → numberAt t at ≡ found v n
-unfolding numberAt
-number-looks-no-further s t at v n q e =
-    let p : PlacedForm at (form longest (drop at s)) v n = number-placed s at v n e in
-    let same : take (p .bytes) (drop at s) ≡ take (p .bytes) (drop at t) =
-    take-drop at (p .bytes) s ∙ ap (drop at) (rw (p .next) at q) ∙ sym (take-drop at (p .bytes) t) in
-    ap (placed (length t) at) (form-no-further longest (drop at s) (drop at t) v (p .bytes) same (p .is))
-    ∙ placed-as (length t) at v (p .bytes) (p .small)
-    ∙ ap (found v) (sym (p .next))
-
 -- ---- how long a written number is
 
-pub number-bytes-length : (v : ℕ) → (1 ≤ length (numberBytes v)) × (length (numberBytes v) ≤ longest)
+pub number-bytes-length : (v : ℕ) → (1 ≤ length (numberBytes v)) × (length (numberBytes v) ≤ currentWidth .longest)
 unfolding numberBytes
-number-bytes-length v = (encode-some 2 v, encode-few longest v)
+number-bytes-length v = (encode-some (currentWidth .longest) v current-some, encode-few (currentWidth .longest) v)
 
 pub number-bytes-one : (v : ℕ) → v < 128 → numberBytes v ≡ v ∷ []
 unfolding numberBytes
-number-bytes-one v h = encode-last 2 v h
+number-bytes-one v h = encode-last _ v h
 
 pub number-bytes-length-two : (v : ℕ) → v < 16384 → length (numberBytes v) ≤ 2
 unfolding numberBytes
-number-bytes-length-two v h = encode-short 1 longest v h
+number-bytes-length-two v h = encode-short 1 (currentWidth .longest) v h
 
 -- the length, by the limits that it steps at
 pub number-length-one : (v : ℕ) → v < 128 → 1 ≡ length (numberBytes v)
@@ -159,63 +223,72 @@ number-length-one v h = sym (ap length (number-bytes-one v h))
 
 pub number-length-two : (v : ℕ) → 128 ≤ v → v < 16384 → 2 ≡ length (numberBytes v)
 unfolding numberBytes
-number-length-two v h l = omega (arith, encode-long 1 longest v (omega arith) h, encode-short 1 longest v l)
+number-length-two v h l =
+    omega (arith, encode-long 1 (currentWidth .longest) v (omega arith) h, encode-short 1 (currentWidth .longest) v l)
 
 pub number-length-three : (v : ℕ) → 16384 ≤ v → 3 ≡ length (numberBytes v)
 unfolding numberBytes
-number-length-three v h = omega (arith, encode-long 2 longest v (omega arith) h, encode-few longest v)
-
--- ---- reading a number from its form, as `read_number` does
-
-pub number-got : (s : List ℕ) (at : ℕ) (f : Form) (v m : ℕ) → ((i : ℕ) → Fits w8 (getD s i 0))
-    → f ≡ form longest (drop at s) → f ≡ Got v m → found v (at + m) ≡ numberAt s at
-unfolding numberAt
-number-got s at f v m fit r is =
-    let read = form-read longest (drop at s) v m (Bytes-drop s at (Bytes-slice s fit)) (sym r ∙ is) in
-    sym (ap (placed (length s) at) (sym r ∙ is) ∙ placed-as (length s) at v m (omega (arith, read .small)))
-
-pub number-ends : (s : List ℕ) (at : ℕ) (f : Form) → f ≡ form longest (drop at s) → f ≡ Ends
-    → refused inputEnds (length s) ≡ numberAt s at
-unfolding numberAt placed
-number-ends s at f r is = sym (ap (placed (length s) at) (sym r ∙ is))
-
-pub number-bad : (s : List ℕ) (at : ℕ) (f : Form) → f ≡ form longest (drop at s) → f ≡ Bad
-    → refused badForm at ≡ numberAt s at
-unfolding numberAt placed
-number-bad s at f r is = sym (ap (placed (length s) at) (sym r ∙ is))
+number-length-three v h =
+    omega (arith, encode-long 2 (currentWidth .longest) v (omega arith) h, encode-few (currentWidth .longest) v)
 
 -- ---- what writing a number does to a buffer
 
-pub number-too-large : (v : ℕ) (out : List ℕ) (at : ℕ) → largest < v
-    → _≡_ {A = Outcome ℕ × List ℕ} (numberWriting v out at) (refused badForm 0, out)
-unfolding numberWriting
-number-too-large v out at h = rw (lt-leb v largest h)
-
-pub number-lacks-room : (v : ℕ) (out : List ℕ) (at : ℕ) → v ≤ largest → length out < at + length (numberBytes v)
-    → _≡_ {A = Outcome ℕ × List ℕ} (numberWriting v out at) (refused bufferTooShort 0, out)
-unfolding numberWriting
-number-lacks-room v out at h r =
-    rw (le-leb v largest h, lt-leb (at + length (numberBytes v)) (length out) r)
-
-pub number-written : (v : ℕ) (out : List ℕ) (at : ℕ) → v ≤ largest → at + length (numberBytes v) ≤ length out
+pub number-written : (v : ℕ) (out : List ℕ) (at : ℕ) → v ≤ currentWidth .largest
+    → at + length (numberBytes v) ≤ length out
     → _≡_ {A = Outcome ℕ × List ℕ} (numberWriting v out at)
     (given (at + length (numberBytes v)), sets out at (numberBytes v))
-unfolding numberWriting
+unfolding numberWriting firstNo
 number-written v out at h r =
-    rw (le-leb v largest h, le-leb (at + length (numberBytes v)) (length out) r)
+    rw (le-leb v (currentWidth .largest) h, le-leb (at + length (numberBytes v)) (length out) r)
 
--- writing a number's groups, as `write_number` does
-pub number-groups : (v at bytes room : ℕ) → v ≤ largest → at ≤ room → bytes ≤ room - at → bytes ≡ length (numberBytes v)
-    → (0 < longest) × (v < 128 ^ longest) × (at + length (encode longest v) ≤ room)
-unfolding numberBytes
-number-groups v at bytes room h a r e = omega arith
+-- room at a place, as `has_room` tests it
+pub room-past : (len at bytes : ℕ) → len < at → false ≡ leb (at + bytes) len
+room-past len at bytes h = sym (lt-leb (at + bytes) len (omega arith))
 
-pub number-stored : (v : ℕ) (out out′ : List ℕ) (at bytes : ℕ) → v ≤ largest → at ≤ length out
-    → bytes ≤ length out - at → bytes ≡ length (numberBytes v)
-    → out′ ≡ sets out at (encode longest v) → _≡_ {A = Outcome ℕ × List ℕ} (given (at + bytes), out′)
-    (numberWriting v out at)
-unfolding numberBytes
-number-stored v out out′ at bytes h a r e w = rw (e, w) (sym (number-written v out at h (omega arith)))
+pub room-within : (len at bytes : ℕ) → at ≤ len → leb bytes (len - at) ≡ leb (at + bytes) len
+room-within len at bytes h =
+    by-test (leb bytes (len - at))
+    (λ fits. fits ∙ sym (le-leb (at + bytes) len (omega (arith, leb-true bytes (len - at) fits))))
+    (λ lacks. lacks ∙ sym (lt-leb (at + bytes) len (omega (arith, leb-false bytes (len - at) lacks))))
+
+-- the lines of `write_number`, one after the other
+pub number-asked : (v : ℕ) (out : List ℕ) (at : ℕ) {bytes : ℕ} {room : Bool} {o p : Outcome (Unit {0})}
+    → bytes ≡ length (numberBytes v) → room ≡ leb (at + bytes) (length out)
+    → o ≡ unless (leb v (currentWidth .largest)) badForm 0 → p ≡ (o >> unless room bufferTooShort 0)
+    → p ≡ firstNo (numberLines v out at)
+number-asked v out at {bytes} {room} {o} long fits first second =
+    second
+    ∙ asks-then ((leb v (currentWidth .largest), badForm) ∷ []) room bufferTooShort o
+    (first ∙ sym (asks-first _ badForm))
+    ∙ ap (λ (t : Bool). firstNo ((leb v (currentWidth .largest), badForm) ∷ (t, bufferTooShort) ∷ []))
+    (fits ∙ ap (λ (n : ℕ). leb (at + n) (length out)) long)
+
+-- and each way out of it, by what stands against it
+module _ (v : ℕ) (out : List ℕ) (at : ℕ) (x : Against) (asked : toldAgainst x ≡ firstNo (numberLines v out at)) where
+  pub number-unwritten : (r : Refusal) → x ≡ stands.Refused r
+      → _≡_ {A = Outcome ℕ × List ℕ} (refused (r .number) (r .place), out) (numberWriting v out at)
+  unfolding numberWriting
+  number-unwritten r is = rw (← asked, is)
+
+  module _ (bytes : ℕ) (none : x ≡ stands.Nothing) (long : bytes ≡ length (numberBytes v)) where
+    number-free : (v ≤ currentWidth .largest) × (at + length (numberBytes v) ≤ length out)
+    number-free =
+        let first = first-holds _ _ _ (sym asked ∙ ap toldAgainst none) in
+        let second = first-holds _ _ _ (first .1) in
+        (leb-true v (currentWidth .largest) (first .0), leb-true _ (length out) (second .0))
+
+    pub number-fits : at + bytes ≤ length out
+    number-fits = omega (arith, number-free, long)
+
+    pub number-groups : (0 < currentWidth .longest) × (v < 128 ^ (currentWidth .longest))
+        × (at + length (encode (currentWidth .longest) v) ≤ length out)
+    unfolding numberBytes
+    number-groups = (current-some, current-room v (number-free .0), number-free .1)
+
+    pub number-stored : (out′ : List ℕ) → out′ ≡ sets out at (encode (currentWidth .longest) v)
+        → _≡_ {A = Outcome ℕ × List ℕ} (given (at + bytes), out′) (numberWriting v out at)
+    unfolding numberBytes
+    number-stored out′ wrote = rw (long, wrote) (sym (number-written v out at (number-free .0) (number-free .1)))
 
 -- ---- answers and what they tell
 

@@ -3,15 +3,17 @@
 -- three bytes (2,097,151). Only the shortest form is allowed: the last byte is 0 only if it is the only byte."
 --     TopBit b             the top bit of the byte b is set
 --     groups bs            what the bytes bs are worth: groups of seven bits, lowest group first, one byte a group
---     NumberForm s at o    what the bytes of s from place `at` on come to as a number:
+--     NumberForm w s at o  what the bytes of s from place `at` on come to as a number of the width w:
 --       whole              bytes with the top bit set, fewer than the longest form has, then a last one without it,
---                          which is 0 only if it is the only byte: what they are worth, and the place just after them
+--                          which is 0 only if it is the only byte: what they are worth, which is not above the largest
+--                          value, and the place just after them
 --       cut                1, "input ends inside or before a wanted number", at the "input length": the bytes up to
 --                          the input's end, none or fewer than the longest form has, all have the top bit set
 --       too-long           2, "number longer than three bytes", at "its first byte": the top bit is set on as many
 --                          bytes as the longest form has
 --       not-shortest       2, "or not shortest": the last byte is 0, and not the only byte
---     FormExactly          over the call: it answers o exactly if the bytes come to o
+--       too-large          2, where the bytes are worth more than the largest value. At the current width no bytes are
+--     FormExactly          over the call: it answers o exactly if the bytes come to o, at the current width
 -- A slice's bytes are below 256 (`Bytes`); lists do not say so by themselves.
 use Prim.Native.Nat.{ℕ, _+_, _*_, _%_, _<_, _≤_}
 use mathlib.Core.Path.{_≡_}
@@ -22,7 +24,7 @@ use Rattle.lists.specs.Members.{All}
 use Rattle.number.specs.declared.Number.{Number}
 use Rattle.refusals.specs.Outcomes.{Outcome, refused, Found, found}
 use Rattle.refusals.specs.Refusals.{inputEnds, badForm}
-use Rattle.number.specs.Numbers.{longest, Bytes, toldNumber, ReadsNumber}
+use Rattle.number.specs.Numbers.{Width, currentWidth, Bytes, toldNumber, ReadsNumber}
 
 abbrev pub TopBit : ℕ → Type 0
 TopBit b = 128 ≤ b
@@ -31,18 +33,21 @@ unfoldable pub groups : List ℕ → ℕ
 groups [] = 0
 groups (b ∷ bs) = b % 128 + 128 * groups bs
 
-pub data NumberForm (s : List ℕ) (at : ℕ) : Outcome (Found ℕ) → Type 0 where
-  whole : (bs rest : List ℕ) (b : ℕ) → drop at s ≡ bs ++ (b ∷ rest) → All TopBit bs → length bs < longest → b < 128
-      → (b ≡ 0 → bs ≡ []) → NumberForm s at (found (groups (bs ++ (b ∷ []))) (at + length (bs ++ (b ∷ []))))
-  cut : All TopBit (drop at s) → length (drop at s) < longest → NumberForm s at (refused inputEnds (length s))
-  too-long : (bs rest : List ℕ) → drop at s ≡ bs ++ rest → All TopBit bs → length bs ≡ longest
-      → NumberForm s at (refused badForm at)
+pub data NumberForm (w : Width) (s : List ℕ) (at : ℕ) : Outcome (Found ℕ) → Type 0 where
+  whole : (bs rest : List ℕ) (b : ℕ) → drop at s ≡ bs ++ (b ∷ rest) → All TopBit bs → length bs < w .longest → b < 128
+      → (b ≡ 0 → bs ≡ []) → groups (bs ++ (b ∷ [])) ≤ w .largest
+      → NumberForm w s at (found (groups (bs ++ (b ∷ []))) (at + length (bs ++ (b ∷ []))))
+  cut : All TopBit (drop at s) → length (drop at s) < w .longest → NumberForm w s at (refused inputEnds (length s))
+  too-long : (bs rest : List ℕ) → drop at s ≡ bs ++ rest → All TopBit bs → length bs ≡ w .longest
+      → NumberForm w s at (refused badForm at)
   not-shortest : (bs rest : List ℕ) → drop at s ≡ bs ++ (0 ∷ rest) → All TopBit bs → 0 < length bs
-      → length bs < longest → NumberForm s at (refused badForm at)
+      → length bs < w .longest → NumberForm w s at (refused badForm at)
+  too-large : (bs rest : List ℕ) (b : ℕ) → drop at s ≡ bs ++ (b ∷ rest) → All TopBit bs → length bs < w .longest
+      → b < 128 → (b ≡ 0 → bs ≡ []) → w .largest < groups (bs ++ (b ∷ [])) → NumberForm w s at (refused badForm at)
 
 abbrev pub FormExactly : Type 0
 FormExactly =
     (s : List ℕ) (at : ℕ) (r : Number) (o : Outcome (Found ℕ))
     → Bytes s
     → ReadsNumber s at r
-    → toldNumber r ≡ o ↔ NumberForm s at o
+    → toldNumber r ≡ o ↔ NumberForm currentWidth s at o

@@ -1,19 +1,25 @@
 -- The file's numbers. Rule book, "The board file": "A number is in groups of seven bits, lowest group first, one byte a
 -- group; the top bit is set on every byte but the last. At most three bytes (2,097,151). Only the shortest form is
 -- allowed: the last byte is 0 only if it is the only byte."
---     longest, largest                the longest form, in bytes, and the largest value
+--     Width                           how wide a file's numbers are: `longest`, the longest form, in bytes, and
+--                                     `largest`, the largest value
+--     currentWidth                    the width of the rule book as it stands
 --     Bytes s                         every element of s is a byte
 --     below g f                       the group g below the rest of a number, whose form is f
 --     form k s                        the number of at most k bytes that the bytes s begin with: got its value and
 --                                     length; ends, if s ends inside or before it; bad, if it is longer or not shortest
---     placed len at f                 the form f at place `at` of an input of len bytes, as the rule book answers it
---     numberAt s at                   the number at place `at` of the input s: its value and the next place, or 1 or 2
+--     placed w len at f               the form f at place `at` of an input of len bytes, as the rule book answers it
+--                                     where numbers have the width w
+--     numberAt w s at                 the number of the width w at place `at` of the input s: its value and the next
+--                                     place, or 1 or 2
 --     encode k v                      the shortest form of v, where it has at most k bytes; else the k lowest groups of
 --                                     v, each with its top bit set
---     numberBytes v                   the bytes that v is written as: its shortest form; three bytes that are no number
---                                     where v is above the largest, which is not written
---     numberWriting v out at          what writing v into the buffer `out` at a place answers, and the buffer
---                                     afterwards
+--     numberBytes v                   the bytes that v is written as: its shortest form; bytes that are no number where
+--                                     v is above the largest, which is not written
+--     numberLines v out at            the lines of writing v into the buffer `out` at a place: 2 where v is too large
+--                                     for a number, then 16 where its bytes have no room there
+--     numberWriting v out at          what that answers, and the buffer afterwards: its bytes stand at the place and
+--                                     the rest stays
 --     toldNumber r                    an answer to reading in the rule book's numbers
 --     toldNumberWritten r             an answer to writing in the rule book's numbers
 --     ReadsNumber s at r              promise: `read_number` at place `at` of the bytes s answers r
@@ -35,12 +41,14 @@ use Rattle.number.specs.declared.NumberWritten.{NumberWritten}
 use Rattle.number.specs.declared.NumberWritten.the-variants.{Next}
 use Rattle.refusals.specs.Outcomes.{Outcome, refused, given, Found, found}
 use Rattle.refusals.specs.Refusals.{inputEnds, badForm, bufferTooShort}
+use Rattle.refusals.specs.Order.{Order, firstNo, answering}
 
-abbrev pub longest : ℕ
-longest = 3
+pub record Width : Type 0 where
+  pub longest : ℕ
+  pub largest : ℕ
 
-abbrev pub largest : ℕ
-largest = 2_097_151
+abbrev pub currentWidth : Width
+currentWidth = record { longest = 3; largest = 2_097_151 }
 
 abbrev pub Bytes : List ℕ → Type 0
 Bytes s = (i : ℕ) → getD s i 0 < 256
@@ -58,30 +66,29 @@ form zero s = Bad
 form (suc k) [] = Ends
 form (suc k) (b ∷ s) = cond (ltb b 128) (Got b 1) (below (b - 128) (form k s))
 
-unfoldable pub placed : ℕ → ℕ → Form → Outcome (Found ℕ)
-placed len at (Got v n) = cond (leb v largest) (found v (at + n)) (refused badForm at)
-placed len at Ends = refused inputEnds len
-placed len at Bad = refused badForm at
+unfoldable pub placed : Width → ℕ → ℕ → Form → Outcome (Found ℕ)
+placed w len at (Got v n) = cond (leb v (w .largest)) (found v (at + n)) (refused badForm at)
+placed w len at Ends = refused inputEnds len
+placed w len at Bad = refused badForm at
 
-unfoldable pub numberAt : List ℕ → ℕ → Outcome (Found ℕ)
-numberAt s at = placed (length s) at (form longest (drop at s))
+unfoldable pub numberAt : Width → List ℕ → ℕ → Outcome (Found ℕ)
+numberAt w s at = placed w (length s) at (form (w .longest) (drop at s))
 
 unfoldable pub encode : ℕ → ℕ → List ℕ
 encode zero v = []
 encode (suc k) v = cond (ltb v 128) (v ∷ []) ((128 + v % 128) ∷ encode k (v / 128))
 
 unfoldable pub numberBytes : ℕ → List ℕ
-numberBytes v = encode longest v
+numberBytes v = encode (currentWidth .longest) v
 
--- refused by 2 where v is too large for a number, then by 16 where its bytes have no room there; else they stand at the
--- place and the rest stays
+abbrev pub numberLines : ℕ → List ℕ → ℕ → Order
+numberLines v out at =
+    (leb v (currentWidth .largest), badForm) ∷ (leb (at + length (numberBytes v)) (length out), bufferTooShort) ∷ []
+
 unfoldable pub numberWriting : ℕ → List ℕ → ℕ → Outcome ℕ × List ℕ
 numberWriting v out at =
-    cond (leb v largest)
-    (cond (leb (at + length (numberBytes v)) (length out))
-    (given (at + length (numberBytes v)), sets out at (numberBytes v))
-    (refused bufferTooShort 0, out))
-    (refused badForm 0, out)
+    answering (firstNo (numberLines v out at)) (λ n p. (refused n p, out))
+    (λ _. (given (at + length (numberBytes v)), sets out at (numberBytes v)))
 
 abbrev pub toldNumber : Number → Outcome (Found ℕ)
 toldNumber (Read v n) = found v n
@@ -92,7 +99,7 @@ toldNumberWritten (Next n) = given n
 toldNumberWritten (NumberWritten.Refused r) = refused (r .number) (r .place)
 
 abbrev pub ReadsNumber : List ℕ → ℕ → Number → Type 0
-ReadsNumber s at r = toldNumber r ≡ numberAt s at
+ReadsNumber s at r = toldNumber r ≡ numberAt currentWidth s at
 
 abbrev pub NumberLength : ℕ → ℕ → Type 0
 NumberLength v r = r ≡ length (numberBytes v)

@@ -1,9 +1,11 @@
 // The file's numbers: groups of seven bits, lowest group first, one byte a group, in the shortest form only.
 ghost use mathlib.Core.Path.{_≡_};
 ghost use Prim.Native.Nat.{_+_, _≤_, _<_, _^_};
+ghost use lib.Dec.{leb};
 ghost use lib.ListN.{length, drop};
 ghost use lib.Seq.{sets};
-ghost use Rattle.number.specs.Numbers.{longest, form, encode, ReadsNumber, NumberLength, WritesNumber};
+ghost use Rattle.number.specs.Numbers.{currentWidth, form, encode, ReadsNumber, NumberLength, WritesNumber};
+use refusals::Against;
 use refusals::BAD_FORM;
 use refusals::BUFFER_TOO_SHORT;
 use refusals::INPUT_ENDS;
@@ -21,9 +23,10 @@ pub enum NumberWritten {
     Refused(Refusal),
 }
 
-// What some bytes are as a number: its value and how many bytes it takes; cut; or no number.
+// What some bytes are as a number: its value and how many bytes it takes; cut; or no number. The value has room for
+// every group that a number's bytes can have, though not each of them is a number.
 enum Form {
-    Got(u32, usize),
+    Got(u64, usize),
     Ends,
     Bad,
 }
@@ -35,7 +38,7 @@ const LARGEST: u32 = 2_097_151;
 
 // The number of at most `left` bytes at a place.
 fn read_form(s: &[u8], at: usize, left: usize) -> Form
-    requires { ⌜ left ≤ longest ⌝ }
+    requires { ⌜ left ≤ currentWidth .longest ⌝ }
     ensures { λ r. ⌜ r ≡ form left (drop at (now (s .entry))) ⌝ }
 {
     if left == 0 {
@@ -44,7 +47,7 @@ fn read_form(s: &[u8], at: usize, left: usize) -> Form
     if s.len() <= at {
         return Form::Ends;
     }
-    let group = bits::wide(s[at]);
+    let group = bits::wide(s[at]) as u64;
     if group < 128 {
         return Form::Got(group, 1);
     }
@@ -63,7 +66,7 @@ pub fn read_number(s: &[u8], at: usize) -> Number
     ensures { λ r. ⌜ ReadsNumber (now (s .entry)) at r ⌝ }
 {
     match read_form(s, at, LONGEST) {
-        Form::Got(value, bytes) => Number::Read(value, at + bytes),
+        Form::Got(value, bytes) => Number::Read(value as u32, at + bytes),
         Form::Ends => Number::Refused(Refusal {
             number: INPUT_ENDS,
             place: s.len(),
@@ -101,29 +104,30 @@ fn write_groups(value: u32, left: usize, out: &mut [u8], at: usize)
     }
 }
 
+// Whether so many bytes have room at a place of a buffer of `len` bytes.
+fn has_room(len: usize, at: usize, bytes: usize) -> bool
+    ensures { λ r. ⌜ r ≡ leb (at + bytes) len ⌝ }
+{
+    if len < at {
+        return false;
+    }
+    bytes <= len - at
+}
+
 // Writes a number in its shortest form at a place: 2 if it is too large for a number, then 16 if it has no room there.
 pub fn write_number(value: u32, out: &mut [u8], at: usize) -> NumberWritten
     ensures { λ r. ⌜ WritesNumber value (now (out .entry)) at r (now (out .exit)) ⌝ }
 {
-    if LARGEST < value {
-        return NumberWritten::Refused(Refusal {
-            number: BAD_FORM,
-            place: 0,
-        });
-    }
     let bytes = number_length(value);
-    if out.len() < at {
-        return NumberWritten::Refused(Refusal {
-            number: BUFFER_TOO_SHORT,
-            place: 0,
-        });
+    let room = has_room(out.len(), at, bytes);
+    let against = Against::Nothing
+        .unless(value <= LARGEST, BAD_FORM)
+        .unless(room, BUFFER_TOO_SHORT);
+    match against {
+        Against::Refused(refusal) => NumberWritten::Refused(refusal),
+        Against::Nothing => {
+            write_groups(value, LONGEST, out, at);
+            NumberWritten::Next(at + bytes)
+        }
     }
-    if out.len() - at < bytes {
-        return NumberWritten::Refused(Refusal {
-            number: BUFFER_TOO_SHORT,
-            place: 0,
-        });
-    }
-    write_groups(value, LONGEST, out, at);
-    NumberWritten::Next(at + bytes)
 }

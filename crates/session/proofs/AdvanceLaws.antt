@@ -14,6 +14,7 @@ use Rattle.refusals.specs.Refusals.{noSuchName}
 use Rattle.number.specs.declared.Number.{Number}
 use Rattle.number.specs.declared.Number.the-variants as number-was
 use Rattle.number.specs.Numbers.{ReadsNumber}
+use Rattle.board_reader.specs.Editions.{currentEdition}
 use Rattle.board_reader.specs.Reading.{longestInput}
 use Rattle.board_reader.proofs.FieldLaws.{wanted-refused, wanted-fails, wanted-passes, told-found, told-refused}
 use Rattle.events.specs.declared.Event.{Event}
@@ -32,20 +33,20 @@ use Rattle.session.specs.Carried.{nextOf, toldAhead, toldNext}
 -- ---- reading an event: x is what reading its number came to
 
 module _ (n : ℕ) (s : List ℕ) (at : ℕ) (x : Number) (read : ReadsNumber s at x) where
-  pub event-at-refused : (q : Refusal) → x ≡ number-was.Refused q → refused (q .number) (q .place) ≡ eventAt n s at
+  pub event-at-refused : (q : Refusal) → x ≡ number-was.Refused q → refused (q .number) (q .place) ≡ eventAt currentEdition n s at
   unfolding eventAt
-  event-at-refused q is = rw (wanted-refused _ noSuchName s at _ _ (told-refused _ x q is read))
+  event-at-refused q is = rw (wanted-refused currentEdition _ noSuchName s at _ _ (told-refused _ x q is read))
 
   pub event-at-no-name : (v next : ℕ) → x ≡ number-was.Read v next → n ≤ v / 2
-      → refused noSuchName at ≡ eventAt n s at
+      → refused noSuchName at ≡ eventAt currentEdition n s at
   unfolding eventAt
   event-at-no-name v next is beyond =
-      rw (wanted-fails _ noSuchName s at v next (told-found _ x v next is read) (le-ltb (v / 2) n beyond))
+      rw (wanted-fails currentEdition _ noSuchName s at v next (told-found _ x v next is read) (le-ltb (v / 2) n beyond))
 
-  pub event-at-found : (v next : ℕ) → x ≡ number-was.Read v next → v / 2 < n → found (eventOf v) next ≡ eventAt n s at
+  pub event-at-found : (v next : ℕ) → x ≡ number-was.Read v next → v / 2 < n → found (eventOf v) next ≡ eventAt currentEdition n s at
   unfolding eventAt
   event-at-found v next is below =
-      rw (wanted-passes _ noSuchName s at v next (told-found _ x v next is read) (lt-ltb (v / 2) n below))
+      rw (wanted-passes currentEdition _ noSuchName s at v next (told-found _ x v next is read) (lt-ltb (v / 2) n below))
 
 -- ---- the number of the next event
 
@@ -77,23 +78,23 @@ goes-on-told x e at n is = rw is
 -- ---- the next event
 
 module _ (h : Head) (a : Ahead) (s : List ℕ) where
-  pub event-none : length s ≤ a .place → _≡_ {A = Ahead × Coming} (a, no-line) (nextEvent h a s)
+  pub event-none : length s ≤ a .place → _≡_ {A = Ahead × Coming} (a, no-line) (nextEvent currentEdition h a s)
   unfolding nextEvent
   event-none done = rw (le-leb (length s) (a .place) done)
 
   -- an event is there, and x is what reading it came to
   module _ (x : EventRead) (there : a .place < length s)
-      (read : toldEventRead x ≡ eventAt (h .board .counts .buttons) s (a .place)) where
-    event-by : makes h a (toldEventRead x) ≡ nextEvent h a s
+      (read : toldEventRead x ≡ eventAt currentEdition (h .board .counts .buttons) s (a .place)) where
+    event-by : makes h a (toldEventRead x) ≡ nextEvent currentEdition h a s
     unfolding nextEvent
     event-by = rw (lt-leb (length s) (a .place) there, read)
 
-    pub event-refused : (q : Refusal) → x ≡ event-was.Refused q → closes a (q .number) (q .place) ≡ nextEvent h a s
+    pub event-refused : (q : Refusal) → x ≡ event-was.Refused q → closes a (q .number) (q .place) ≡ nextEvent currentEdition h a s
     unfolding makes
     event-refused q is = ap (λ (y : EventRead). makes h a (toldEventRead y)) (sym is) ∙ event-by
 
     pub event-made : (v : Event) (next : ℕ) (y : Shown) → x ≡ event-was.Read v next
-        → y ≡ eventLine (h .board) (a .event) (a .state) v (h .allowance) → goesOn (a .event) y next ≡ nextEvent h a s
+        → y ≡ eventLine (h .board) (a .event) (a .state) v (h .allowance) → goesOn (a .event) y next ≡ nextEvent currentEdition h a s
     unfolding makes
     event-made v next y is told =
         ap (λ (z : Shown). goesOn (a .event) z next) told
@@ -103,19 +104,19 @@ module _ (h : Head) (a : Ahead) (s : List ℕ) where
 
 module _ (h : Head) (a : code-ahead.Ahead) (s : List ℕ) where
   pub next-first : (y : Shown) → a .stage ≡ stage.First → y ≡ ranLine (h .board) (a .event) (a .state) (h .allowance)
-      → goesOn (a .event) y (a .place) ≡ nextOf h (toldAhead a) s
+      → goesOn (a .event) y (a .place) ≡ nextOf currentEdition h (toldAhead a) s
   unfolding nextOf nextAt
   next-first y is told = rw (told, is)
 
-  pub next-events : a .stage ≡ stage.Events → nextEvent h (toldAhead a) s ≡ nextOf h (toldAhead a) s
+  pub next-events : a .stage ≡ stage.Events → nextEvent currentEdition h (toldAhead a) s ≡ nextOf currentEdition h (toldAhead a) s
   unfolding nextOf nextAt
   next-events is = rw is
 
   pub next-refusing : (q : Refusal) → a .stage ≡ stage.Refused q
-      → closes (toldAhead a) (q .number) (q .place) ≡ nextOf h (toldAhead a) s
+      → closes (toldAhead a) (q .number) (q .place) ≡ nextOf currentEdition h (toldAhead a) s
   unfolding nextOf nextAt
   next-refusing q is = rw is
 
-  pub next-over : a .stage ≡ stage.Over → _≡_ {A = Ahead × Coming} (toldAhead a, no-line) (nextOf h (toldAhead a) s)
+  pub next-over : a .stage ≡ stage.Over → _≡_ {A = Ahead × Coming} (toldAhead a, no-line) (nextOf currentEdition h (toldAhead a) s)
   unfolding nextOf nextAt
   next-over is = rw is

@@ -12,6 +12,7 @@ use Rattle.bits.proofs.BoolLaws.{by-test}
 use Rattle.refusals.specs.Outcomes.{given}
 use Rattle.refusals.specs.Refusals.{bufferTooShort}
 use Rattle.refusals.proofs.OutcomeLaws.{refused-never}
+use Rattle.board_reader.specs.Editions.{currentEdition}
 use Rattle.lines.specs.Lines.{Line, lineText, longestLine}
 use Rattle.lines.proofs.LineLaws.{line-length-most}
 use Rattle.session.specs.declared.Session as code-session
@@ -124,6 +125,6 @@ module _ (z : code-session.Session) (s out out′ : List ℕ) (r : code-handed.H
       let c = came n is in
       (
         c .fits,
-        next-less (headOf (toldSession z)) (toldAhead (z .ahead)) (toldAhead (r .session .ahead)) s (c .its-line)
+        next-less currentEdition (headOf (toldSession z)) (toldAhead (z .ahead)) (toldAhead (r .session .ahead)) s (c .its-line)
             (c .next),
       )

@@ -15,6 +15,7 @@ use types.Run.{OneOf}
 use Rattle.bits.proofs.BoolLaws.{by-test}
 use Rattle.refusals.specs.Outcomes.{Outcome, given, refused}
 use Rattle.refusals.specs.Refusals.{bufferTooShort}
+use Rattle.board_reader.specs.Editions.{currentEdition}
 use Rattle.lines.specs.Lines.{Line, lineText, longestLine}
 use Rattle.lines.proofs.LineLaws.{line-length-some, line-length-most, line-room, line-short}
 use Rattle.session.specs.declared.Session as code-session
@@ -94,9 +95,9 @@ filled-none h a s out =
 data Ways (h : Head) (a : Ahead) (s p : List ℕ) : Type 0 where
   no-room : length p < longestLine
       → lineHanded h a s p ≡ record { ahead = a; answer = refused bufferTooShort 0; out = p } → Ways h a s p
-  no-more : (y : Ahead) → longestLine ≤ length p → nextOf h a s ≡ (y, no-line)
+  no-more : (y : Ahead) → longestLine ≤ length p → nextOf currentEdition h a s ≡ (y, no-line)
       → lineHanded h a s p ≡ record { ahead = y; answer = given nothing; out = p } → Ways h a s p
-  one-line : (y : Ahead) (l : Line) → longestLine ≤ length p → nextOf h a s ≡ (y, line l)
+  one-line : (y : Ahead) (l : Line) → longestLine ≤ length p → nextOf currentEdition h a s ≡ (y, line l)
       → lineHanded h a s p
       ≡ record {
         ahead = y;
@@ -106,17 +107,17 @@ data Ways (h : Head) (a : Ahead) (s p : List ℕ) : Type 0 where
       → Ways h a s p
 
 module _ (h : Head) (a : Ahead) (s p : List ℕ) where
-  handed-by : longestLine ≤ length p → (x : Ahead × Coming) → nextOf h a s ≡ x → lineHanded h a s p ≡ handedBy x p
+  handed-by : longestLine ≤ length p → (x : Ahead × Coming) → nextOf currentEdition h a s ≡ x → lineHanded h a s p ≡ handedBy x p
   handed-by room x is = sym (line-handed-room h a s p room) ∙ ap (λ (y : Ahead × Coming). handedBy y p) is
 
-  room-ways : longestLine ≤ length p → (x : Ahead × Coming) → nextOf h a s ≡ x → Ways h a s p
+  room-ways : longestLine ≤ length p → (x : Ahead × Coming) → nextOf currentEdition h a s ≡ x → Ways h a s p
   unfolding handedBy
   room-ways room (y, no-line) is = no-more y room is (handed-by room _ is)
   room-ways room (y, line l) is = one-line y l room is (handed-by room _ is)
 
   ways : Ways h a s p
   ways =
-      by-test (leb longestLine (length p)) (λ room. room-ways (leb-true longestLine (length p) room) (nextOf h a s) refl)
+      by-test (leb longestLine (length p)) (λ room. room-ways (leb-true longestLine (length p) room) (nextOf currentEdition h a s) refl)
       (λ short.
       let less = leb-false longestLine (length p) short in
       no-room less (sym (line-handed-short h a s p less)))
@@ -204,7 +205,7 @@ module _ (h : Head) (a₀ : Ahead) (s out₀ : List ℕ) (a : Ahead) (out : List
   room-left = ap length rest-lent ∙ length-drop used out₀
 
   -- the lines that fit in what is left, where x comes next
-  left-next : longestLine ≤ length (drop used out) → (x : Ahead × Coming) → nextOf h a s ≡ x
+  left-next : longestLine ≤ length (drop used out) → (x : Ahead × Coming) → nextOf currentEdition h a s ≡ x
       → f .rest ≡ fitsOn x (λ y l. fitting (f .most - 1) h y s (length out₀ - used - length (lineText l)))
   left-next room x is =
       sym (f .left)
@@ -212,7 +213,7 @@ module _ (h : Head) (a₀ : Ahead) (s out₀ : List ℕ) (a : Ahead) (out : List
 
   -- ---- a line is added
 
-  module _ (y : Ahead) (l : Line) (room : longestLine ≤ length (drop used out)) (is : nextOf h a s ≡ (y, line l)) where
+  module _ (y : Ahead) (l : Line) (room : longestLine ≤ length (drop used out)) (is : nextOf currentEdition h a s ≡ (y, line l)) where
     bytes-on : bytesOf (f .lines ++ (l ∷ [])) ≡ bytesOf (f .lines) ++ lineText l
     bytes-on = bytes-append (f .lines) (l ∷ []) ∙ ap (λ (x : List ℕ). bytesOf (f .lines) ++ x) (bytes-one l)
 

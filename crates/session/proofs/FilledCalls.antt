@@ -12,6 +12,7 @@ use borrow.Author.Tests.{leb-true, leb-false}
 use Rattle.bits.proofs.BoolLaws.{by-test}
 use Rattle.refusals.specs.Outcomes.{given}
 use Rattle.refusals.proofs.OutcomeLaws.{refused-never}
+use Rattle.board_reader.specs.Editions.{currentEdition}
 use Rattle.lines.specs.Lines.{Line, longestLine}
 use Rattle.session.specs.declared.Session as code-session
 use Rattle.session.specs.declared.Handed as code-handed
@@ -183,12 +184,12 @@ module _ (z : code-session.Session) (s out out′ : List ℕ) (r : code-handed.H
       let goes = fitting-next _ (toldAhead (z .ahead)) s (length out) (length out) room (omega arith) (w, no-line) next in
       ap (λ (h : Handed). h .session .ahead) (filled-by nothing (ap toldHandOut is) _ fits)
       ∙ ap (λ (x : Ahead × List Line). x .0) (sym fits ∙ goes)
-      ∙ none-same _ (toldAhead (z .ahead)) w s next
+      ∙ none-same currentEdition _ (toldAhead (z .ahead)) w s next
 
   none-left : r .answer ≡ said.Over → nextIn (r .session) s .1 ≡ no-line
   none-left is =
       let stays = stays-by is fits-in refl (nextIn z s) refl in
-      ap₂ (λ (h : Head) (a : Ahead). nextOf h a s .1) filled-head stays ∙ filled-over is (nextIn z s) refl
+      ap₂ (λ (h : Head) (a : Ahead). nextOf currentEdition h a s .1) filled-head stays ∙ filled-over is (nextIn z s) refl
 
   pub filled-ends : longestLine ≤ length out → ((n : ℕ) → r .answer ≡ said.Written n → ⊥)
       → nextIn (r .session) s .1 ≡ no-line

@@ -7,6 +7,7 @@ use Rattle.refusals.specs.Outcomes.{Outcome, refused}
 use Rattle.refusals.specs.Refusals.{bufferTooShort}
 use Rattle.lines.specs.declared.Line.{Line}
 use Rattle.lines.specs.declared.LineWritten.{LineWritten}
+use Rattle.board_reader.specs.Editions.{currentEdition}
 use Rattle.lines.specs.Lines.{longestLine, lineWriting, toldLine, toldLineWritten}
 use Rattle.lines.proofs.LineLaws.{line-room, line-short, line-written}
 use Rattle.session.specs.declared.Session.{Session}
@@ -27,12 +28,12 @@ module _ (h : Head) (a : Ahead) (s out : List ℕ) where
   unfolding lineHanded
   line-handed-short short = rw (line-short out short)
 
-  pub line-handed-room : longestLine ≤ length out → handedBy (nextOf h a s) out ≡ lineHanded h a s out
+  pub line-handed-room : longestLine ≤ length out → handedBy (nextOf currentEdition h a s) out ≡ lineHanded h a s out
   unfolding lineHanded
   line-handed-room room = rw (line-room out room)
 
   -- the buffer has room, and x is what comes next
-  module _ (x : Next) (room : longestLine ≤ length out) (next : toldNext x ≡ nextOf h a s) where
+  module _ (x : Next) (room : longestLine ≤ length out) (next : toldNext x ≡ nextOf currentEdition h a s) where
     line-handed-by : (c : Coming) → toldComing (x .coming) ≡ c
         → handedBy (toldAhead (x .ahead), c) out ≡ lineHanded h a s out
     line-handed-by c is =

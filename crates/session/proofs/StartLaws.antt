@@ -6,13 +6,14 @@ use Rattle.refusals.specs.declared.Refusal.{Refusal}
 use Rattle.number.specs.declared.Number as number
 use Rattle.number.specs.declared.Number.the-variants as number-was
 use Rattle.refusals.specs.Outcomes.{Outcome, refused, _>>=_}
-use Rattle.number.specs.Numbers.{numberAt, toldNumber, ReadsNumber}
+use Rattle.number.specs.Numbers.{currentWidth, numberAt, toldNumber, ReadsNumber}
 use Rattle.board.specs.declared.Board.{Board}
 use Rattle.board.specs.Parts.{emptyBoard}
 use Rattle.state.specs.declared.State.{State}
 use Rattle.state.specs.States.{freshState}
 use Rattle.board_reader.specs.declared.BoardRead.{BoardRead}
 use Rattle.board_reader.specs.declared.ReadAnswer.the-variants as board-was
+use Rattle.board_reader.specs.Editions.{currentEdition}
 use Rattle.board_reader.specs.Reading.{toldReadAnswer, Reads}
 use Rattle.session.specs.declared.Stage.the-variants as stage
 use Rattle.session.specs.Sessions.{withAllowance, headAt}
@@ -46,20 +47,20 @@ module _ (b : Board) (x : number.Number) where
 
 -- the head of a session, by what reading its board came to
 module _ (s : List ℕ) (r : BoardRead) (read : Reads s r) where
-  head-by : headAt s ≡ (toldReadAnswer (r .answer) >>= (λ at. withAllowance (r .board) (numberAt s at)))
+  head-by : headAt currentEdition s ≡ (toldReadAnswer (r .answer) >>= (λ at. withAllowance (r .board) (numberAt currentWidth s at)))
   unfolding headAt
-  head-by = ap (λ (x : Board × Outcome ℕ). x .1 >>= (λ at. withAllowance (x .0) (numberAt s at))) (sym read)
+  head-by = ap (λ (x : Board × Outcome ℕ). x .1 >>= (λ at. withAllowance (x .0) (numberAt currentWidth s at))) (sym read)
 
   pub beginning-board : (at : ℕ) (x : number.Number) → r .answer ≡ board-was.Read at → ReadsNumber s at x
       → begunFrom (withAllowance (r .board) (toldNumber x)) ≡ beginning s
   unfolding beginning
   beginning-board at x is number =
-      let head : headAt s ≡ withAllowance (r .board) (toldNumber x) = head-by ∙ rw (is, number) refl in
+      let head : headAt currentEdition s ≡ withAllowance (r .board) (toldNumber x) = head-by ∙ rw (is, number) refl in
       ap begunFrom (sym head)
 
   pub beginning-refused : (q : Refusal) → r .answer ≡ board-was.Refused q
       → begunFrom (refused (q .number) (q .place)) ≡ beginning s
   unfolding beginning
   beginning-refused q is =
-      let head : headAt s ≡ refused (q .number) (q .place) = head-by ∙ rw is refl in
+      let head : headAt currentEdition s ≡ refused (q .number) (q .place) = head-by ∙ rw is refl in
       ap begunFrom (sym head)

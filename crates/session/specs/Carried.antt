@@ -7,7 +7,8 @@
 --     headWith b w, headOf z      the head of board b and allowance w; that of the session z
 --     onward z a                  the session z with a ahead
 --     freshAhead at k             what is ahead at the stage k before the first run, with the first event at a place
---     begunFrom o, beginning s    the session that begins with the head o; with the head of the input s
+--     begunFrom o, beginning s    the session that begins with the head o; with the head of the input s by the current
+--                                 edition
 --     Coming                      the next line, or none
 --     following e                 the number after e. It stands still past the longest input, where no session comes:
 --                                 each event takes a byte
@@ -15,14 +16,16 @@
 --     closes a n p                the session with a ahead tells the refusal n at p, and is over
 --     makes h a o                 the session makes the event o and tells of it; where its number is refused, it tells
 --                                 that and is over
---     nextEvent h a s             it tells of the event at its place of the input s; at the input's end nothing comes
---     nextAt k h a s              its next line at the stage k
---     nextOf h a s                the next line of the session with the head h and a ahead on the input s, and what is
+--     nextEvent ed h a s          it tells of the event at its place of the input s, by the edition ed; at the input's
+--                                 end nothing comes
+--     nextAt ed k h a s           its next line at the stage k
+--     nextOf ed h a s             the next line of the session with the head h and a ahead on the input s, and what is
 --                                 ahead after it
 --     toldStage, toldAhead        the code's stage and what is ahead in these words
 --     toldSession                 the code's session in these words
 --     toldComing, toldNext        the code's next line, and what is ahead after it
---     nextIn z s                  the next line of the code's session z on the input s, and what is ahead after it
+--     nextIn z s                  the next line of the code's session z on the input s by the current edition, and
+--                                 what is ahead after it
 --     Begins s z                  promise: `begin` on the input s answers z
 use Prim.Native.Nat.{ℕ, suc}
 use mathlib.Core.Path.{_≡_}
@@ -35,6 +38,7 @@ use Rattle.board.specs.declared.Board.{Board}
 use Rattle.board.specs.Parts.{emptyBoard}
 use Rattle.state.specs.declared.State.{State}
 use Rattle.state.specs.States.{freshState}
+use Rattle.board_reader.specs.Editions.{Edition, currentEdition}
 use Rattle.board_reader.specs.Reading.{longestInput}
 use Rattle.lines.specs.Lines.{Line, closing, toldLine}
 use Rattle.session.specs.declared.Stage as code-stage
@@ -81,7 +85,7 @@ begunFrom (given h) =
 begunFrom (refused n p) = record { board = emptyBoard; allowance = 0; ahead = freshAhead 0 (refusing n p) }
 
 unfoldable pub beginning : List ℕ → Session
-beginning s = begunFrom (headAt s)
+beginning s = begunFrom (headAt currentEdition s)
 
 pub data Coming : Type 0 where
   line : Line → Coming
@@ -104,19 +108,19 @@ makes h a (given v) =
     goesOn (a .event) (eventLine (h .board) (a .event) (a .state) (v .value) (h .allowance)) (v .next)
 makes h a (refused n p) = closes a n p
 
-unfoldable pub nextEvent : Head → Ahead → List ℕ → Ahead × Coming
-nextEvent h a s =
-    cond (leb (length s) (a .place)) (a, no-line) (makes h a (eventAt (h .board .counts .buttons) s (a .place)))
+unfoldable pub nextEvent : Edition → Head → Ahead → List ℕ → Ahead × Coming
+nextEvent ed h a s =
+    cond (leb (length s) (a .place)) (a, no-line) (makes h a (eventAt ed (h .board .counts .buttons) s (a .place)))
 
-unfoldable pub nextAt : Stage → Head → Ahead → List ℕ → Ahead × Coming
-nextAt first h a s =
+unfoldable pub nextAt : Edition → Stage → Head → Ahead → List ℕ → Ahead × Coming
+nextAt ed first h a s =
     goesOn (a .event) (ranLine (h .board) (a .event) (a .state) (h .allowance)) (a .place)
-nextAt events h a s = nextEvent h a s
-nextAt over h a s = (a, no-line)
-nextAt (refusing n p) h a s = closes a n p
+nextAt ed events h a s = nextEvent ed h a s
+nextAt ed over h a s = (a, no-line)
+nextAt ed (refusing n p) h a s = closes a n p
 
-unfoldable pub nextOf : Head → Ahead → List ℕ → Ahead × Coming
-nextOf h a s = nextAt (a .stage) h a s
+unfoldable pub nextOf : Edition → Head → Ahead → List ℕ → Ahead × Coming
+nextOf ed h a s = nextAt ed (a .stage) h a s
 
 abbrev pub toldStage : code-stage.Stage → Stage
 toldStage said.First = first
@@ -138,7 +142,7 @@ abbrev pub toldNext : Next → Ahead × Coming
 toldNext r = (toldAhead (r .ahead), toldComing (r .coming))
 
 abbrev pub nextIn : code-session.Session → List ℕ → Ahead × Coming
-nextIn z s = nextOf (headWith (z .board) (z .allowance)) (toldAhead (z .ahead)) s
+nextIn z s = nextOf currentEdition (headWith (z .board) (z .allowance)) (toldAhead (z .ahead)) s
 
 abbrev pub Begins : List ℕ → code-session.Session → Type 0
 Begins s z = toldSession z ≡ beginning s

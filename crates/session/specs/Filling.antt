@@ -23,6 +23,7 @@ use lib.Dec.{leb}
 use lib.ListN.{length, drop}
 use Rattle.refusals.specs.Outcomes.{Outcome, given, refused}
 use Rattle.refusals.specs.Order.{firstNo, answering}
+use Rattle.board_reader.specs.Editions.{currentEdition}
 use Rattle.lines.specs.Lines.{Line, longestLine, lineText, lineLines}
 use Rattle.session.specs.declared.Session as code-session
 use Rattle.session.specs.declared.Handed as code-handed
@@ -37,7 +38,7 @@ fitsOn (y, no-line) go = (y, [])
 unfoldable pub fitting : ℕ → Head → Ahead → List ℕ → ℕ → Ahead × List Line
 fitting zero h a s n = (a, [])
 fitting (suc k) h a s n =
-    cond (leb longestLine n) (fitsOn (nextOf h a s) (λ y l. fitting k h y s (n - length (lineText l)))) (a, [])
+    cond (leb longestLine n) (fitsOn (nextOf currentEdition h a s) (λ y l. fitting k h y s (n - length (lineText l)))) (a, [])
 
 unfoldable pub filledBy : Ahead × List Line → List ℕ → HandedAhead
 filledBy (a, []) out = record { ahead = a; answer = given nothing; out = out }

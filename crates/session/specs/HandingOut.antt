@@ -6,8 +6,8 @@
 --     carrying z x                what is handed out with the session z to carry on, where x is handed on
 --     writtenAnswer o             the answer where writing the line came to o; only for the inner function `answer_of`
 --     handedBy x out              what is handed on where x comes next
---     lineHanded h a s out        what is handed on of the session with the head h and a ahead: 16 if the longest line
---                                 has no room in the buffer, and then a as given
+--     lineHanded h a s out        what is handed on of the session with the head h and a ahead, by the current edition:
+--                                 16 if the longest line has no room in the buffer, and then a as given
 --     nextLine z s out            the call
 --     toldHandOut                 the answer's cases in these words and the rule book's numbers
 --     toldHandedAhead, toldHanded    the answer and the buffer afterwards
@@ -19,6 +19,7 @@ use mathlib.Core.List.{List, _++_}
 use lib.ListN.{length, drop}
 use Rattle.refusals.specs.Outcomes.{Outcome, given, refused}
 use Rattle.refusals.specs.Order.{firstNo, answering}
+use Rattle.board_reader.specs.Editions.{currentEdition}
 use Rattle.lines.specs.Lines.{lineText, lineLines}
 use Rattle.session.specs.declared.Session as code-session
 use Rattle.session.specs.declared.HandOut as code-handout
@@ -63,7 +64,7 @@ unfoldable pub lineHanded : Head → Ahead → List ℕ → List ℕ → HandedA
 lineHanded h a s out =
     answering (firstNo (lineLines out))
     (λ n p. record { ahead = a; answer = refused n p; out = out })
-    (λ u. handedBy (nextOf h a s) out)
+    (λ u. handedBy (nextOf currentEdition h a s) out)
 
 unfoldable pub nextLine : Session → List ℕ → List ℕ → Handed
 nextLine z s out = carrying z (lineHanded (headOf z) (z .ahead) s out)

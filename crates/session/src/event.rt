@@ -1,5 +1,6 @@
 // The event at a place of a session's input.
 ghost use mathlib.Core.Path.{_≡_};
+ghost use Rattle.board_reader.specs.Editions.{currentEdition};
 ghost use Rattle.events.specs.Events.{eventAt};
 ghost use Rattle.session.specs.EventReading.{toldEventRead};
 use events::Event;
@@ -16,7 +17,7 @@ pub enum EventRead {
 // Reads the event at a place: a number (1, 2) that names one of the buttons (7), and takes it apart: 2 x button + 1
 // pushes, 2 x button releases.
 pub fn event_at(buttons: u8, s: &[u8], at: usize) -> EventRead
-    ensures { λ r. ⌜ toldEventRead r ≡ eventAt buttons (now (s .entry)) at ⌝ }
+    ensures { λ r. ⌜ toldEventRead r ≡ eventAt currentEdition buttons (now (s .entry)) at ⌝ }
 {
     let read = number::read_number(s, at);
     match read {

@@ -1,5 +1,6 @@
 // The line that comes next in a session, and what is ahead after it.
 ghost use mathlib.Core.Path.{_≡_};
+ghost use Rattle.board_reader.specs.Editions.{currentEdition};
 ghost use Rattle.events.specs.Events.{toldShown};
 ghost use Rattle.session.specs.Carried.{following, goesOn, closes, nextEvent, nextOf, headWith};
 ghost use Rattle.session.specs.Carried.{toldAhead, toldNext};
@@ -72,7 +73,8 @@ fn close(ahead: Ahead, refusal: Refusal) -> Next
 
 // What comes of the event at the session's place in the input, or that the input ends there.
 fn next_event(board: Board, allowance: u32, ahead: Ahead, s: &[u8]) -> Next
-    ensures { λ r. ⌜ toldNext r ≡ nextEvent (headWith board allowance) (toldAhead ahead) (now (s .entry)) ⌝ }
+    ensures { λ r. ⌜ toldNext r
+        ≡ nextEvent currentEdition (headWith board allowance) (toldAhead ahead) (now (s .entry)) ⌝ }
 {
     let place = ahead.place;
     if s.len() <= place {
@@ -96,7 +98,8 @@ fn next_event(board: Board, allowance: u32, ahead: Ahead, s: &[u8]) -> Next
 
 // The next line of the session.
 pub fn advance(board: Board, allowance: u32, ahead: Ahead, s: &[u8]) -> Next
-    ensures { λ r. ⌜ toldNext r ≡ nextOf (headWith board allowance) (toldAhead ahead) (now (s .entry)) ⌝ }
+    ensures { λ r. ⌜ toldNext r
+        ≡ nextOf currentEdition (headWith board allowance) (toldAhead ahead) (now (s .entry)) ⌝ }
 {
     let stage = ahead.stage;
     match stage {

@@ -6,6 +6,7 @@ use mathlib.Core.Path.{_≡_, refl, sym, ap, ap₂, subst, _∙_}
 use mathlib.Core.List.{List, [], _∷_, _++_, append-nil, append-assoc}
 use mathlib.Core.Logic.{inl, inr, _⊎_}
 use lib.ListN.{length}
+use Rattle.board_reader.specs.Editions.{currentEdition}
 use Rattle.lines.specs.Lines.{Line, longestLine}
 use Rattle.session.specs.declared.Session as code-session
 use Rattle.session.specs.declared.Handed as code-handed
@@ -35,7 +36,7 @@ abbrev FirstIn : List ℕ → code-session.Session → List Line → code-sessio
 FirstIn s z ls y = (stillIn z s ≡ ls ++ stillIn y s) × NumberedIn y s
 
 module _ (s : List ℕ) where
-  first-line : (h : Head) (a y x : Ahead) (l : Line) (ls : List Line) → Numbered a s → nextOf h a s ≡ (y, line l)
+  first-line : (h : Head) (a y x : Ahead) (l : Line) (ls : List Line) → Numbered a s → nextOf currentEdition h a s ≡ (y, line l)
       → (Numbered y s → FirstLines h s y ls x) → FirstLines h s a (l ∷ ls) x
   first-line h a y x l ls numbered is rest =
       let so = rest (numbered-next h a s numbered y l is) in
@@ -108,13 +109,13 @@ module _ (s : List ℕ) where
   -- ---- the next buffer
 
   -- where nothing comes, nothing is left
-  none-by : (h : Head) (a : Ahead) → Numbered a s → (c : Ahead × Coming) → c .1 ≡ no-line → nextOf h a s ≡ c
+  none-by : (h : Head) (a : Ahead) → Numbered a s → (c : Ahead × Coming) → c .1 ≡ no-line → nextOf currentEdition h a s ≡ c
       → still h a s ≡ []
   none-by h a numbered (y, no-line) is next = still-next h a s numbered _ next
   none-by h a numbered (y, line l) is next = absurd (line-never l (sym is))
 
-  none-left : (h : Head) (a : Ahead) → Numbered a s → nextOf h a s .1 ≡ no-line → still h a s ≡ []
-  none-left h a numbered is = none-by h a numbered (nextOf h a s) is refl
+  none-left : (h : Head) (a : Ahead) → Numbered a s → nextOf currentEdition h a s .1 ≡ no-line → still h a s ≡ []
+  none-left h a numbered is = none-by h a numbered (nextOf currentEdition h a s) is refl
 
   full-still : (h : Head) (n : ℕ) (a : Ahead) (ls : List Line) → Numbered a s → Full h s n (a, ls)
       → Filled n ls (still h a s)
@@ -159,7 +160,7 @@ module _ (s : List ℕ) (z z′ : code-session.Session) (ts : List (List ℕ)) (
   from-begin =
       told-on s ts z z′ (beginning-numbered s z begun) handed
 
-  all-told : sessionLines s ≡ from-begin .lines ++ stillIn z′ s
+  all-told : sessionLines currentEdition s ≡ from-begin .lines ++ stillIn z′ s
   all-told =
       sym (beginning-still s z begun) ∙ from-begin .first .0
 

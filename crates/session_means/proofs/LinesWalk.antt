@@ -9,13 +9,15 @@ use lib.Dec.{leb, ltb}
 use lib.ListN.{length}
 use Rattle.refusals.specs.Outcomes.{Outcome, given, refused, Found, found, _>>=_, _>>_, unless}
 use Rattle.refusals.specs.Refusals.{inputEnds, badForm, noSuchName}
-use Rattle.number.specs.Numbers.{numberAt}
+use Rattle.number.specs.Numbers.{currentWidth, numberAt}
 use Rattle.number.proofs.NumberLaws.{number-refusal}
 use Rattle.board.specs.Rules.{boardFine}
 use Rattle.state.specs.declared.State.{State}
 use Rattle.state.specs.States.{freshState, stateFine}
 use Rattle.state.proofs.StateLaws.{fresh-fits}
+use Rattle.board_reader.specs.Editions.{currentEdition}
 use Rattle.board_reader.specs.Reading.{wanted, reading}
+use Rattle.board_reader.proofs.EditionLaws.{current-known}
 use Rattle.file_means.proofs.GivesLaws.{Gives, gives-then, gives-after}
 use Rattle.file_means.proofs.BoardTrip.{BoardIsFine}
 use Rattle.file_means.proofs.ReadFine.{read-fine}
@@ -44,20 +46,20 @@ module _ (h : Head) (s : List ℕ) (fine : boardFine (h .board) ≡ true) (Q : �
   EventRead (given v) = ltb (v .value .button) (h .board .counts .buttons) ≡ true
   EventRead (refused n p) = ClosedByEvent (closing n p)
 
-  event-read : (at : ℕ) → EventRead (eventAt (h .board .counts .buttons) s at)
+  event-read : (at : ℕ) → EventRead (eventAt currentEdition (h .board .counts .buttons) s at)
   unfolding eventAt wanted
-  event-read at = by (numberAt s at) refl
+  event-read at = by (numberAt currentWidth s at) refl
     where
       below : (v : Found ℕ) (t : Bool) → ltb (v .value / 2) (h .board .counts .buttons) ≡ t
           → EventRead (unless t noSuchName at >> given v >>= λ v. found (eventOf (v .value)) (v .next))
       below v true e = e
       below v false e = inr (inr refl)
 
-      by : (o : Outcome (Found ℕ)) → numberAt s at ≡ o
+      by : (o : Outcome (Found ℕ)) → numberAt currentWidth s at ≡ o
           → EventRead ((o >>= λ v. unless (ltb (v .value / 2) (h .board .counts .buttons)) noSuchName at >> given v)
           >>= λ v. found (eventOf (v .value)) (v .next))
       by (given v) is = below v _ refl
-      by (refused n p) is = either (number-refusal s at n p is)
+      by (refused n p) is = either (number-refusal currentWidth s at n p is)
         where
           either : ((n ≡ inputEnds) × (p ≡ length s)) ⊎ ((n ≡ badForm) × (p ≡ at)) → EventRead (refused n p)
           either (inl ends) = inl (ends .0)
@@ -79,13 +81,13 @@ module _ (h : Head) (s : List ℕ) (fine : boardFine (h .board) ≡ true) (Q : �
   unless-over e t false ls all = all
 
   lines-walk : (k : ℕ) (t : State) (e at : ℕ) → stateFine (h .board .counts) t ≡ true
-      → Q (suc e) t (linesFrom k (h .board) s t (suc e) at (h .allowance))
+      → Q (suc e) t (linesFrom currentEdition k (h .board) s t (suc e) at (h .allowance))
   unfolding linesFrom
   lines-walk zero t e at fits = so .none (suc e) t
   lines-walk (suc k) t e at fits =
       unless-over (suc e) t (leb (length s) at) _
-      (event-walk e t (eventAt (h .board .counts .buttons) s at)
-      (λ u next. linesFrom k (h .board) s u (suc (suc e)) next (h .allowance)) fits (event-read at)
+      (event-walk e t (eventAt currentEdition (h .board .counts .buttons) s at)
+      (λ u next. linesFrom currentEdition k (h .board) s u (suc (suc e)) next (h .allowance)) fits (event-read at)
       (λ u next after. lines-walk k u (suc e) next after))
 
 -- ---- the session
@@ -93,14 +95,15 @@ module _ (h : Head) (s : List ℕ) (fine : boardFine (h .board) ≡ true) (Q : �
 abbrev pub HeadFine : Found Head → Type 0
 HeadFine h = boardFine (h .value .board) ≡ true
 
-pub head-fine : (s : List ℕ) → Gives HeadFine (headAt s)
+pub head-fine : (s : List ℕ) → Gives HeadFine (headAt currentEdition s)
 unfolding headAt withAllowance
 head-fine s =
-    gives-then (BoardIsFine s (reading s .0)) HeadFine (reading s .1) _ (read-fine s)
-    (λ at was. gives-after HeadFine (numberAt s at) _ (λ w read. was .fine))
+    gives-then (BoardIsFine currentEdition s (reading currentEdition s .0)) HeadFine (reading currentEdition s .1) _
+    (read-fine currentEdition current-known s)
+    (λ at was. gives-after HeadFine (numberAt currentWidth s at) _ (λ w read. was .fine))
 
 pub head-walk : (h : Found Head) (s : List ℕ) → HeadFine h → (Q : ℕ → State → List Line → Type 0)
-    → Along (h .value) Q → Q 0 freshState (headLines (given h) s)
+    → Along (h .value) Q → Q 0 freshState (headLines currentEdition (given h) s)
 unfolding headLines
 head-walk h s fine Q so =
     let first =

@@ -1,9 +1,10 @@
 -- The proof of the cycle of calls {read_form}. The measure is `left`, the bytes that the number may still have.
-use Prim.Native.Nat.{ℕ, _+_, _^_, _≤_, _<_}
+use Prim.Native.Nat.{ℕ, _+_, _-_, _^_, _≤_, _<_}
 use native.Mathlib.Omega.{arith}
 use borrow.Author.Needs.{needs}
 use borrow.Fn.Kinds.{In}
 use borrow.Fn.PlainCycle.{Measures, is, falls, and}
+use Rattle.number.specs.Numbers.{currentWidth}
 use Rattle.number.proofs.FormSteps.{form-none, form-ends, form-one, below-other, form-left}
 use Rattle.number.proofs.FormSteps.{form-not-shortest, form-grown, form-bounds}
 use Rattle.number.proofs.read_form.Reads as read-form
@@ -30,16 +31,16 @@ rest-bounds : (t : ℕ) (c : read-form-lts.Else4 (
   wide-reads.Learnt,
   read-form-below t,
   read-form.Post,
-) (read-form-at t) read-form.Post) → (c .before .before .rest .given .0 .0 < 128 ^ 2)
-    × (c .before .before .rest .given .0 .1 .0 ≤ 2)
+) (read-form-at t) read-form.Post) → (c .before .before .rest .given .0 .0
+    < 128 ^ (currentWidth .longest - 1)) × (c .before .before .rest .given .0 .1 .0 ≤ currentWidth .longest - 1)
 rest-bounds t c =
     let at-rest = c .before .before in
     let at-read-form = at-rest .before .before in
     let at-slice = at-read-form .before .before .before .before .before .before in
     let args = at-slice .before .args in
     let bounds =
-    form-bounds 2 _ (args .at + 1) (args .s .now) (at-slice .shared-slice-known .given) (omega arith) _
-    (at-read-form .read-form .ensures) _ _ (at-rest .rest .given .1) in (bounds .small, bounds .few)
+    form-bounds (currentWidth .longest - 1) _ (args .at + 1) (args .s .now) (at-slice .shared-slice-known .given)
+    (omega arith) _ (at-read-form .read-form .ensures) _ _ (at-rest .rest .given .1) in (bounds .small, bounds .few)
 
 pub +read-form-spec : {M : Type 1} → statement M
 +read-form-spec = close μ-read-form λ t. read-form-lts.spec (
@@ -53,7 +54,7 @@ pub +read-form-spec : {M : Type 1} → statement M
     (λ c. form-none _ _ (c .if1 .taken))
     (λ c. form-ends _ _ _ (c .before .if1 .left) (c .if2 .taken))
     (λ c. c .before .if2 .left)
-    (λ c κs. search needs)
+    (λ c κs. search needs) (λ c. omega arith)
     (λ c.
     let at-if2 = c .before .before .before in
     form-one _ _ _ _ (at-if2 .before .if1 .left) (at-if2 .if2 .left) (c .before .wide .ensures .0) (c .if3 .taken))

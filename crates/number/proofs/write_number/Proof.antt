@@ -1,46 +1,59 @@
--- `write_number` refuses or writes as the rule book says, by the tests that it makes.
-use mathlib.Core.Path.{sym}
+-- `write_number` asks its lines in their order, and where nothing stands against it, it writes the groups.
+use mathlib.Core.Path.{_≡_}
+use mathlib.Core.List.{List}
+use Prim.Native.Nat.{ℕ}
 use native.Mathlib.Omega.{arith}
 use borrow.Author.Needs.{needs}
-use Rattle.number.proofs.NumberLaws.{number-too-large, number-lacks-room, number-groups, number-stored}
+use Rattle.refusals.specs.Order.{firstNo, toldAgainst}
+use Rattle.number.specs.Numbers.{numberLines}
+use Rattle.number.proofs.NumberLaws.{number-asked, number-unwritten, number-fits, number-groups, number-stored}
 use Rattle.number.proofs.write_number.Statement.{statement}
 use Rattle.number.proofs.write_number.Tie as tie
 
-returns-2 : tie.Need-returns-2
-returns-2 c =
-    let entry = c .before .before .before .before in
-    sym (number-lacks-room (entry .args .value) (entry .args .out .now) (entry .args .at)
-    (c .before .before .if1 .left) (omega arith))
+-- where both lines were asked: the buffer as lent, and what stands against it
+abbrev entry : tie.After-unless2 → tie.Start
+entry c = c .before .before .before .before .before
 
-returns-3 : tie.Need-returns-3
-returns-3 c =
-    let entry = c .before .before .before .before .before in
-    sym (number-lacks-room (entry .args .value) (entry .args .out .now) (entry .args .at)
-    (c .before .before .before .if1 .left) (omega arith))
+abbrev lent : tie.After-unless2 → List ℕ
+lent c = entry c .args .out .now
+
+asked : (c : tie.After-unless2)
+    → toldAgainst (c .unless2 .result) ≡ firstNo (numberLines (entry c .args .value) (lent c) (entry c .args .at))
+asked c =
+    number-asked _ (lent c) _ (c .before .before .before .number-length .ensures)
+    (c .before .before .has-room .ensures) (c .before .unless .ensures) (c .unless2 .ensures)
 
 write-groups-requires : tie.Need-write-groups-requires
 write-groups-requires c κs =
-    let at-number-length = c .before .before .before in
-    number-groups _ _ _ _ (at-number-length .before .if1 .left) (c .before .before .if2 .left) (c .before .if3 .left)
-    (at-number-length .number-length .ensures)
+    let stood = c .before .before .before in
+    number-groups _ (lent stood) _ _ (asked stood) _ (c .before .enum-told .given .1)
+    (stood .before .before .before .number-length .ensures)
 
-returns-4 : tie.Need-returns-4
-returns-4 c =
-    let at-write-groups = c .before .before in
-    let at-if3 = at-write-groups .before .before in
-    let at-number-length = at-if3 .before .before in
-    number-stored _ _ _ _ _ (at-number-length .before .if1 .left) (at-if3 .before .if2 .left) (at-if3 .if3 .left)
-    (at-number-length .number-length .ensures) (at-write-groups .write-groups .ensures)
+add-t16 : tie.Need-add-t16
+add-t16 c =
+    let told = c .before .before .before .before in
+    let stood = told .before .before in
+    omega (
+      arith,
+      number-fits (entry stood .args .value) (lent stood) (entry stood .args .at) _ (asked stood) _
+          (told .enum-told .given .1) (stood .before .before .before .number-length .ensures),
+    )
+
+returns-2 : tie.Need-returns-2
+returns-2 c =
+    let told = c .before .before .before .before in
+    let stood = told .before .before in
+    number-stored _ (lent stood) _ _ (asked stood) _ (told .enum-told .given .1)
+    (stood .before .before .before .number-length .ensures) _ (c .before .before .write-groups .ensures)
 
 pub write-number-spec : {M : Type 1} → statement M
 write-number-spec =
     tie.close
     (tie.spec
-    (λ c. sym (number-too-large _ _ _ (c .if1 .taken)))
-    (λ c κs. search needs)
-    returns-2
+    (λ c κs. search needs) (λ c κs. search needs) (λ c κs. search needs) (λ c κs. search needs) (λ c. search needs)
     (λ c. search needs)
-    returns-3
     write-groups-requires
-    (λ c. search needs) (λ c. search needs)
-    returns-4)
+    add-t16
+    (λ c. number-unwritten _ _ _ _ (asked (c .before .before .before)) _ (c .before .against .given .1))
+    (λ c. search needs)
+    returns-2)

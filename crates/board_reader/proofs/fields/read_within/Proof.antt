@@ -4,6 +4,7 @@ use borrow.Author.Needs.{needs}
 use Rattle.board_reader.proofs.fields.read_within.Statement.{statement}
 use Rattle.board_reader.proofs.fields.read_within.Tie as tie
 use mathlib.Core.Path.{sym}
+use Rattle.board_reader.specs.Editions.{currentEdition}
 use Rattle.board_reader.proofs.FieldLaws.{wanted-fails, wanted-passes, told-found, number-refused, range-below}
 use Rattle.board_reader.proofs.FieldLaws.{range-above, range-within}
 
@@ -13,20 +14,20 @@ returns c = number-refused _ _ _ _ _ _ (c .enum-told .given .1) (c .before .befo
 returns-2 : tie.Need-returns-2
 returns-2 c =
     sym
-    (wanted-fails _ _ _ _ _ _ (told-found _ _ _ _ (c .before .before .number .given .1)
+    (wanted-fails currentEdition _ _ _ _ _ _ (told-found _ _ _ _ (c .before .before .number .given .1)
     (c .before .before .before .before .read-number .ensures)) (range-below _ _ _ (c .if1 .taken)))
 
 returns-3 : tie.Need-returns-3
 returns-3 c =
     sym
-    (wanted-fails _ _ _ _ _ _ (told-found _ _ _ _ (c .before .before .before .number .given .1)
+    (wanted-fails currentEdition _ _ _ _ _ _ (told-found _ _ _ _ (c .before .before .before .number .given .1)
     (c .before .before .before .before .before .read-number .ensures))
     (range-above _ _ _ (c .before .if1 .left) (c .if2 .taken)))
 
 returns-4 : tie.Need-returns-4
 returns-4 c =
     sym
-    (wanted-passes _ _ _ _ _ _ (told-found _ _ _ _ (c .before .before .before .number .given .1)
+    (wanted-passes currentEdition _ _ _ _ _ _ (told-found _ _ _ _ (c .before .before .before .number .given .1)
     (c .before .before .before .before .before .read-number .ensures))
     (range-within _ _ _ (c .before .if1 .left) (c .if2 .left)))
 
