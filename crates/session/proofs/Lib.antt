@@ -2,7 +2,7 @@
 pub mod StartLaws
 pub mod AdvanceLaws
 pub mod ToCome
-pub mod AheadLaws
+pub mod ComingLaws
 pub mod NextLineLaws
 pub mod CallLaws
 pub mod FitLaws
