@@ -11,7 +11,7 @@ use Rattle.presses.proofs.PressLaws.{pressed-told}
 use Rattle.board_reader.proofs.ToldLaws.{board-read-told}
 use Rattle.board_writer.proofs.FileLaws.{written-told}
 use Rattle.search.proofs.VerdictLaws.{verdict-told}
-use Rattle.judge.proofs.SoughtLaws.{sought-told}
+use Rattle.judge.proofs.SoughtLaws.{windings-told}
 use Rattle.moves.proofs.MovingLaws.{move-told, moved-told}
 use Rattle.runs.proofs.RunningLaws.{ran-told}
 use Rattle.lines.proofs.ToldLaws.{line-written-told}
@@ -90,7 +90,8 @@ one-answer = record {
   neighbours-conducts = λ k s. one-itself _;
   neighbours-neighbours = λ b s. one-itself _;
   search-search = λ near t v w. one-told _ verdict-told _;
-  judge-winding = λ b r k. one-told _ sought-told _;
+  judge-find-windings = λ b r. one-told _ windings-told _;
+  judge-judge-by = λ k t v w. one-told _ verdict-told _;
   judge-judge = λ b s r k w. one-told _ verdict-told _;
   moves-decide = λ d f. one-told _ move-told _;
   moves-step = λ k b s r w. one-told _ move-told _;

@@ -31,8 +31,8 @@ use Rattle.neighbours.specs.Neighbours.{Neighbours}
 use Rattle.search.specs.declared.Winding.{Winding}
 use Rattle.search.specs.Verdicts.{Searches}
 use Rattle.judge.specs.declared.Which.{Which}
-use Rattle.judge.specs.RelayWindings.{SeeksWinding}
-use Rattle.judge.specs.Judging.{Judges}
+use Rattle.judge.specs.RelayWindings.{FindsWindings}
+use Rattle.judge.specs.Judging.{JudgesBy, Judges}
 use Rattle.moves.specs.declared.Findings.{Findings}
 use Rattle.moves.specs.declared.Move.{Move}
 use Rattle.moves.specs.Steps.{Decides, StepsRelay, AfterMove}
@@ -93,7 +93,8 @@ pub record OneAnswer : Type 0 where
   pub neighbours-conducts : (k : Kind) (s : State) → One (Conducts k s)
   pub neighbours-neighbours : (b : Board) (s : State) → One (Neighbours b s)
   pub search-search : (near : List ℕ) (t : ℕ) (v : Winding) (w : ℕ) → One (Searches near t v w)
-  pub judge-winding : (b : Board) (r : ℕ) (k : Which) → One (SeeksWinding b r k)
+  pub judge-find-windings : (b : Board) (r : ℕ) → One (FindsWindings b r)
+  pub judge-judge-by : (k : Sets) (t : ℕ) (v : Winding) (w : ℕ) → One (JudgesBy k t v w)
   pub judge-judge : (b : Board) (s : State) (r : ℕ) (k : Which) (w : ℕ) → One (Judges b s r k w)
   pub moves-decide : (d : Bool) (f : Findings) → One (Decides d f)
   pub moves-step : (k : Sets) (b : Board) (s : State) (r w : ℕ) → One (StepsRelay k b s r w)

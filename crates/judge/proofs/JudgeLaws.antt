@@ -33,7 +33,8 @@ use Rattle.judge.proofs.WoundLaws.{windings-named}
 -- ---- judging by the sets
 
 -- terminals that the sets have are all looked at
-pub judged-all : (k : Sets) (t : ℕ) (v : Winding) (w : ℕ) → t ≤ mostTerminals → judgedBy k t v w ≡ verdictBy (k .near) t v w
+pub judged-all : (k : Sets) (t : ℕ) (v : Winding) (w : ℕ) → t ≤ mostTerminals
+    → judgedBy k t v w ≡ verdictBy (k .near) t v w
 unfolding judgedBy
 judged-all k t v w few = sym (in-sets-all (k .near) t v w few)
 
@@ -105,7 +106,7 @@ module _ (b : Board) (s : State) (r : ℕ) (n : Which) where
   unfolding judging
   judging-by w o e = ap (λ (q : Outcome Winding). verdictOn b s q w) (sym e)
 
-  -- the verdict on the winding, by the sets k that were gathered in the state
+  -- the verdict on the winding, by the sets k of the board in the state
   pub judging-given : (w : ℕ) (v : Winding) (k : Sets) → windingFor b s r n ≡ given v → k ≡ setsOf b s
       → judgedBy k (b .counts .terminals) v w ≡ judging b s r n w
   judging-given w v k taken same =

@@ -1,6 +1,6 @@
 -- A relay's windings. Rule book: "Every relay is regular, with exactly one part of kind 4, or steel-core, with exactly
--- one of kind 5 and one of kind 6"; "Judging names a relay and either its first winding (the regular or the drawing one)
--- or its second (the dropping one)"; refusal 11, "no such relay, or a second winding asked of a regular one".
+-- one of kind 5 and one of kind 6"; "Judging names a relay and either its first winding (the regular or the drawing
+-- one) or its second (the dropping one)"; refusal 11, "no such relay, or a second winding asked of a regular one".
 --     isFirst r k, isSecond r k    kind k is the first, the second winding of relay r
 --     isWinding n r k              kind k is that winding of relay r
 --     endsOf p                     the ends of part p, as those of a winding

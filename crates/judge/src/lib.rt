@@ -1,5 +1,5 @@
-// A relay's windings, found in one scan of the parts, and judging: a winding by the sets of neighbours, and as a call on
-// any board and state handed in, with refusals 15, 14 and 11.
+// A relay's windings, found in one scan of the parts, and judging: a winding by the sets of neighbours, and as a call
+// on any board and state handed in, with refusals 15, 14 and 11.
 ghost use mathlib.Core.Path.{_≡_};
 ghost use Rattle.board.specs.Sorts.{carries};
 ghost use Rattle.search.specs.Verdicts.{unanswered, toldVerdict};

@@ -10,7 +10,7 @@ use mathlib.Core.Option.{none, some, Option·none-ne-some, Option·some-injectiv
 use lib.Dec.{eqb, ltb}
 use borrow.Author.Tests.{eqb-true, ltb-true, ltb-false}
 use Rattle.lists.specs.Members.{_∈_}
-use Rattle.bits.proofs.BoolLaws.{both-true, either-true, by-test, by-less}
+use Rattle.bits.proofs.BoolLaws.{both-true, either-true, by-test}
 use Rattle.refusals.specs.Outcomes.{Outcome, given, refused}
 use Rattle.refusals.specs.Refusals.{noSuchWinding}
 use Rattle.refusals.proofs.OutcomeLaws.{refused-never}
@@ -43,6 +43,30 @@ use Rattle.judge_means.specs.Eleven.{EveryRelayWound}
 use Rattle.judge_means.proofs.Exactness.{FindingBy, live-by, dead-by, undecided-by, verdict-finding}
 use Rattle.lists.proofs.CountedLaws.{member-counted, counted-only}
 
+-- ---- a winding of which there is at most one
+
+module _ (b : Board) (r : ℕ) (n : Which) (most : these n r (partsOf b) ≤ 1) where
+  -- the winding found is the relay's, and the only one
+  found-its : (e : Winding) → windingOf n r (partsOf b) ≡ some e → ItsWinding b r n e
+  found-its e answer =
+      let f = some-found n r (partsOf b) e answer in
+      let same = Option·some-injective (endsOf (f .part)) e (sym (f .found) ∙ answer) in
+      record {
+        part = f .part;
+        on-board = f .among;
+        is-winding = f .is-winding;
+        ends = (ap (λ (w : Winding). w .a) same, ap (λ (w : Winding). w .b) same);
+        only =
+            λ p among on. counted-only (its n r) (partsOf b) most p (f .part) among (f .among) on
+            (f .is-winding);
+      }
+
+  -- where some part is that winding, the relay has it
+  counted-its : 1 ≤ these n r (partsOf b) → (e : Winding) × ItsWinding b r n e
+  counted-its here =
+      ⊎-elim (λ f. (endsOf (f .part), found-its (endsOf (f .part)) (f .found)))
+      (λ m. absurd (omega (arith, here, m .no-part))) (sought n r (partsOf b))
+
 -- ---- of a board that breaks no rule
 
 module _ (b : Board) (r : ℕ) (n : Which) (fine : boardFine b ≡ true) where
@@ -70,39 +94,11 @@ module _ (b : Board) (r : ℕ) (n : Which) (fine : boardFine b ≡ true) where
   line-none (inr regular) = regular-second r (partsOf b) n regular
 
   -- the winding is missing exactly if the line of 11 holds
-  pub missing-exactly : windingOf n r (partsOf b) ≡ none ↔ LineEleven b r n
+  missing-exactly : windingOf n r (partsOf b) ≡ none ↔ LineEleven b r n
   missing-exactly = (
     λ missing. none-line (missing-counted n r (partsOf b) missing),
     λ line. counted-missing n r (partsOf b) (line-none line),
   )
-
-  -- ---- its winding
-
-  -- the winding found is the relay's, and the only one
-  found-its : (e : Winding) → windingOf n r (partsOf b) ≡ some e → ItsWinding b r n e
-  found-its e answer =
-      let f = some-found n r (partsOf b) e answer in
-      let same = Option·some-injective (endsOf (f .part)) e (sym (f .found) ∙ answer) in
-      record {
-        part = f .part;
-        on-board = f .among;
-        is-winding = f .is-winding;
-        ends = (ap (λ (w : Winding). w .a) same, ap (λ (w : Winding). w .b) same);
-        only =
-            λ p among on. counted-only (its n r) (partsOf b) fine-most p (f .part) among (f .among) on
-            (f .is-winding);
-      }
-
-  -- where some part is that winding, the relay has it
-  counted-its : 1 ≤ these n r (partsOf b) → (e : Winding) × ItsWinding b r n e
-  counted-its here =
-      ⊎-elim (λ f. (endsOf (f .part), found-its (endsOf (f .part)) (f .found)))
-      (λ m. absurd (omega (arith, here, m .no-part))) (sought n r (partsOf b))
-
-  -- where the line of 11 does not hold, the relay has that winding
-  pub its-there : ¬ (LineEleven b r n) → (e : Winding) × ItsWinding b r n e
-  its-there no-line =
-      by-less (these n r (partsOf b)) 1 (λ few. absurd (no-line (none-line (omega (arith, few))))) counted-its
 
 module _ (b : Board) (r : ℕ) (n : Which) where
   its-counted : (e : Winding) → ItsWinding b r n e → 1 ≤ these n r (partsOf b)
@@ -123,9 +119,6 @@ module _ (b : Board) (r : ℕ) (n : Which) where
 
   pub its-winding-unique : (e f : Winding) → ItsWinding b r n e → ItsWinding b r n f → e ≡ f
   its-winding-unique e f i j = Option·some-injective e f (sym (its-found e i) ∙ its-found f j)
-
-  pub its-no-line : boardFine b ≡ true → (e : Winding) → ItsWinding b r n e → ¬ (LineEleven b r n)
-  its-no-line fine e i line = omega (arith, line-none b r n fine line, its-counted e i)
 
 -- ---- the kind of a relay's winding, by the relay's sort
 
@@ -171,20 +164,23 @@ module _ (b : Board) (r : ℕ) where
   dropping-kind e i = carries-kind droppingKind r (i .part .kind) (i .is-winding)
 
   -- a regular relay has one winding, a steel-core relay two
-  regular-wound : boardFine b ≡ true → isRegular r (partsOf b) → RegularWound b r
-  regular-wound fine regular =
-      let there = counted-its b r First fine (omega (arith, first-sum r (partsOf b), regular .0)) in
+  pub regular-wound : isRegular r (partsOf b) → RegularWound b r
+  regular-wound regular =
+      let most = sorted-most r (partsOf b) First (inl regular) in
+      let there = counted-its b r First most (omega (arith, first-sum r (partsOf b), regular .0)) in
       record {
         winding = there .0;
         first = there .1;
         kind = regular-kind regular (there .0) (there .1);
-        no-second = λ e i. its-no-line b r Second fine e i (inr (refl, regular));
+        no-second =
+            λ e i. omega (arith, regular-second r (partsOf b) Second (refl, regular), its-counted b r Second e i);
       }
 
-  steel-wound : boardFine b ≡ true → isSteel r (partsOf b) → SteelWound b r
-  steel-wound fine steel =
-      let draws = counted-its b r First fine (omega (arith, first-sum r (partsOf b), steel .1)) in
-      let drops = counted-its b r Second fine (omega (arith, second-sum r (partsOf b), steel .2)) in
+  pub steel-wound : isSteel r (partsOf b) → SteelWound b r
+  steel-wound steel =
+      let most : (n : Which) → these n r (partsOf b) ≤ 1 = λ n. sorted-most r (partsOf b) n (inr steel) in
+      let draws = counted-its b r First (most First) (omega (arith, first-sum r (partsOf b), steel .1)) in
+      let drops = counted-its b r Second (most Second) (omega (arith, second-sum r (partsOf b), steel .2)) in
       record {
         drawing = draws .0;
         first = draws .1;
@@ -234,9 +230,9 @@ pub the-winding : TheWinding
 the-winding b s r n e = (
   λ accepted.
       let answer = winding-for-given b s r n e accepted in
-      (answer .0, answer .1, found-its b r n (answer .0) e (answer .2)),
+      (answer .0, answer .1, found-its b r n (fine-most b r n (answer .0)) e (answer .2)),
   λ (fine, fits, i). winding-for-sought b s r n (some e) fine fits (its-found b r n e i),
 )
 
 pub every-relay-wound : EveryRelayWound
-every-relay-wound b r fine = (regular-wound b r fine, steel-wound b r fine)
+every-relay-wound b r fine = (regular-wound b r, steel-wound b r)

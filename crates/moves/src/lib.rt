@@ -3,9 +3,9 @@
 ghost use mathlib.Core.Path.{_≡_};
 ghost use mathlib.Core.Bool.{cond};
 ghost use Rattle.search.specs.Verdicts.{toldFinding};
+ghost use Rattle.judge.specs.Judging.{judgedBy};
 ghost use Rattle.moves.specs.Steps.{drew, dropped, rests, isLive, isUndecided, anyUndecided, toldFindings};
-ghost use Rattle.moves.specs.Steps.{toldMove, regularMove, steelMove, findingOn, findingsOn, Decides, StepsRelay};
-ghost use Rattle.moves.specs.Steps.{AfterMove};
+ghost use Rattle.moves.specs.Steps.{toldMove, regularMove, steelMove, findingsOn, Decides, StepsRelay, AfterMove};
 ghost use Rattle.moves.specs.Moving.{Moves};
 use board::Board;
 use judge::Windings;
@@ -133,11 +133,11 @@ pub fn decide(drawn: bool, findings: Findings) -> Move
     }
 }
 
-// What is found on a winding, by the sets of neighbours within the allowance.
-fn finding_on(sets: Sets, board: Board, winding: Winding, allowance: u32) -> Finding
-    ensures { λ r. ⌜ toldFinding r ≡ findingOn sets board allowance winding ⌝ }
+// What is found on a winding, by the sets of neighbours of so many terminals within the allowance.
+fn finding_by(sets: Sets, terminals: u8, winding: Winding, allowance: u32) -> Finding
+    ensures { λ r. ⌜ toldFinding r ≡ judgedBy sets terminals winding allowance .finding ⌝ }
 {
-    let verdict = judge::judge_by(sets, board.counts.terminals, winding, allowance);
+    let verdict = judge::judge_by(sets, terminals, winding, allowance);
     verdict.finding
 }
 
@@ -145,14 +145,15 @@ fn finding_on(sets: Sets, board: Board, winding: Winding, allowance: u32) -> Fin
 fn findings_on(sets: Sets, board: Board, relay: u32, allowance: u32) -> Findings
     ensures { λ r. ⌜ toldFindings r ≡ findingsOn sets board relay allowance ⌝ }
 {
+    let terminals = board.counts.terminals;
     let windings = judge::find_windings(board, relay);
     match windings {
         Windings::Regular(winding) => {
-            Findings::Regular(finding_on(sets, board, winding, allowance))
+            Findings::Regular(finding_by(sets, terminals, winding, allowance))
         }
         Windings::Steel(drawing, dropping) => {
-            let draws = finding_on(sets, board, drawing, allowance);
-            let drops = finding_on(sets, board, dropping, allowance);
+            let draws = finding_by(sets, terminals, drawing, allowance);
+            let drops = finding_by(sets, terminals, dropping, allowance);
             Findings::Steel(draws, drops)
         }
         Windings::Absent => Findings::Absent,

@@ -3,11 +3,8 @@
 --     Within b s r n w           winding n of relay r, if there is one, needs no more than the allowance w
 --     FindingSays b s r n x w    what the finding x says of it
 --     HasFinding b s r n w       the relay has that winding, the finding on it, and what it says is so
-use Prim.Native.Nat.{ℕ, _<_, _≤_}
-use native.Mathlib.Omega.{arith}
+use Prim.Native.Nat.{ℕ, _≤_}
 use mathlib.Core.Path.{_≡_, refl, ap, subst, _∙_}
-use mathlib.Core.Logic.{inl, inr}
-use mathlib.Core.Bool.{true}
 use mathlib.Core.List.{List}
 use mathlib.Core.Option.{Option, none, some}
 use lib.Dec.{leb}
@@ -16,9 +13,8 @@ use Rattle.bits.proofs.BoolLaws.{by-test}
 use Rattle.refusals.specs.Outcomes.{given}
 use Rattle.board.specs.declared.Board.{Board}
 use Rattle.board.specs.Parts.{partsOf}
-use Rattle.board.specs.Rules.{boardFine}
 use Rattle.board.specs.Sorts.{isRegular, isSteel}
-use Rattle.board.proofs.FineLaws.{fine-range}
+use Rattle.board.specs.BreaksNoRule.{BoardFits}
 use Rattle.state.specs.declared.State.{State}
 use Rattle.neighbours.specs.Neighbours.{setsOf}
 use Rattle.chains.specs.ChainList.{shows}
@@ -28,13 +24,14 @@ use Rattle.search.proofs.VerdictLaws.{weighed-within, weighed-short}
 use Rattle.judge.specs.declared.Which.{Which}
 use Rattle.judge.specs.declared.Which.the-variants.{First, Second}
 use Rattle.judge.specs.RelayWindings as wound
-use Rattle.judge.specs.RelayWindings.{windingOf, windingsAt}
+use Rattle.judge.specs.RelayWindings.{windingsAt}
+use Rattle.judge.proofs.WoundLaws.{regular-second, counted-missing}
 use Rattle.judge.proofs.JudgeLaws.{judged-all}
 use Rattle.judge_means.specs.Exactness.{chainsOf, effortOf}
-use Rattle.judge_means.specs.Eleven.{LineEleven, ItsWinding}
+use Rattle.judge_means.specs.Eleven.{ItsWinding}
 use Rattle.judge_means.proofs.Circuits.{live-is-carrying}
 use Rattle.judge_means.proofs.Exactness.{listed-live, unlisted-dead}
-use Rattle.judge_means.proofs.Eleven.{missing-exactly, its-there, its-found, its-winding-unique, its-no-line}
+use Rattle.judge_means.proofs.Eleven.{its-found, its-winding-unique, regular-wound, steel-wound}
 use Rattle.moves.specs.Steps.{findingOn}
 use Rattle.moves_means.specs.Guards.{CurrentThrough}
 use Rattle.moves_means.specs.SingleMoves.{NeedsMore}
@@ -63,15 +60,15 @@ module _ (b : Board) (w : ℕ) (s : State) (r : ℕ) (n : Which) (e : Winding) (
       subst (λ (x : Winding). effortOf b s x ≤ w) (its-winding-unique b r n e f its also) enough
 
   -- all chains of the board in the state are weighed
-  its-weighed : boardFine b ≡ true
+  its-weighed : BoardFits b
       → findingOn (setsOf b s) b w e ≡ weighed (shows (e .a) (e .b)) (chainsOf b s) w .finding
   unfolding verdictBy
-  its-weighed fine =
+  its-weighed fits =
       ap (λ (j : Verdict). j .finding)
-      (judged-all (setsOf b s) (b .counts .terminals) e w (fine-range b fine .most-terminals))
+      (judged-all (setsOf b s) (b .counts .terminals) e w (fits .counts .most-terminals))
 
-  its-finding : boardFine b ≡ true → HasFinding b s r n w
-  its-finding fine =
+  its-finding : BoardFits b → HasFinding b s r n w
+  its-finding fits =
       by-test (leb (effortOf b s e) w)
       (λ enough. by-first (firstShown (shows (e .a) (e .b)) (chainsOf b s)) refl (leb-true (effortOf b s e) w enough))
       (λ short. let more = leb-false (effortOf b s e) w short in record {
@@ -79,7 +76,7 @@ module _ (b : Board) (w : ℕ) (s : State) (r : ℕ) (n : Which) (e : Winding) (
         its = its;
         finding = undecided;
         found =
-            its-weighed fine ∙ ap (λ (j : Verdict). j .finding) (weighed-short (shows (e .a) (e .b)) (chainsOf b s) w
+            its-weighed fits ∙ ap (λ (j : Verdict). j .finding) (weighed-short (shows (e .a) (e .b)) (chainsOf b s) w
             more);
         says = record { which = n; winding = e; its-winding = its; more = more };
       })
@@ -87,7 +84,7 @@ module _ (b : Board) (w : ℕ) (s : State) (r : ℕ) (n : Which) (e : Winding) (
       settles : (o : Option (List ℕ)) → firstShown (shows (e .a) (e .b)) (chainsOf b s) ≡ o → effortOf b s e ≤ w
           → findingOn (setsOf b s) b w e ≡ settled (effortOf b s e) o .finding
       settles o first enough =
-          its-weighed fine
+          its-weighed fits
           ∙ ap (λ (j : Verdict). j .finding)
           (weighed-within (shows (e .a) (e .b)) (chainsOf b s) w enough ∙ ap (settled (effortOf b s e)) first)
 
@@ -101,7 +98,7 @@ module _ (b : Board) (w : ℕ) (s : State) (r : ℕ) (n : Which) (e : Winding) (
         says = (
           its-within enough,
           carries-through b s r n e its
-              (live-is-carrying b s (e .a) (e .b) fine .0 (listed-live b s e fine c first)),
+              (live-is-carrying b s (e .a) (e .b) fits .0 (listed-live b s e fits c first)),
         );
       }
       by-first none first enough = record {
@@ -111,44 +108,42 @@ module _ (b : Board) (w : ℕ) (s : State) (r : ℕ) (n : Which) (e : Winding) (
         found = settles none first enough;
         says = (
           its-within enough,
-          λ current. unlisted-dead b s e fine first
-              (live-is-carrying b s (e .a) (e .b) fine .1 (through-carries b s r n e its current)),
+          λ current. unlisted-dead b s e fits first
+              (live-is-carrying b s (e .a) (e .b) fits .1 (through-carries b s r n e its current)),
         );
       }
 
--- ---- the windings of a relay, on a board that breaks no rule
+-- ---- the windings of a relay of one sort, on a board whose counts and parts fit
 
-module _ (b : Board) (w : ℕ) (s : State) (r : ℕ) (fine : boardFine b ≡ true) where
-  -- each winding of a relay has a finding, but the second one of a regular relay
-  winding-finding : (n : Which) → r < b .counts .relays → ¬ ((n ≡ Second) × isRegular r (partsOf b))
-      → HasFinding b s r n w
-  winding-finding n below there =
-      let its = its-there b r n fine eleven in
-      its-finding b w s r n (its .0) (its .1) fine
-    where
-      eleven : ¬ (LineEleven b r n)
-      eleven (inl past) = omega (arith, below, past)
-      eleven (inr regular) = there regular
+module _ (b : Board) (w : ℕ) (s : State) (r : ℕ) where
+  pub regular-finding : BoardFits b → isRegular r (partsOf b) → HasFinding b s r First w
+  regular-finding fits regular =
+      let its = regular-wound b r regular in
+      its-finding b w s r First (its .winding) (its .first) fits
 
-  pub first-finding : r < b .counts .relays → HasFinding b s r First w
-  first-finding below = winding-finding First below (λ x. let z : _≡_ {A = ℕ} 0 1 = cc (x .0) in omega arith)
+  pub drawing-finding : BoardFits b → isSteel r (partsOf b) → HasFinding b s r First w
+  drawing-finding fits steel =
+      let its = steel-wound b r steel in
+      its-finding b w s r First (its .drawing) (its .first) fits
 
-  pub second-finding : r < b .counts .relays → isSteel r (partsOf b) → HasFinding b s r Second w
-  second-finding below steel = winding-finding Second below (λ x. omega (arith, steel .0, x .1 .0))
+  pub dropping-finding : BoardFits b → isSteel r (partsOf b) → HasFinding b s r Second w
+  dropping-finding fits steel =
+      let its = steel-wound b r steel in
+      its-finding b w s r Second (its .dropping) (its .second) fits
 
-  -- the second winding of a regular relay is missing, and so needs nothing
-  second-missing : isRegular r (partsOf b) → windingOf Second r (partsOf b) ≡ none
-  second-missing regular = missing-exactly b r Second fine .1 (inr (refl, regular))
-
+  -- a regular relay has no second winding, so none that needs more
   pub second-within : isRegular r (partsOf b) → Within b s r Second w
-  second-within regular e its = absurd (its-no-line b r Second fine e its (inr (refl, regular)))
+  second-within regular e its = absurd (regular-wound b r regular .no-second e its)
 
   -- the windings on which these findings are
   pub regular-windings : isRegular r (partsOf b) → (first : HasFinding b s r First w)
       → windingsAt r (partsOf b) ≡ wound.regular (first .winding)
   unfolding windingsAt
   regular-windings regular first =
-      rw (its-found b r First (first .winding) (first .its), second-missing regular) refl
+      rw (
+        its-found b r First (first .winding) (first .its),
+        counted-missing Second r (partsOf b) (regular-second r (partsOf b) Second (refl, regular)),
+      ) refl
 
   pub steel-windings : (first : HasFinding b s r First w) (second : HasFinding b s r Second w)
       → windingsAt r (partsOf b) ≡ wound.steel (first .winding) (second .winding)

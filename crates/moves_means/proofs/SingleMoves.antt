@@ -3,7 +3,7 @@
 -- holds.
 use Prim.Native.Nat.{ℕ, _<_}
 use mathlib.Core.Path.{_≡_, refl, sym, ap, subst, _∙_}
-use mathlib.Core.Logic.{⊎-elim}
+use mathlib.Core.Logic.{_⊎_, ⊎-elim}
 use mathlib.Core.Bool.{true}
 use Rattle.refusals.specs.Outcomes.{Outcome, given, refused}
 use Rattle.refusals.specs.Refusals.{noSuchWinding}
@@ -12,7 +12,9 @@ use Rattle.board.specs.declared.Board.{Board}
 use Rattle.board.specs.Parts.{partsOf}
 use Rattle.board.specs.Rules.{boardFine}
 use Rattle.board.specs.Sorts.{isRegular, isSteel}
+use Rattle.board.specs.BreaksNoRule.{BoardFits}
 use Rattle.board.proofs.FineLaws.{fine-relays-wound}
+use Rattle.board.proofs.BreaksNoRule.{fine-fits}
 use Rattle.state.specs.declared.State.{State}
 use Rattle.state.specs.States.{isDrawn}
 use Rattle.state.proofs.StateLaws.{usable-fine}
@@ -26,13 +28,13 @@ use Rattle.moves.specs.Moving.{movable, toldMoveAnswer, toldMoved, Moves}
 use Rattle.moves.proofs.StepLaws.{step-windings}
 use Rattle.moves.proofs.MovingLaws.{movable-given, movable-lacking, movable-eleven, moving-refused, moving-moved}
 use Rattle.moves_means.specs.SingleMoves.{Comes, StepExactly, MoveExactly, MoveElevenExactly}
-use Rattle.moves_means.proofs.FindingLaws.{first-finding, second-finding, second-within, regular-windings}
-use Rattle.moves_means.proofs.FindingLaws.{steel-windings}
+use Rattle.moves_means.proofs.FindingLaws.{regular-finding, drawing-finding, dropping-finding, second-within}
+use Rattle.moves_means.proofs.FindingLaws.{regular-windings, steel-windings}
 use Rattle.moves_means.proofs.ComesLaws.{regular-comes, steel-comes, comes-exclusive}
 
 -- ---- a step, by the sort of the relay
 
-module _ (b : Board) (w : ℕ) (s : State) (r : ℕ) (fine : boardFine b ≡ true) (below : r < b .counts .relays) where
+module _ (b : Board) (w : ℕ) (s : State) (r : ℕ) (fits : BoardFits b) (below : r < b .counts .relays) where
   -- a step goes by the windings x of the relay, and by what is found on them, f
   findings-mean : (x : OfRelay Winding) (f : OfRelay (Outcome Finding)) → windingsAt r (partsOf b) ≡ x
       → findingsBy (findingOn (setsOf b s) b w) x ≡ f → Comes b s r (decide (isDrawn s r) f) w
@@ -42,27 +44,31 @@ module _ (b : Board) (w : ℕ) (s : State) (r : ℕ) (fine : boardFine b ≡ tru
 
   regular-means : isRegular r (partsOf b) → Comes b s r (stepOf b s r w) w
   regular-means sort =
-      let first = first-finding b w s r fine below in
+      let first = regular-finding b w s r fits sort in
       findings-mean (regular (first .winding)) (regular (given (first .finding)))
-      (regular-windings b w s r fine sort first) (ap regular (first .found))
-      (regular-comes b w s r below sort (isDrawn s r) (first .finding) refl (second-within b w s r fine sort)
+      (regular-windings b w s r sort first) (ap regular (first .found))
+      (regular-comes b w s r below sort (isDrawn s r) (first .finding) refl (second-within b w s r sort)
       (first .says))
 
   steel-means : isSteel r (partsOf b) → Comes b s r (stepOf b s r w) w
   steel-means sort =
-      let first = first-finding b w s r fine below in
-      let second = second-finding b w s r fine below sort in
+      let first = drawing-finding b w s r fits sort in
+      let second = dropping-finding b w s r fits sort in
       findings-mean (steel (first .winding) (second .winding))
       (steel (given (first .finding)) (given (second .finding)))
-      (steel-windings b w s r fine first second) (rw (first .found, second .found) refl)
+      (steel-windings b w s r first second) (rw (first .found, second .found) refl)
       (steel-comes b w s r below sort (isDrawn s r) (first .finding) (second .finding) refl (first .says)
       (second .says))
 
--- of what a relay comes to `Comes` holds
+-- of what a relay of either sort comes to `Comes` holds
+sorted-means : (b : Board) (w : ℕ) (s : State) (r : ℕ) → BoardFits b → r < b .counts .relays
+    → isRegular r (partsOf b) ⊎ isSteel r (partsOf b) → Comes b s r (stepOf b s r w) w
+sorted-means b w s r fits below sort =
+    ⊎-elim (regular-means b w s r fits below) (steel-means b w s r fits below) sort
+
 pub step-means : (b : Board) (w : ℕ) (s : State) (r : ℕ) → boardFine b ≡ true → r < b .counts .relays
     → Comes b s r (stepOf b s r w) w
-step-means b w s r fine below =
-    ⊎-elim (regular-means b w s r fine below) (steel-means b w s r fine below) (fine-relays-wound b fine r below)
+step-means b w s r fine below = sorted-means b w s r (fine-fits b fine) below (fine-relays-wound b fine r below)
 
 -- ---- over the call
 

@@ -42,9 +42,11 @@ loop-again c =
     let below = at-else .before .loop-test .taken in
     let loop = at-else .before .before .loop in (
       loop .inv .0,
-      scan-on _ _ _ _ _ _ (toldSeen (loop .first)) (loop .inv .1) _ _ below (omega (arith, loop .inv .0, at-else .if1 .left))
+      scan-on _ _ _ _ _ _ (toldSeen (loop .first)) (loop .inv .1) _ _ below
+          (omega (arith, loop .inv .0, at-else .if1 .left))
           (c .before .before .before .is-first .ensures) (c .before .before .seen-with .ensures),
-      scan-on _ _ _ _ _ _ (toldSeen (loop .second)) (loop .inv .2) _ _ below (omega (arith, loop .inv .0, at-else .if1 .left))
+      scan-on _ _ _ _ _ _ (toldSeen (loop .second)) (loop .inv .2) _ _ below
+          (omega (arith, loop .inv .0, at-else .if1 .left))
           (c .before .carries .ensures) (c .seen-with2 .ensures),
     )
 

@@ -8,13 +8,13 @@ returns : tie.Need-returns
 returns c =
     let at-arm = c .before .before in
     findings-regular _ _ _ _ _ (at-arm .before .before .find-windings .ensures) _ _ (at-arm .windings .given .1)
-    (c .finding-on .ensures)
+    (c .finding-by .ensures)
 
 returns-2 : tie.Need-returns-2
 returns-2 c =
     let at-arm = c .before .before .before in
     findings-steel _ _ _ _ _ (at-arm .before .before .find-windings .ensures) _ _ _ _ (at-arm .windings2 .given .1)
-    (c .before .finding-on2 .ensures) (c .finding-on3 .ensures)
+    (c .before .finding-by2 .ensures) (c .finding-by3 .ensures)
 
 returns-3 : tie.Need-returns-3
 returns-3 c = findings-absent _ _ _ _ _ (c .before .before .find-windings .ensures) (c .enum-told .given .1)
