@@ -2,7 +2,8 @@
 -- its windings, one for each way out of `decide`, and that undecided alone can change with the allowance.
 use mathlib.Core.Path.{_≡_, refl, sym, ap, _∙_}
 use mathlib.Core.Logic.{_⊎_, inl, inr}
-use mathlib.Core.Bool.{Bool, true, false, cond, _||_}
+use mathlib.Core.Bool.{Bool, true, false, cond}
+use Rattle.bits.proofs.BoolLaws.{true-either}
 use Rattle.refusals.specs.Outcomes.{Outcome, given}
 use Rattle.search.specs.declared.Winding.{Winding}
 use Rattle.search.specs.declared.Finding.{Finding}
@@ -83,11 +84,7 @@ undecided-first : (x y : Outcome verdict.Finding) → x ≡ given verdict.undeci
 undecided-first x y e = rw e refl
 
 undecided-second : (x y : Outcome verdict.Finding) → y ≡ given verdict.undecided → anyUndecided (steel x y) ≡ true
-undecided-second x y e = rw e (or-true (isUndecided x))
-  where
-    or-true : (t : Bool) → (t || true) ≡ true
-    or-true true = refl
-    or-true false = refl
+undecided-second x y e = true-either (isUndecided x) (isUndecided y) (inr (ap isUndecided e))
 
 -- the finding g on each winding is undecided or the same as h: then what the relay does is undecided or the same
 module _ (d : Bool) (g h : Winding → Outcome verdict.Finding)

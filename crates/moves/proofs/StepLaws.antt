@@ -1,13 +1,16 @@
--- Laws of a relay's step: what is found on its windings, and that it decides; a larger allowance changes nothing but
--- undecided; a move changes that relay and nothing else. Runs go by these and by nothing of the definition's text.
+-- Laws of a relay's step: what is found on its windings, as `judge` says, and that it decides; a larger allowance
+-- changes nothing but undecided; a move changes that relay and nothing else. Runs go by these and by nothing of the
+-- definition's text.
 use Prim.Native.Nat.{ℕ, _≤_, _<_}
 use mathlib.Core.Path.{_≡_, refl, sym, ap, _∙_}
 use mathlib.Core.Logic.{_⊎_, inl, inr, ⊎-elim}
 use mathlib.Core.Bool.{Bool, true}
+use mathlib.Core.Option.{some}
 use Rattle.refusals.specs.Outcomes.{Outcome, given}
 use Rattle.board.specs.declared.Counts.{Counts}
 use Rattle.board.specs.declared.Board.{Board}
 use Rattle.board.specs.Parts.{partsOf}
+use Rattle.board.specs.Rules.{boardFine}
 use Rattle.state.specs.declared.State.{State}
 use Rattle.state.specs.States.{isDrawn, isPushed, withDrawn, withDropped, stateFine}
 use Rattle.state.proofs.StateLaws.{drawn-draw-other, drawn-drop-other, state-fits-draw, state-fits-drop}
@@ -16,10 +19,15 @@ use Rattle.neighbours.specs.Neighbours.{setsOf}
 use Rattle.search.specs.declared.Winding.{Winding}
 use Rattle.search.specs.Verdicts as verdict
 use Rattle.search.proofs.VerdictLaws.{verdict-by-larger}
+use Rattle.judge.specs.declared.Which.{Which}
+use Rattle.judge.specs.declared.Which.the-variants.{First, Second}
 use Rattle.judge.specs.declared.Windings.{Windings}
 use Rattle.judge.specs.declared.Windings.the-variants as found
-use Rattle.judge.specs.RelayWindings.{OfRelay, regular, steel, absent, windingsAt, toldWindings, FindsWindings}
-use Rattle.judge.specs.Judging.{judgedBy}
+use Rattle.judge.specs.RelayWindings.{OfRelay, regular, steel, absent, windingOf, windingsAt, windingNamed}
+use Rattle.judge.specs.RelayWindings.{toldWindings, FindsWindings}
+use Rattle.judge.specs.Judging.{judgedBy, judging}
+use Rattle.judge.proofs.WoundLaws.{windings-named}
+use Rattle.judge.proofs.JudgeLaws.{winding-for-sought, judging-given}
 use Rattle.moves.specs.Steps.{Move, drew, dropped, rests, undecided, conflict, decide, findingsBy, findingOn}
 use Rattle.moves.specs.Steps.{findingsOn, stepBy, stepOf, made}
 use Rattle.moves.proofs.MoveLaws.{decide-larger}
@@ -71,6 +79,33 @@ step-windings b w s r x is =
     sym
     (step-by b s r w (setsOf b s) _ refl
     (step-findings (setsOf b s) b (isDrawn s r) (isDrawn s r) r w _ _ refl (findings-at (setsOf b s) b r w x is) refl))
+
+-- so, on a board and in a state that are not refused, a step goes by what the call `judge` says of each winding
+abbrev pub saidOf : Board → State → ℕ → ℕ → OfRelay Winding → OfRelay (Outcome verdict.Finding)
+saidOf b s r w (regular v) = regular (judging b s r First w .finding)
+saidOf b s r w (steel v u) = steel (judging b s r First w .finding) (judging b s r Second w .finding)
+saidOf b s r w absent = absent
+
+module _ (b : Board) (w : ℕ) (s : State) (r : ℕ) (fine : boardFine b ≡ true)
+    (fits : stateFine (b .counts) s ≡ true) where
+  finding-judging : (x : OfRelay Winding) → windingsAt r (partsOf b) ≡ x → (n : Which) (v : Winding)
+      → windingNamed n x ≡ some v → findingOn (setsOf b s) b w v ≡ judging b s r n w .finding
+  finding-judging x has n v is =
+      let its : windingOf n r (partsOf b) ≡ some v = sym (windings-named b r n fine) ∙ ap (windingNamed n) has ∙ is in
+      ap (λ (j : verdict.Verdict). j .finding)
+      (judging-given b s r n w v (setsOf b s) (winding-for-sought b s r n (some v) fine fits its) refl)
+
+  findings-said : (x : OfRelay Winding) → windingsAt r (partsOf b) ≡ x
+      → findingsBy (findingOn (setsOf b s) b w) x ≡ saidOf b s r w x
+  findings-said (regular v) has = ap regular (finding-judging (regular v) has First v refl)
+  findings-said (steel v u) has =
+      rw (finding-judging (steel v u) has First v refl, finding-judging (steel v u) has Second u refl) refl
+  findings-said absent has = refl
+
+  pub step-judging : stepOf b s r w ≡ decide (isDrawn s r) (saidOf b s r w (windingsAt r (partsOf b)))
+  step-judging =
+      step-windings b w s r (windingsAt r (partsOf b)) refl
+      ∙ ap (decide (isDrawn s r)) (findings-said (windingsAt r (partsOf b)) refl)
 
 -- a larger allowance x changes no finding but undecided
 finding-larger : (k : Sets) (b : Board) (w x : ℕ) → w ≤ x → (v : Winding)

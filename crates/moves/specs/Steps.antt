@@ -7,7 +7,7 @@
 --     steelMove d x y           what a steel relay does, drawn if d, its drawing winding live if x and its dropping
 --                               winding live if y
 --     isLive, isUndecided o     the winding was judged live, undecided
---     anyUndecided f            some winding of the relay was, by what was found on them, f
+--     anyUndecided f            some winding of a relay was judged undecided, by what was found on its windings, f
 --     moveBy d f                what a relay does by its sort, drawn if d, where nothing is undecided; what the board
 --                               lacks rests
 --     decide d f                what a relay does by what was found on its windings, f, drawn if d
