@@ -33,7 +33,8 @@ use Rattle.session.specs.Carried.{nextOf, toldAhead, toldNext}
 -- ---- reading an event: x is what reading its number came to
 
 module _ (n : ℕ) (s : List ℕ) (at : ℕ) (x : Number) (read : ReadsNumber s at x) where
-  pub event-at-refused : (q : Refusal) → x ≡ number-was.Refused q → refused (q .number) (q .place) ≡ eventAt currentEdition n s at
+  pub event-at-refused : (q : Refusal) → x ≡ number-was.Refused q
+      → refused (q .number) (q .place) ≡ eventAt currentEdition n s at
   unfolding eventAt
   event-at-refused q is = rw (wanted-refused currentEdition _ noSuchName s at _ _ (told-refused _ x q is read))
 
@@ -43,7 +44,8 @@ module _ (n : ℕ) (s : List ℕ) (at : ℕ) (x : Number) (read : ReadsNumber s 
   event-at-no-name v next is beyond =
       rw (wanted-fails currentEdition _ noSuchName s at v next (told-found _ x v next is read) (le-ltb (v / 2) n beyond))
 
-  pub event-at-found : (v next : ℕ) → x ≡ number-was.Read v next → v / 2 < n → found (eventOf v) next ≡ eventAt currentEdition n s at
+  pub event-at-found : (v next : ℕ) → x ≡ number-was.Read v next → v / 2 < n
+      → found (eventOf v) next ≡ eventAt currentEdition n s at
   unfolding eventAt
   event-at-found v next is below =
       rw (wanted-passes currentEdition _ noSuchName s at v next (told-found _ x v next is read) (lt-ltb (v / 2) n below))
@@ -89,12 +91,14 @@ module _ (h : Head) (a : Ahead) (s : List ℕ) where
     unfolding nextEvent
     event-by = rw (lt-leb (length s) (a .place) there, read)
 
-    pub event-refused : (q : Refusal) → x ≡ event-was.Refused q → closes a (q .number) (q .place) ≡ nextEvent currentEdition h a s
+    pub event-refused : (q : Refusal) → x ≡ event-was.Refused q
+        → closes a (q .number) (q .place) ≡ nextEvent currentEdition h a s
     unfolding makes
     event-refused q is = ap (λ (y : EventRead). makes h a (toldEventRead y)) (sym is) ∙ event-by
 
     pub event-made : (v : Event) (next : ℕ) (y : Shown) → x ≡ event-was.Read v next
-        → y ≡ eventLine (h .board) (a .event) (a .state) v (h .allowance) → goesOn (a .event) y next ≡ nextEvent currentEdition h a s
+        → y ≡ eventLine (h .board) (a .event) (a .state) v (h .allowance)
+        → goesOn (a .event) y next ≡ nextEvent currentEdition h a s
     unfolding makes
     event-made v next y is told =
         ap (λ (z : Shown). goesOn (a .event) z next) told
@@ -108,7 +112,8 @@ module _ (h : Head) (a : code-ahead.Ahead) (s : List ℕ) where
   unfolding nextOf nextAt
   next-first y is told = rw (told, is)
 
-  pub next-events : a .stage ≡ stage.Events → nextEvent currentEdition h (toldAhead a) s ≡ nextOf currentEdition h (toldAhead a) s
+  pub next-events : a .stage ≡ stage.Events
+      → nextEvent currentEdition h (toldAhead a) s ≡ nextOf currentEdition h (toldAhead a) s
   unfolding nextOf nextAt
   next-events is = rw is
 
@@ -117,6 +122,7 @@ module _ (h : Head) (a : code-ahead.Ahead) (s : List ℕ) where
   unfolding nextOf nextAt
   next-refusing q is = rw is
 
-  pub next-over : a .stage ≡ stage.Over → _≡_ {A = Ahead × Coming} (toldAhead a, no-line) (nextOf currentEdition h (toldAhead a) s)
+  pub next-over : a .stage ≡ stage.Over
+      → _≡_ {A = Ahead × Coming} (toldAhead a, no-line) (nextOf currentEdition h (toldAhead a) s)
   unfolding nextOf nextAt
   next-over is = rw is

@@ -122,9 +122,7 @@ module _ (z : code-session.Session) (s out out′ : List ℕ) (r : code-handed.H
   -- a line that was handed out fits the buffer, and leaves less to come
   pub call-advances : Advances z s (length out) r
   call-advances n is =
-      let c = came n is in
-      (
+      let c = came n is in (
         c .fits,
-        next-less currentEdition (headOf (toldSession z)) (toldAhead (z .ahead)) (toldAhead (r .session .ahead)) s (c .its-line)
-            (c .next),
+        next-less currentEdition _ (toldAhead (z .ahead)) (toldAhead (r .session .ahead)) s (c .its-line) (c .next),
       )

@@ -33,7 +33,8 @@ pub data Comes (ed : Edition) (h : Head) (a : Ahead) (s : List ℕ) : Type 0 whe
       ≡ goesOn (a .event) (eventLine (h .board) (a .event) (a .state) (v .value) (h .allowance)) (v .next)
       → Comes ed h a s
   bad-event : (n p : ℕ) → a .stage ≡ events → a .place < length s
-      → eventAt ed (h .board .counts .buttons) s (a .place) ≡ refused n p → nextOf ed h a s ≡ closes a n p → Comes ed h a s
+      → eventAt ed (h .board .counts .buttons) s (a .place) ≡ refused n p → nextOf ed h a s ≡ closes a n p
+      → Comes ed h a s
   tells-refusal : (n p : ℕ) → a .stage ≡ refusing n p → nextOf ed h a s ≡ closes a n p → Comes ed h a s
   at-end : a .stage ≡ events → length s ≤ a .place → nextOf ed h a s ≡ (a, no-line) → Comes ed h a s
   is-over : a .stage ≡ over → nextOf ed h a s ≡ (a, no-line) → Comes ed h a s
@@ -68,19 +69,16 @@ module _ (ed : Edition) (h : Head) (a : Ahead) (s : List ℕ) where
   comes = stage-by (a .stage) refl
 
 -- an event's number stands at its place and takes at least a byte
-pub event-next : (ed : Edition) (n : ℕ) (s : List ℕ) (at : ℕ) (v : Found Event) → eventAt ed n s at ≡ given v → at < v .next
+pub event-next : (ed : Edition) (n : ℕ) (s : List ℕ) (at : ℕ) (v : Found Event) → eventAt ed n s at ≡ given v
+    → at < v .next
 unfolding eventAt
 event-next ed n s at v e =
     let read =
     handed (wanted ed _ noSuchName s at) (λ (w : Found ℕ). found (eventOf (w .value)) (w .next)) v e in
     let w = read .value in
     let same : w .next ≡ v .next = ap (λ (x : Found Event). x .next) (given-injective _ _ (read .then)) in
-    omega (
-      arith,
-      number-next-within (ed .width) s at (w .value) (w .next) (wanted-found ed _ noSuchName s at (w .value) (w .next) (read .first) .1)
-          .1,
-      same,
-    )
+    let number = wanted-found ed _ noSuchName s at (w .value) (w .next) (read .first) .1 in
+    omega (arith, number-next-within (ed .width) s at (w .value) (w .next) number .1, same)
 
 pub line-never : (l : Line) → no-line ≡ line l → ⊥
 line-never l e = let z : _≡_ {A = ℕ} 0 1 = cc in omega arith

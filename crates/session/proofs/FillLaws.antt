@@ -50,7 +50,8 @@ module _ (out : List ℕ) (at : ℕ) where
       ap (λ (x : List ℕ). take at out ++ (o ++ x)) none ∙ ap (λ (x : List ℕ). take at out ++ x) (append-nil o)
 
   pub line-at-by : (h : Head) (a : Ahead) (s o out′ : List ℕ) (r : code-ahead.HandedAhead)
-      → toldHandedAhead r o ≡ lineHanded h a s (midOf at (length out - at) out) → out′ ≡ putMid at (length out - at) out o
+      → toldHandedAhead r o ≡ lineHanded h a s (midOf at (length out - at) out)
+      → out′ ≡ putMid at (length out - at) out o
       → toldHandedAhead r out′ ≡ behind (take at out) (lineHanded h a s (drop at out))
   line-at-by h a s o out′ r called back =
       let lent = called ∙ ap (lineHanded h a s) part-lent in
@@ -107,7 +108,8 @@ data Ways (h : Head) (a : Ahead) (s p : List ℕ) : Type 0 where
       → Ways h a s p
 
 module _ (h : Head) (a : Ahead) (s p : List ℕ) where
-  handed-by : longestLine ≤ length p → (x : Ahead × Coming) → nextOf currentEdition h a s ≡ x → lineHanded h a s p ≡ handedBy x p
+  handed-by : longestLine ≤ length p → (x : Ahead × Coming) → nextOf currentEdition h a s ≡ x
+      → lineHanded h a s p ≡ handedBy x p
   handed-by room x is = sym (line-handed-room h a s p room) ∙ ap (λ (y : Ahead × Coming). handedBy y p) is
 
   room-ways : longestLine ≤ length p → (x : Ahead × Coming) → nextOf currentEdition h a s ≡ x → Ways h a s p
@@ -117,7 +119,8 @@ module _ (h : Head) (a : Ahead) (s p : List ℕ) where
 
   ways : Ways h a s p
   ways =
-      by-test (leb longestLine (length p)) (λ room. room-ways (leb-true longestLine (length p) room) (nextOf currentEdition h a s) refl)
+      by-test (leb longestLine (length p))
+      (λ room. room-ways (leb-true longestLine (length p) room) (nextOf currentEdition h a s) refl)
       (λ short.
       let less = leb-false longestLine (length p) short in
       no-room less (sym (line-handed-short h a s p less)))
@@ -213,7 +216,8 @@ module _ (h : Head) (a₀ : Ahead) (s out₀ : List ℕ) (a : Ahead) (out : List
 
   -- ---- a line is added
 
-  module _ (y : Ahead) (l : Line) (room : longestLine ≤ length (drop used out)) (is : nextOf currentEdition h a s ≡ (y, line l)) where
+  module _ (y : Ahead) (l : Line) (room : longestLine ≤ length (drop used out))
+      (is : nextOf currentEdition h a s ≡ (y, line l)) where
     bytes-on : bytesOf (f .lines ++ (l ∷ [])) ≡ bytesOf (f .lines) ++ lineText l
     bytes-on = bytes-append (f .lines) (l ∷ []) ∙ ap (λ (x : List ℕ). bytesOf (f .lines) ++ x) (bytes-one l)
 
@@ -251,7 +255,8 @@ module _ (h : Head) (a₀ : Ahead) (s out₀ : List ℕ) (a : Ahead) (out : List
 
   module _ (r : code-ahead.HandedAhead) (out′ : List ℕ)
       (called : toldHandedAhead r out′ ≡ behind (take used out) (lineHanded h a s (drop used out))) where
-    came-to : (x : HandedAhead) → lineHanded h a s (drop used out) ≡ x → toldHandedAhead r out′ ≡ behind (take used out) x
+    came-to : (x : HandedAhead) → lineHanded h a s (drop used out) ≡ x
+        → toldHandedAhead r out′ ≡ behind (take used out) x
     came-to x is = called ∙ ap (behind (take used out)) is
 
     pub record Goes (n : ℕ) : Type 0 where
@@ -265,7 +270,8 @@ module _ (h : Head) (a₀ : Ahead) (s out₀ : List ℕ) (a : Ahead) (out : List
         absurd (line-not-nothing (ap toldHandOut (sym is) ∙ ap (λ (x : HandedAhead). x .answer) (came-to _ e)))
     goes-by n is (one-line y l room next e) =
         let told = came-to _ e in
-        let long : n ≡ length (lineText l) = line-is (ap toldHandOut (sym is) ∙ ap (λ (x : HandedAhead). x .answer) told) in
+        let long : n ≡ length (lineText l) =
+        line-is (ap toldHandOut (sym is) ∙ ap (λ (x : HandedAhead). x .answer) told) in
         record {
           grows = omega (arith, long, line-length-some l);
           filled-on =

@@ -105,7 +105,8 @@ module _ (z : code-session.Session) (s out out′ : List ℕ) (r : code-handed.H
         lines-some = omega arith;
         lines-fit =
             fits
-            ∙ ap {B = Ahead × List Line} (λ (x : Ahead). (x, l ∷ ls)) (ap (λ (h : Handed). h .session .ahead) (sym told));
+            ∙ ap {B = Ahead × List Line} (λ (x : Ahead). (x, l ∷ ls))
+            (ap (λ (h : Handed). h .session .ahead) (sym told));
         lines-bytes = long;
         lines-text =
             ap (λ (h : Handed). take n (h .out)) told
@@ -152,7 +153,8 @@ module _ (z : code-session.Session) (s out out′ : List ℕ) (r : code-handed.H
   over-by is x fits (y, no-line) next = refl
   over-by is (y, []) fits (w, line l) next =
       let room = filled-room nothing (ap toldHandOut is) in
-      let goes = fitting-next _ (toldAhead (z .ahead)) s (length out) (length out) room (omega arith) (w, line l) next in
+      let goes =
+      fitting-next _ (toldAhead (z .ahead)) s (length out) (length out) room (omega arith) (w, line l) next in
       absurd (omega (arith, ap (λ (x : Ahead × List Line). length (x .1)) (sym fits ∙ goes)))
   over-by is (y, m ∷ ls) fits (w, line l) next =
       absurd (line-not-nothing (sym (told-answer _ (filled-by nothing (ap toldHandOut is) _ fits)) ∙ ap toldHandOut is))
@@ -181,7 +183,8 @@ module _ (z : code-session.Session) (s out out′ : List ℕ) (r : code-handed.H
       absurd (line-not-nothing (sym (told-answer _ (filled-by nothing (ap toldHandOut is) _ fits)) ∙ ap toldHandOut is))
   stays-by is (y, []) fits (w, no-line) next =
       let room = filled-room nothing (ap toldHandOut is) in
-      let goes = fitting-next _ (toldAhead (z .ahead)) s (length out) (length out) room (omega arith) (w, no-line) next in
+      let goes =
+      fitting-next _ (toldAhead (z .ahead)) s (length out) (length out) room (omega arith) (w, no-line) next in
       ap (λ (h : Handed). h .session .ahead) (filled-by nothing (ap toldHandOut is) _ fits)
       ∙ ap (λ (x : Ahead × List Line). x .0) (sym fits ∙ goes)
       ∙ none-same currentEdition _ (toldAhead (z .ahead)) w s next
@@ -189,7 +192,8 @@ module _ (z : code-session.Session) (s out out′ : List ℕ) (r : code-handed.H
   none-left : r .answer ≡ said.Over → nextIn (r .session) s .1 ≡ no-line
   none-left is =
       let stays = stays-by is fits-in refl (nextIn z s) refl in
-      ap₂ (λ (h : Head) (a : Ahead). nextOf currentEdition h a s .1) filled-head stays ∙ filled-over is (nextIn z s) refl
+      ap₂ (λ (h : Head) (a : Ahead). nextOf currentEdition h a s .1) filled-head stays
+      ∙ filled-over is (nextIn z s) refl
 
   pub filled-ends : longestLine ≤ length out → ((n : ℕ) → r .answer ≡ said.Written n → ⊥)
       → nextIn (r .session) s .1 ≡ no-line

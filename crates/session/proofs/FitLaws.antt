@@ -72,7 +72,8 @@ module _ (h : Head) (s : List ℕ) (P : Ahead → ℕ → Ahead × List Line →
   fitting-holds zero a n enough = stops a n (inr (omega (arith, enough)))
   fitting-holds (suc k) a n enough =
       by-test (leb longestLine n)
-      (λ room. rw room (next-holds k a n (fitting-holds k) enough (leb-true longestLine n room) (nextOf currentEdition h a s) refl))
+      (λ room. rw room
+      (next-holds k a n (fitting-holds k) enough (leb-true longestLine n room) (nextOf currentEdition h a s) refl))
       (λ short. rw short (stops a n (inr (leb-false longestLine n short))))
 
 -- the lines that fit have room, and each leaves less to come

@@ -38,7 +38,9 @@ fitsOn (y, no-line) go = (y, [])
 unfoldable pub fitting : ℕ → Head → Ahead → List ℕ → ℕ → Ahead × List Line
 fitting zero h a s n = (a, [])
 fitting (suc k) h a s n =
-    cond (leb longestLine n) (fitsOn (nextOf currentEdition h a s) (λ y l. fitting k h y s (n - length (lineText l)))) (a, [])
+    cond (leb longestLine n)
+    (fitsOn (nextOf currentEdition h a s) (λ y l. fitting k h y s (n - length (lineText l))))
+    (a, [])
 
 unfoldable pub filledBy : Ahead × List Line → List ℕ → HandedAhead
 filledBy (a, []) out = record { ahead = a; answer = given nothing; out = out }

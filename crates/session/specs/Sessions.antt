@@ -1,19 +1,19 @@
 -- A session's lines, on its bytes. Rule book: "A session file is a board, the allowance W, then events to the end"; "It
 -- reads a session from standard input, from a fresh state"; "Board and W are read before the first run. A bad file (10
 -- counts the whole session) or event (1, 2 or 7) prints `refused`, number, place, and ends; earlier lines stand."
---     Head                        what stands before the events: the board and the allowance
---     withAllowance b o           the board b, with what reading the allowance came to
---     headAt ed s                 the head of the session s by the edition ed, and the place of its first event, or the
---                                 refusal
---     eventLines o tell go        the lines from an event on: `tell` is the event's own, `go` the lines after it; a
---                                 refused event ends the session
---     linesFrom ed k b s t e at w the lines of the events from place `at` on, the first of them event e in state t; of
---                                 at most k events
---     headLines ed o s            the lines of the session s with the head o
---     sessionLines ed s           the lines of the session s: there are no more events than bytes
---     lineTexts                   lines as texts
---     printed                     texts one after the other
---     sessionText ed s            all that the session s prints
+--     Head                           what stands before the events: the board and the allowance
+--     withAllowance b o              the board b, with what reading the allowance came to
+--     headAt ed s                    the head of the session s by the edition ed, and the place of its first event, or
+--                                    the refusal
+--     eventLines o tell go           the lines from an event on: `tell` is the event's own, `go` the lines after it; a
+--                                    refused event ends the session
+--     linesFrom ed k b s t e at w    the lines of the events from place `at` on, the first of them event e in state t;
+--                                    of at most k events
+--     headLines ed o s               the lines of the session s with the head o
+--     sessionLines ed s              the lines of the session s: there are no more events than bytes
+--     lineTexts                      lines as texts
+--     printed                        texts one after the other
+--     sessionText ed s               all that the session s prints
 use Prim.Native.Nat.{ℕ, zero, suc}
 use mathlib.Core.Bool.{cond}
 use mathlib.Core.List.{List, [], _∷_, _++_}

@@ -33,7 +33,13 @@ fn answer_of(written: LineWritten) -> HandOut
 }
 
 // Hands out the next line into a buffer: 16 if the longest line has no room there.
-pub fn hand_line(board: Board, allowance: u32, ahead: Ahead, s: &[u8], out: &mut [u8]) -> HandedAhead
+pub fn hand_line(
+    board: Board,
+    allowance: u32,
+    ahead: Ahead,
+    s: &[u8],
+    out: &mut [u8],
+) -> HandedAhead
     ensures { λ r. ⌜ toldHandedAhead r (now (out .exit))
         ≡ lineHanded (headWith board allowance) (toldAhead ahead) (now (s .entry)) (now (out .entry)) ⌝ }
 {

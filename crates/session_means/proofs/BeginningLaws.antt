@@ -23,7 +23,7 @@ use Rattle.session.proofs.ToCome.{toComeAt, toCome}
 use Rattle.session_means.proofs.StillLaws.{stillAt, still, stillIn, Numbered, NumberedIn}
 
 begun-still : (o : Outcome (Found Head)) (s : List ℕ)
-    → still (headOf (begunFrom o)) (begunFrom o .ahead) s ≡ headLines currentEdition o s
+    → still currentEdition (headOf (begunFrom o)) (begunFrom o .ahead) s ≡ headLines currentEdition o s
 unfolding begunFrom headLines still stillAt
 begun-still (given h) s = refl
 begun-still (refused n p) s = refl
@@ -31,7 +31,7 @@ begun-still (refused n p) s = refl
 pub beginning-still : (s : List ℕ) (z : Session) → Begins s z → stillIn z s ≡ sessionLines currentEdition s
 unfolding beginning sessionLines
 beginning-still s z begun =
-    ap (λ (x : carried.Session). still (headOf x) (x .ahead) s) begun ∙ begun-still (headAt currentEdition s) s
+    ap (λ (x : carried.Session). still currentEdition (headOf x) (x .ahead) s) begun ∙ begun-still (headAt currentEdition s) s
 
 long-refused : (s : List ℕ) → longestInput < length s → reading currentEdition s .1 ≡ refused inputTooLong 0
 unfolding answered
@@ -63,4 +63,5 @@ begun-numbered (refused n p) s short = omega arith
 pub beginning-numbered : (s : List ℕ) (z : Session) → Begins s z → NumberedIn z s
 unfolding beginning
 beginning-numbered s z begun =
-    subst (λ (x : carried.Session). Numbered (x .ahead) s) (sym begun) (begun-numbered (headAt currentEdition s) s (head-short s))
+    subst (λ (x : carried.Session). Numbered (x .ahead) s) (sym begun)
+    (begun-numbered (headAt currentEdition s) s (head-short s))

@@ -18,7 +18,8 @@ along-twelve : (h : Head) → Along h (λ e t ls. All OnlyTwelve ls)
 along-twelve h =
     record { none = λ e t. tt; closes = λ e t n p by. (tt, tt); shown = λ e t x ls shows so on. (so .twelve, on) }
 
-head-lines-twelve : (o : Outcome (Found Head)) (s : List ℕ) → Gives HeadFine o → All OnlyTwelve (headLines currentEdition o s)
+head-lines-twelve : (o : Outcome (Found Head)) (s : List ℕ) → Gives HeadFine o
+    → All OnlyTwelve (headLines currentEdition o s)
 unfolding headLines
 head-lines-twelve (refused n p) s fine = (tt, tt)
 head-lines-twelve (given h) s fine = head-walk h s fine (λ e t ls. All OnlyTwelve ls) (along-twelve (h .value))

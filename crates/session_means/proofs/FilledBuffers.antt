@@ -29,18 +29,18 @@ Filled n ls left = (left ≡ []) ⊎ (n < length (bytesOf ls) + longestLine)
 
 -- the lines ls are the first that are still to tell where a is ahead, and the rest where y is
 abbrev FirstLines : Head → List ℕ → Ahead → List Line → Ahead → Type 0
-FirstLines h s a ls y = (still h a s ≡ ls ++ still h y s) × Numbered y s
+FirstLines h s a ls y = (still currentEdition h a s ≡ ls ++ still currentEdition h y s) × Numbered y s
 
 -- likewise of the code's sessions
 abbrev FirstIn : List ℕ → code-session.Session → List Line → code-session.Session → Type 0
 FirstIn s z ls y = (stillIn z s ≡ ls ++ stillIn y s) × NumberedIn y s
 
 module _ (s : List ℕ) where
-  first-line : (h : Head) (a y x : Ahead) (l : Line) (ls : List Line) → Numbered a s → nextOf currentEdition h a s ≡ (y, line l)
-      → (Numbered y s → FirstLines h s y ls x) → FirstLines h s a (l ∷ ls) x
+  first-line : (h : Head) (a y x : Ahead) (l : Line) (ls : List Line) → Numbered a s
+      → nextOf currentEdition h a s ≡ (y, line l) → (Numbered y s → FirstLines h s y ls x) → FirstLines h s a (l ∷ ls) x
   first-line h a y x l ls numbered is rest =
-      let so = rest (numbered-next h a s numbered y l is) in
-      (still-next h a s numbered (y, line l) is ∙ ap {B = List Line} (λ ms. l ∷ ms) (so .0), so .1)
+      let so = rest (numbered-next currentEdition h a s numbered y l is) in
+      (still-next currentEdition h a s numbered (y, line l) is ∙ ap {B = List Line} (λ ms. l ∷ ms) (so .0), so .1)
 
   -- the lines that fit are the first
   fitting-first : (h : Head) (k : ℕ) (a : Ahead) (n : ℕ) → n ≤ k → Numbered a s
@@ -55,11 +55,11 @@ module _ (s : List ℕ) where
   came-first z out out′ r called n is numbered =
       let ls = came-lines z s out out′ r called n is .lines-told in
       let after : Ahead = toldAhead (r .session .ahead) in
-      let first : FirstLines (headOf (toldSession z)) s (toldAhead (z .ahead)) ls after =
+      let head = headOf (toldSession z) in
+      let first : FirstLines head s (toldAhead (z .ahead)) ls after =
       rw (came-lines z s out out′ r called n is .lines-fit) at
-      (fitting-first (headOf (toldSession z)) (length out) (toldAhead (z .ahead)) (length out) (omega arith) numbered) in
-      (
-        first .0 ∙ ap (λ (h : Head). ls ++ still h after s) (sym (filled-head z s out out′ r called)),
+      (fitting-first head (length out) (toldAhead (z .ahead)) (length out) (omega arith) numbered) in (
+        first .0 ∙ ap (λ (h : Head). ls ++ still currentEdition h after s) (sym (filled-head z s out out′ r called)),
         first .1,
       )
 
@@ -109,16 +109,17 @@ module _ (s : List ℕ) where
   -- ---- the next buffer
 
   -- where nothing comes, nothing is left
-  none-by : (h : Head) (a : Ahead) → Numbered a s → (c : Ahead × Coming) → c .1 ≡ no-line → nextOf currentEdition h a s ≡ c
-      → still h a s ≡ []
-  none-by h a numbered (y, no-line) is next = still-next h a s numbered _ next
+  none-by : (h : Head) (a : Ahead) → Numbered a s → (c : Ahead × Coming) → c .1 ≡ no-line
+      → nextOf currentEdition h a s ≡ c → still currentEdition h a s ≡ []
+  none-by h a numbered (y, no-line) is next = still-next currentEdition h a s numbered _ next
   none-by h a numbered (y, line l) is next = absurd (line-never l (sym is))
 
-  none-left : (h : Head) (a : Ahead) → Numbered a s → nextOf currentEdition h a s .1 ≡ no-line → still h a s ≡ []
+  none-left : (h : Head) (a : Ahead) → Numbered a s → nextOf currentEdition h a s .1 ≡ no-line
+      → still currentEdition h a s ≡ []
   none-left h a numbered is = none-by h a numbered (nextOf currentEdition h a s) is refl
 
   full-still : (h : Head) (n : ℕ) (a : Ahead) (ls : List Line) → Numbered a s → Full h s n (a, ls)
-      → Filled n ls (still h a s)
+      → Filled n ls (still currentEdition h a s)
   full-still h n a ls numbered (inl none) = inl (none-left h a numbered none)
   full-still h n a ls numbered (inr less) = inr less
 

@@ -26,14 +26,16 @@ module _ (ed : Edition) (b : Board) (w : ℕ) (s : List ℕ) where
 
   pub from-event : (k : ℕ) (t : State) (e at : ℕ) → at < length s
       → linesFrom ed (suc k) b s t e at w
-      ≡ eventLines (eventAt ed (b .counts .buttons) s at) (λ v. eventLine b e t v w) (λ u next. linesFrom ed k b s u (suc e) next w)
+      ≡ eventLines (eventAt ed (b .counts .buttons) s at) (λ v. eventLine b e t v w)
+      (λ u next. linesFrom ed k b s u (suc e) next w)
   unfolding linesFrom
   from-event k t e at there = rw (lt-leb (length s) at there) refl
 
   -- two ways to go on after an event that agree at the places after it
   lines-same : (at : ℕ) (tell : Event → Shown) (go stay : State → ℕ → List Line)
       → ((u : State) (next : ℕ) → at < next → go u next ≡ stay u next)
-      → (o : Outcome (Found Event)) → eventAt ed (b .counts .buttons) s at ≡ o → eventLines o tell go ≡ eventLines o tell stay
+      → (o : Outcome (Found Event)) → eventAt ed (b .counts .buttons) s at ≡ o
+      → eventLines o tell go ≡ eventLines o tell stay
   lines-same at tell go stay same (given v) e =
       ap {B = List Line} (λ ls. tell (v .value) .0 ∷ ls)
       (same (tell (v .value) .1) (v .next) (event-next ed (b .counts .buttons) s at v e))

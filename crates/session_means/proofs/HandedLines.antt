@@ -4,6 +4,7 @@ use Prim.Native.Nat.{ℕ, _≤_}
 use mathlib.Core.Path.{_≡_, refl, sym, ap, ap₂, subst, _∙_}
 use mathlib.Core.List.{List, [], _∷_, _++_, append-nil}
 use lib.ListN.{length}
+use Rattle.board_reader.specs.Editions.{currentEdition}
 use Rattle.lines.specs.Lines.{Line, longestLine}
 use Rattle.session.specs.declared.Session as code-session
 use Rattle.session.specs.declared.Handed as code-handed
@@ -32,16 +33,17 @@ module _ (s : List ℕ) where
   hands-first z y t numbered h =
       let c = came z s (h .out) (h .out′) (h .answer) (h .called) (h .bytes) (h .wrote) in
       let after : Ahead = toldAhead (h .answer .session .ahead) in
-      let rest : still (headOf (toldSession z)) after s ≡ stillIn y s =
-      ap (λ (k : Head). still k after s) (sym (call-head z s (h .out) (h .out′) (h .answer) (h .called)))
+      let rest : still currentEdition (headOf (toldSession z)) after s ≡ stillIn y s =
+      ap (λ (k : Head). still currentEdition k after s) (sym (call-head z s (h .out) (h .out′) (h .answer) (h .called)))
       ∙ ap (λ (x : code-session.Session). stillIn x s) (h .after) in
       record {
         told =
-            ap lineTexts (still-next _ (toldAhead (z .ahead)) s numbered _ (c .next))
-            ∙ ap₂ {C = List (List ℕ)} (λ (x : List ℕ) (ls : List Line). x ∷ lineTexts ls) (sym (c .text) ∙ h .text) rest;
+            ap lineTexts (still-next currentEdition _ (toldAhead (z .ahead)) s numbered _ (c .next))
+            ∙ ap₂ {C = List (List ℕ)} (λ (x : List ℕ) (ls : List Line). x ∷ lineTexts ls) (sym (c .text) ∙ h .text)
+            rest;
         numbered =
             subst (λ (x : code-session.Session). NumberedIn x s) (h .after)
-            (numbered-next _ (toldAhead (z .ahead)) s numbered _ _ (c .next));
+            (numbered-next currentEdition _ (toldAhead (z .ahead)) s numbered _ _ (c .next));
       }
 
   from-start : (ts : List (List ℕ)) (z z′ : code-session.Session) → NumberedIn z s
@@ -61,13 +63,13 @@ module _ (s : List ℕ) where
       → Tells (ahead z s) out r out′
   unfolding lineTexts
   tells-by z out out′ r numbered room called (y, no-line) is =
-      rw (still-next _ (toldAhead (z .ahead)) s numbered _ is) (
+      rw (still-next currentEdition _ (toldAhead (z .ahead)) s numbered _ is) (
         call-over z s out out′ r called room y is,
         call-lent z s out out′ r called room y is,
       )
   tells-by z out out′ r numbered room called (y, line l) is =
       let handed = call-line z s out out′ r called room y l is in
-      rw (still-next _ (toldAhead (z .ahead)) s numbered _ is)
+      rw (still-next currentEdition _ (toldAhead (z .ahead)) s numbered _ is)
       (record {
         answer = handed .0;
         begins = handed .1;

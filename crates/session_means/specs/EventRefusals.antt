@@ -30,4 +30,7 @@ ClosedByEvent (event e o m d) = Unit {0}
 ClosedByEvent (closing n p) = (n ≡ inputEnds) ⊎ ((n ≡ badForm) ⊎ (n ≡ noSuchName))
 
 abbrev pub EventsClosed : Type 0
-EventsClosed = (s : List ℕ) (h : Found Head) → headAt currentEdition s ≡ given h → All ClosedByEvent (sessionLines currentEdition s)
+EventsClosed =
+    (s : List ℕ) (h : Found Head)
+    → headAt currentEdition s ≡ given h
+    → All ClosedByEvent (sessionLines currentEdition s)

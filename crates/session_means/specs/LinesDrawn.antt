@@ -39,4 +39,7 @@ SumsFrom h e t (event n o m d ∷ ls) = (u : State) × (PrintsSum h e t (event n
 SumsFrom h e t (closing n p ∷ ls) = ls ≡ []
 
 abbrev pub LinesDrawn : Type 0
-LinesDrawn = (s : List ℕ) (h : Found Head) → headAt currentEdition s ≡ given h → SumsFrom (h .value) 0 freshState (sessionLines currentEdition s)
+LinesDrawn =
+    (s : List ℕ) (h : Found Head)
+    → headAt currentEdition s ≡ given h
+    → SumsFrom (h .value) 0 freshState (sessionLines currentEdition s)
