@@ -20,7 +20,8 @@ abbrev pub countAt : Edition → ℕ → ℕ → List ℕ → ℕ → Outcome (F
 countAt e low high = wanted e (inRange low high) outOfRange
 
 -- a count that was found is at most its limit
-pub count-most : (e : Edition) (low high : ℕ) (s : List ℕ) (at v next : ℕ) → countAt e low high s at ≡ found v next → v ≤ high
+pub count-most : (e : Edition) (low high : ℕ) (s : List ℕ) (at v next : ℕ) → countAt e low high s at ≡ found v next
+    → v ≤ high
 count-most e low high s at v next h =
     range-bounds low high v (wanted-found e (inRange low high) outOfRange s at v next h .0) .1
 
@@ -44,7 +45,8 @@ module _ (e : Edition) (s : List ℕ) (k p : ℕ) where
         unfolding countsAt
         parts-refused c = rw (terminals, relays, buttons, c)
 
-pub counts-read : (e : Edition) (s : List ℕ) (t rt r rb b rc c next : ℕ) → countAt e leastTerminals mostTerminals s 0 ≡ found t rt
+pub counts-read : (e : Edition) (s : List ℕ) (t rt r rb b rc c next : ℕ)
+    → countAt e leastTerminals mostTerminals s 0 ≡ found t rt
     → countAt e 0 mostRelays s rt ≡ found r rb → countAt e 0 mostButtons s rb ≡ found b rc
     → countAt e 0 mostParts s rc ≡ found c next
     → found (record { terminals = t; relays = r; buttons = b; parts = c }) next ≡ countsAt e s
@@ -61,7 +63,8 @@ pub record CountsFound (e : Edition) (s : List ℕ) (c : Counts) (next : ℕ) : 
   pub buttons : countAt e 0 mostButtons s buttons-at ≡ found (c .buttons) parts-at
   pub parts : countAt e 0 mostParts s parts-at ≡ found (c .parts) next
 
-pub counts-found : (e : Edition) (s : List ℕ) (c : Counts) (next : ℕ) → countsAt e s ≡ found c next → CountsFound e s c next
+pub counts-found : (e : Edition) (s : List ℕ) (c : Counts) (next : ℕ) → countsAt e s ≡ found c next
+    → CountsFound e s c next
 unfolding countsAt
 counts-found e s c next h =
     let t = handed (countAt e leastTerminals mostTerminals s 0) _ _ h in
@@ -80,7 +83,8 @@ counts-found e s c next h =
     }
 
 -- counts that were read break no rule of 3
-pub counts-found-fine : (e : Edition) (s : List ℕ) (c : Counts) (next : ℕ) → CountsFound e s c next → countsFine c ≡ true
+pub counts-found-fine : (e : Edition) (s : List ℕ) (c : Counts) (next : ℕ) → CountsFound e s c next
+    → countsFine c ≡ true
 unfolding countsFine
 counts-found-fine e s c next read =
     true-both (true-both (true-both

@@ -60,7 +60,8 @@ pub number-refused : (ok : ℕ → Bool) (n : ℕ) (s : List ℕ) (at : ℕ) (x 
     → ReadsNumber s at x → toldNumber x ≡ wanted currentEdition ok n s at
 number-refused ok n s at x r e h =
     ap toldNumber e
-    ∙ sym (wanted-refused currentEdition ok n s at (r .number) (r .place) (told-refused (numberAt currentWidth s at) x r e h))
+    ∙ sym (wanted-refused currentEdition ok n s at (r .number) (r .place)
+    (told-refused (numberAt currentWidth s at) x r e h))
 
 -- a number that was found passed its test
 pub wanted-found : (e : Edition) (ok : ℕ → Bool) (n : ℕ) (s : List ℕ) (at v next : ℕ)
@@ -68,8 +69,8 @@ pub wanted-found : (e : Edition) (ok : ℕ → Bool) (n : ℕ) (s : List ℕ) (a
 unfolding wanted
 wanted-found e ok n s at v next h =
     let number =
-    handed (numberAt (e .width) s at) (λ f. unless (ok (f .value)) n at >> given f) (record { value = v; next = next }) h
-    in
+    handed (numberAt (e .width) s at) (λ f. unless (ok (f .value)) n at >> given f)
+    (record { value = v; next = next }) h in
     let fine =
     passed (ok (number .value .value)) n at (given (number .value)) (record { value = v; next = next })
     (number .then) in

@@ -34,7 +34,8 @@ module _ (e : Edition) (c : Counts) (w : WoundSoFar) (s : List ℕ) (at k p : �
 
 module _ (e : Edition) (c : Counts) (w : WoundSoFar) (s : List ℕ) (at kind ka : ℕ)
     (kinds : wanted e (inRange 0 (e .lastKind)) noSuchKind s at ≡ found kind ka) where
-  pub a-refused : (k p : ℕ) → wanted e (terminalFine c) noSuchTerminal s ka ≡ refused k p → refused k p ≡ partAt e c w s at
+  pub a-refused : (k p : ℕ) → wanted e (terminalFine c) noSuchTerminal s ka ≡ refused k p
+      → refused k p ≡ partAt e c w s at
   unfolding partAt
   a-refused k p h = rw (kinds, h)
 
@@ -66,8 +67,8 @@ module _ (e : Edition) (c : Counts) (w : WoundSoFar) (s : List ℕ) (at kind ka 
           part-found h = rw (kinds, as-a, as-b, ne-eqb a b apart, names, h)
 
 -- a terminal that was found is below T
-pub terminal-below : (e : Edition) (c : Counts) (s : List ℕ) (at v next : ℕ) → wanted e (terminalFine c) noSuchTerminal s at ≡ found
-    v next → v < c .terminals
+pub terminal-below : (e : Edition) (c : Counts) (s : List ℕ) (at v next : ℕ)
+    → wanted e (terminalFine c) noSuchTerminal s at ≡ found v next → v < c .terminals
 terminal-below e c s at v next h =
     ltb-true v (c .terminals) (wanted-found e (terminalFine c) noSuchTerminal s at v next h .0)
 

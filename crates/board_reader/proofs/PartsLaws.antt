@@ -97,7 +97,8 @@ module _ (e : Edition) (c : Counts) (s : List ℕ) (start : ℕ) (w₀ : WoundSo
             ∙ ap (λ (n : ℕ). readAfter ps (partsAt e c n w s at)) one
             ∙ ap (readAfter ps) (parts-next e c (c .parts - (i + 1)) w s at p next here)
             ∙ read-after-more ps p (partsAt e c (c .parts - (i + 1)) (gained w (p .kind)) s next)
-            ∙ ap (λ (v : WoundSoFar). readAfter (ps ++ (p ∷ [])) (partsAt e c (c .parts - (i + 1)) v s next)) (sym more);
+            ∙ ap (λ (v : WoundSoFar). readAfter (ps ++ (p ∷ [])) (partsAt e c (c .parts - (i + 1)) v s next))
+            (sym more);
       }
 
   pub walk-refused : (k p : ℕ) → i < c .parts → partAt e c w s at ≡ refused k p

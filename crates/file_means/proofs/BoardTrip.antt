@@ -9,7 +9,7 @@ use lib.ListN.{length}
 use lib.Seq.{length-take-le}
 use Rattle.refusals.specs.Outcomes.{Found, found}
 use Rattle.refusals.specs.Refusals.{outOfRange, windingLacking}
-use Rattle.number.specs.Numbers.{numberBytes, Bytes}
+use Rattle.number.specs.Numbers.{numberBytes}
 use Rattle.windings.specs.declared.WoundSoFar.{WoundSoFar}
 use Rattle.windings.specs.Windings.{noneWound, gained, complete}
 use Rattle.board.specs.declared.Part.{Part}
@@ -21,13 +21,14 @@ use Rattle.board.specs.Rules.{partFine, partsFine, boardFine}
 use Rattle.bits.proofs.BoolLaws.{both-true, true-both}
 use Rattle.board.proofs.PaddedLaws.{padded-parts}
 use Rattle.board.proofs.RuleLaws.{InRange, counts-in-range}
-use Rattle.board_reader.specs.Editions.{currentEdition}
+use Rattle.board_reader.specs.Editions.{Edition, currentEdition}
 use Rattle.board_reader.specs.Reading.{wanted, countsAt, partAt, partsAt, boardOf, boardFrom, boardAt}
+use Rattle.board_reader.proofs.EditionLaws.{Known}
 use Rattle.board_reader.proofs.FieldLaws.{range-within}
 use Rattle.board_reader.proofs.CountsLaws.{CountsFound, counts-found, counts-found-fine, counts-read}
 use Rattle.board_writer.specs.File.{countsBytes, partBytes, partsBytes, boardBytes}
 use Rattle.file_means.proofs.StandLaws.{StandsTo, stands-none, stands-append, stands-first, stands-second}
-use Rattle.file_means.proofs.StandLaws.{wanted-reads, wanted-stands}
+use Rattle.file_means.proofs.StandLaws.{AsWritten, wanted-reads, wanted-stands}
 use Rattle.file_means.proofs.PartTrip.{part-reads, PartIsFine, part-read}
 use Rattle.file_means.proofs.GivesLaws.{Gives, gives-then, gives-after, gives-unless}
 
@@ -59,17 +60,19 @@ counts-reads c s next range here =
     (count-reads 0 mostParts s (b-at + length b) next (c .parts) (omega arith) (omega arith) (range .most-parts)
     (stands-second s b-at next b p from-b)))
 
-counts-stand : (c : Counts) (s : List ℕ) (next : ℕ) → Bytes s → CountsFound currentEdition s c next → StandsTo s 0 next (countsBytes c)
+counts-stand : (e : Edition) (c : Counts) (s : List ℕ) (next : ℕ) → AsWritten e s → CountsFound e s c next
+    → StandsTo s 0 next (countsBytes c)
 unfolding countsBytes
-counts-stand c s next bytes read =
-    stands-append s 0 (read .relays-at) next _ _ (wanted-stands _ _ s _ _ _ bytes (read .terminals))
-    (stands-append s (read .relays-at) (read .buttons-at) next _ _ (wanted-stands _ _ s _ _ _ bytes (read .relays))
-    (stands-append s (read .buttons-at) (read .parts-at) next _ _ (wanted-stands _ _ s _ _ _ bytes (read .buttons))
-    (wanted-stands _ _ s _ _ _ bytes (read .parts))))
+counts-stand e c s next written read =
+    stands-append s 0 (read .relays-at) next _ _ (wanted-stands e _ _ s _ _ _ written (read .terminals))
+    (stands-append s (read .relays-at) (read .buttons-at) next _ _ (wanted-stands e _ _ s _ _ _ written (read .relays))
+    (stands-append s (read .buttons-at) (read .parts-at) next _ _ (wanted-stands e _ _ s _ _ _ written (read .buttons))
+    (wanted-stands e _ _ s _ _ _ written (read .parts))))
 
 -- parts one after the other
 parts-reads : (c : Counts) (ps : List Part) (w : WoundSoFar) (s : List ℕ) (at next : ℕ) → InRange c
-    → partsFine c w ps ≡ true → StandsTo s at next (partsBytes ps) → partsAt currentEdition c (length ps) w s at ≡ found ps next
+    → partsFine c w ps ≡ true → StandsTo s at next (partsBytes ps)
+    → partsAt currentEdition c (length ps) w s at ≡ found ps next
 unfolding partsFine partsBytes partsAt
 parts-reads c [] w s at next range fine here =
     let same : at ≡ next = omega (arith, here .ends) in
@@ -83,26 +86,28 @@ parts-reads c (p ∷ ps) w s at next range fine here =
     (stands-second s at next (partBytes p) (partsBytes ps) here) in
     rw (first, rest)
 
-record PartsRead (c : Counts) (n : ℕ) (w : WoundSoFar) (s : List ℕ) (at : ℕ) (ps : Found (List Part)) : Type 0 where
+record PartsRead (e : Edition) (c : Counts) (n : ℕ) (w : WoundSoFar) (s : List ℕ) (at : ℕ)
+    (ps : Found (List Part)) : Type 0 where
   counted : length (ps .value) ≡ n
   fine : partsFine c w (ps .value) ≡ true
-  stands : Bytes s → StandsTo s at (ps .next) (partsBytes (ps .value))
+  stands : AsWritten e s → StandsTo s at (ps .next) (partsBytes (ps .value))
 
-parts-read : (c : Counts) (n : ℕ) (w : WoundSoFar) (s : List ℕ) (at : ℕ)
-    → Gives (PartsRead c n w s at) (partsAt currentEdition c n w s at)
+parts-read : (e : Edition) → Known e → (c : Counts) (n : ℕ) (w : WoundSoFar) (s : List ℕ) (at : ℕ)
+    → Gives (PartsRead e c n w s at) (partsAt e c n w s at)
 unfolding partsAt partsFine partsBytes
-parts-read c zero w s at =
+parts-read e known c zero w s at =
     gives-unless _ (complete (c .relays) w) windingLacking at _
-    (λ full. record { counted = refl; fine = full; stands = λ bytes. stands-none s at })
-parts-read c (suc n) w s at =
-    gives-then (PartIsFine c w s at) _ (partAt currentEdition c w s at) _ (part-read c w s at) (λ p first.
+    (λ full. record { counted = refl; fine = full; stands = λ written. stands-none s at })
+parts-read e known c (suc n) w s at =
+    gives-then (PartIsFine e c w s at) _ (partAt e c w s at) _ (part-read e known c w s at) (λ p first.
     let w′ = gained w (p .value .kind) in
-    gives-then (PartsRead c n w′ s (p .next)) _ (partsAt currentEdition c n w′ s (p .next)) _ (parts-read c n w′ s (p .next))
+    gives-then (PartsRead e c n w′ s (p .next)) _ (partsAt e c n w′ s (p .next)) _
+    (parts-read e known c n w′ s (p .next))
     (λ ps rest.
     record {
       counted = ap suc (rest .counted);
       fine = true-both (first .fine) (rest .fine);
-      stands = λ bytes. stands-append s at (p .next) (ps .next) _ _ (first .stands bytes) (rest .stands bytes);
+      stands = λ written. stands-append s at (p .next) (ps .next) _ _ (first .stands written) (rest .stands written);
     }))
 
 -- a board. An array of parts has 256 places, which a list does not say by itself
@@ -125,27 +130,28 @@ board-reads b s next places fine here =
     ap (λ (n : ℕ). partsAt currentEdition (b .counts) n noneWound s mid) (sym counted) ∙ parts in
     rw (counts, all)
 
-pub record BoardIsFine (s : List ℕ) (b : Board) (next : ℕ) : Type 0 where
+pub record BoardIsFine (e : Edition) (s : List ℕ) (b : Board) (next : ℕ) : Type 0 where
   pub fine : boardFine b ≡ true
-  pub stands : Bytes s → StandsTo s 0 next (boardBytes b)
+  pub stands : AsWritten e s → StandsTo s 0 next (boardBytes b)
 
-board-made : (c : Counts) (s : List ℕ) (mid : ℕ) (ps : Found (List Part)) → CountsFound currentEdition s c mid
-    → PartsRead c (c .parts) noneWound s mid ps → BoardIsFine s (boardOf c (ps .value)) (ps .next)
+board-made : (e : Edition) (c : Counts) (s : List ℕ) (mid : ℕ) (ps : Found (List Part)) → CountsFound e s c mid
+    → PartsRead e c (c .parts) noneWound s mid ps → BoardIsFine e s (boardOf c (ps .value)) (ps .next)
 unfolding boardFine boardBytes
-board-made c s mid ps first rest =
+board-made e c s mid ps first rest =
     let same = padded-parts c (ps .value) (sym (rest .counted)) in
     record {
-      fine = true-both (counts-found-fine currentEdition s c mid first) (rw same (rest .fine));
+      fine = true-both (counts-found-fine e s c mid first) (rw same (rest .fine));
       stands =
-          λ bytes. rw same (stands-append s 0 mid (ps .next) _ _ (counts-stand c s mid bytes first)
-          (rest .stands bytes));
+          λ written. rw same (stands-append s 0 mid (ps .next) _ _ (counts-stand e c s mid written first)
+          (rest .stands written));
     }
 
-pub board-read : (s : List ℕ) → Gives (λ (b : Found Board). BoardIsFine s (b .value) (b .next)) (boardAt currentEdition s)
+pub board-read : (e : Edition) → Known e → (s : List ℕ)
+    → Gives (λ (b : Found Board). BoardIsFine e s (b .value) (b .next)) (boardAt e s)
 unfolding boardAt boardFrom
-board-read s =
-    gives-after _ (countsAt currentEdition s) _ (λ c counts.
-    let parts = parts-read (c .value) (c .value .parts) noneWound s (c .next) in
-    gives-then (PartsRead (c .value) (c .value .parts) noneWound s (c .next)) _
-    (partsAt currentEdition (c .value) (c .value .parts) noneWound s (c .next)) _ parts (λ ps rest.
-    board-made (c .value) s (c .next) ps (counts-found currentEdition s (c .value) (c .next) counts) rest))
+board-read e known s =
+    gives-after _ (countsAt e s) _ (λ c counts.
+    let parts = parts-read e known (c .value) (c .value .parts) noneWound s (c .next) in
+    gives-then (PartsRead e (c .value) (c .value .parts) noneWound s (c .next)) _
+    (partsAt e (c .value) (c .value .parts) noneWound s (c .next)) _ parts (λ ps rest.
+    board-made e (c .value) s (c .next) ps (counts-found e s (c .value) (c .next) counts) rest))

@@ -7,11 +7,11 @@ use mathlib.Core.List.{List}
 use lib.ListN.{length, take}
 use lib.Seq.{take-take}
 use Rattle.refusals.specs.Outcomes.{Outcome}
-use Rattle.number.specs.Numbers.{currentWidth}
 use Rattle.number.proofs.NumberLaws.{number-next-within, number-looks-no-further}
 use Rattle.board.specs.declared.Board.{Board}
 use Rattle.board.specs.Parts.{partsOf}
-use Rattle.board_reader.specs.Editions.{currentEdition}
+use Rattle.board_reader.specs.Editions.{Edition, currentEdition}
+use Rattle.board_reader.proofs.EditionLaws.{current-known}
 use Rattle.file_means.specs.FileRefusals.{StandsAt, FileStage, at-T, at-R, at-B, at-C, at-part, at-first}
 use Rattle.file_means.specs.FileRefusals.{at-second, at-name, Reached, start, T-fine, R-fine, B-fine, C-fine}
 use Rattle.file_means.specs.FileRefusals.{kind-fine, first-fine, second-fine, wire-fine, button-fine, relay-fine}
@@ -19,30 +19,31 @@ use Rattle.file_means.specs.BytesAfter.{BytesAfter}
 use Rattle.file_means.proofs.FileRefusals.{reached-reading, file-accepted}
 
 -- a stage is reached within the input
-reached-within : (s : List ℕ) (f : FileStage) (at : ℕ) → Reached currentEdition s f at → at ≤ length s
-reached-within s f at start = omega arith
-reached-within s f at (T-fine x stands least most) = number-next-within currentWidth s _ _ at stands .0
-reached-within s f at (R-fine x stands most) = number-next-within currentWidth s _ _ at stands .0
-reached-within s f at (B-fine x stands most) = number-next-within currentWidth s _ _ at stands .0
-reached-within s f at (C-fine x stands most) = number-next-within currentWidth s _ _ at stands .0
-reached-within s f at (kind-fine x more stands most) = number-next-within currentWidth s _ _ at stands .0
-reached-within s f at (first-fine x stands below) = number-next-within currentWidth s _ _ at stands .0
-reached-within s f at (second-fine x stands below apart) = number-next-within currentWidth s _ _ at stands .0
-reached-within s f at (wire-fine x) = reached-within s _ at x
-reached-within s f at (button-fine x stands below) = number-next-within currentWidth s _ _ at stands .0
-reached-within s f at (relay-fine x carries relay stands below untaken) = number-next-within currentWidth s _ _ at stands .0
+reached-within : (e : Edition) (s : List ℕ) (f : FileStage) (at : ℕ) → Reached e s f at → at ≤ length s
+reached-within e s f at start = omega arith
+reached-within e s f at (T-fine x stands least most) = number-next-within (e .width) s _ _ at stands .0
+reached-within e s f at (R-fine x stands most) = number-next-within (e .width) s _ _ at stands .0
+reached-within e s f at (B-fine x stands most) = number-next-within (e .width) s _ _ at stands .0
+reached-within e s f at (C-fine x stands most) = number-next-within (e .width) s _ _ at stands .0
+reached-within e s f at (kind-fine x more stands most) = number-next-within (e .width) s _ _ at stands .0
+reached-within e s f at (first-fine x stands below) = number-next-within (e .width) s _ _ at stands .0
+reached-within e s f at (second-fine x stands below apart) = number-next-within (e .width) s _ _ at stands .0
+reached-within e s f at (wire-fine x) = reached-within e s _ at x
+reached-within e s f at (button-fine x stands below) = number-next-within (e .width) s _ _ at stands .0
+reached-within e s f at (relay-fine x carries relay stands below untaken) =
+    number-next-within (e .width) s _ _ at stands .0
 
-module _ (s s′ : List ℕ) where
+module _ (e : Edition) (s s′ : List ℕ) where
   -- a number stands in both, and what stands before it is the same in both
-  stands-same : (p v next : ℕ) → take next s′ ≡ take next s → StandsAt currentEdition s p v next → StandsAt currentEdition s′ p v next
-  stands-same p v next same stands = number-looks-no-further currentWidth s s′ p v next (sym same) stands
+  stands-same : (p v next : ℕ) → take next s′ ≡ take next s → StandsAt e s p v next → StandsAt e s′ p v next
+  stands-same p v next same stands = number-looks-no-further (e .width) s s′ p v next (sym same) stands
 
-  before-same : (p v next : ℕ) → take next s′ ≡ take next s → StandsAt currentEdition s p v next → take p s′ ≡ take p s
+  before-same : (p v next : ℕ) → take next s′ ≡ take next s → StandsAt e s p v next → take p s′ ≡ take p s
   before-same p v next same stands =
-      let less : p ≤ next = omega (arith, number-next-within currentWidth s p v next stands .1) in
+      let less : p ≤ next = omega (arith, number-next-within (e .width) s p v next stands .1) in
       sym (take-take p next s′ less) ∙ ap (take p) same ∙ take-take p next s less
 
-  reached-same : (f : FileStage) (at : ℕ) → take at s′ ≡ take at s → Reached currentEdition s f at → Reached currentEdition s′ f at
+  reached-same : (f : FileStage) (at : ℕ) → take at s′ ≡ take at s → Reached e s f at → Reached e s′ f at
   reached-same f at same start = start
   reached-same f at same (T-fine {t} {p} x stands least most) =
       T-fine (reached-same at-T p (before-same p t at same stands) x) (stands-same p t at same stands) least most
@@ -75,11 +76,12 @@ bytes-after s s′ r r′ n read told =
     let ps = partsOf (r .board) in
     let was = file-accepted s r c ps n read .0 (told, refl, refl) in
     let here = was .1 in (
-      reached-within s (at-part c ps) n here,
+      reached-within currentEdition s (at-part c ps) n here,
       λ short same read′.
-          (let first = read ∙ reached-reading s c ps n (was .0) here (was .2) (was .3) in
+          (let first = read ∙ reached-reading currentEdition current-known s c ps n (was .0) here (was .2) (was .3) in
           let again =
-          read′ ∙ reached-reading s′ c ps n short (reached-same s s′ (at-part c ps) n same here) (was .2) (was .3) in (
+          read′ ∙ reached-reading currentEdition current-known s′ c ps n short
+          (reached-same currentEdition s s′ (at-part c ps) n same here) (was .2) (was .3) in (
             ap (λ (x : Board × Outcome ℕ). x .0) (again ∙ sym first),
             ap (λ (x : Board × Outcome ℕ). x .1) again,
           )),

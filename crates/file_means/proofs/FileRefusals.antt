@@ -2,7 +2,7 @@
 -- before it, and accepted exactly if the numbers of the board stand in the file.
 use Prim.Native.Nat.{ℕ, _<_, _≤_}
 use mathlib.Core.Path.{_≡_, refl, sym, ap, _∙_}
-use mathlib.Core.Logic.{_⊎_, inl, inr}
+use mathlib.Core.Logic.{_⊎_, _↔_, inl, inr}
 use mathlib.Core.List.{List}
 use lib.Dec.{leb}
 use lib.ListN.{length}
@@ -16,8 +16,9 @@ use Rattle.board.specs.declared.Part.{Part}
 use Rattle.board.specs.Parts.{partsOf}
 use Rattle.board.specs.Sorts.{Wound}
 use Rattle.board.proofs.PaddedLaws.{padded-parts}
-use Rattle.board_reader.specs.Editions.{currentEdition}
+use Rattle.board_reader.specs.Editions.{Edition, currentEdition}
 use Rattle.board_reader.specs.Reading.{boardOf, boardAt, answered, reading, longestInput}
+use Rattle.board_reader.proofs.EditionLaws.{Known, current-known}
 use Rattle.board_reader.proofs.ReadLaws.{answered-refused}
 use Rattle.file_means.specs.FileRefusals.{at-part, Reached, LineHolds, FileRefused, FileAccepted}
 use Rattle.file_means.proofs.LeadsLaws.{Leads, leads-refused, leads-given, leads-each, leads-unless}
@@ -25,62 +26,74 @@ use Rattle.file_means.proofs.ReadLeads.{BoardReached, board-leads}
 use Rattle.file_means.proofs.ReachedRead.{reached-board}
 use Rattle.file_means.proofs.HoldsRefused.{holds-board}
 
-module _ (s : List ℕ) where
-  abbrev Line : ℕ → ℕ → Type 0
-  Line n p = ((longestInput < length s) × (n ≡ inputTooLong) × (p ≡ 0)) ⊎ ((length s ≤ longestInput) × LineHolds currentEdition s n p)
-
-  abbrev BoardGiven : Found Board → Type 0
-  BoardGiven b = (length s ≤ longestInput) × BoardReached s (b .value .counts) (partsOf (b .value)) (b .next)
-
-  abbrev read : Outcome (Found Board)
-  read = unless (leb (length s) longestInput) inputTooLong 0 >> boardAt currentEdition s
-
-  read-leads : Leads Line BoardGiven read
-  read-leads =
-      leads-unless Line BoardGiven (leb (length s) longestInput) inputTooLong 0 (boardAt currentEdition s)
-      (λ long. inl (leb-false _ _ long, refl, refl))
-      (λ short. leads-each Line BoardGiven (boardAt currentEdition s)
-      (λ n p e. inr (leb-true _ _ short, leads-refused (LineHolds currentEdition s) _ (boardAt currentEdition s) n p (board-leads s) e))
-      (λ b e. (leb-true _ _ short, leads-given (LineHolds currentEdition s) _ (boardAt currentEdition s) b (board-leads s) e)))
-
-  holds-read : (n p : ℕ) → Line n p → read ≡ refused n p
-  holds-read n p (inl (long, ten, place)) = rw (lt-leb (length s) longestInput long, ten, place)
-  holds-read n p (inr (short, holds)) = rw (le-leb (length s) longestInput short, holds-board s n p holds)
-
-pub file-refused : FileRefused
-unfolding reading answered
-file-refused s r n p was =
-    let answer = ap (λ (x : Board × Outcome ℕ). x .1) was in (
-      λ no. leads-refused (Line s) (BoardGiven s) (read s) n p (read-leads s)
-          (answered-refused (read s) n p (sym answer ∙ no)),
-      λ line. answer ∙ ap (λ (o : Outcome (Found Board)). answered o .1) (holds-read s n p line),
-    )
-
 answered-given : (o : Outcome (Found Board)) (b : Board) (n : ℕ) → answered o ≡ (b, given n) → o ≡ found b n
 unfolding answered
 answered-given (given f) b n e =
     let place = given-injective (f .next) n (λ i. e i .1) in λ i. found (e i .0) (place i)
 answered-given (refused k p) b n e = absurd (refused-never k p n (λ i. e i .1))
 
--- what is read where the board stands there by its numbers
-pub reached-reading : (s : List ℕ) (c : Counts) (ps : List Part) (n : ℕ) → length s ≤ longestInput
-    → Reached currentEdition s (at-part c ps) n → length ps ≡ c .parts → Wound (c .relays) ps
-    → reading currentEdition s ≡ (boardOf c ps, given n)
-unfolding reading answered
-reached-reading s c ps n short here all wounds =
-    rw (le-leb (length s) longestInput short, reached-board s c ps n here all wounds)
+-- what reading by an edition answers, by the table of that edition
+module _ (e : Edition) (known : Known e) (s : List ℕ) where
+  abbrev Line : ℕ → ℕ → Type 0
+  Line n p =
+      ((longestInput < length s) × (n ≡ inputTooLong) × (p ≡ 0)) ⊎ ((length s ≤ longestInput) × LineHolds e s n p)
+
+  abbrev BoardGiven : Found Board → Type 0
+  BoardGiven b = (length s ≤ longestInput) × BoardReached e s (b .value .counts) (partsOf (b .value)) (b .next)
+
+  abbrev read : Outcome (Found Board)
+  read = unless (leb (length s) longestInput) inputTooLong 0 >> boardAt e s
+
+  read-leads : Leads Line BoardGiven read
+  read-leads =
+      leads-unless Line BoardGiven (leb (length s) longestInput) inputTooLong 0 (boardAt e s)
+      (λ long. inl (leb-false _ _ long, refl, refl))
+      (λ short. leads-each Line BoardGiven (boardAt e s)
+      (λ n p no. inr (
+        leb-true _ _ short,
+        leads-refused (LineHolds e s) _ (boardAt e s) n p (board-leads e known s) no,
+      ))
+      (λ b went. (leb-true _ _ short, leads-given (LineHolds e s) _ (boardAt e s) b (board-leads e known s) went)))
+
+  holds-read : (n p : ℕ) → Line n p → read ≡ refused n p
+  holds-read n p (inl (long, ten, place)) = rw (lt-leb (length s) longestInput long, ten, place)
+  holds-read n p (inr (short, holds)) = rw (le-leb (length s) longestInput short, holds-board e known s n p holds)
+
+  pub table-refused : (n p : ℕ) → (reading e s .1 ≡ refused n p) ↔ Line n p
+  unfolding reading answered
+  table-refused n p = (
+    λ no. leads-refused Line BoardGiven read n p read-leads (answered-refused read n p no),
+    λ line. ap (λ (o : Outcome (Found Board)). answered o .1) (holds-read n p line),
+  )
+
+  pub table-accepted : (b : Board) (n : ℕ) → reading e s ≡ (b, given n)
+      → (length s ≤ longestInput) × BoardReached e s (b .counts) (partsOf b) n
+  unfolding reading
+  table-accepted b n went =
+      leads-given Line BoardGiven read (record { value = b; next = n }) read-leads (answered-given read b n went)
+
+  -- what is read where the board stands there by its numbers
+  pub reached-reading : (c : Counts) (ps : List Part) (n : ℕ) → length s ≤ longestInput → Reached e s (at-part c ps) n
+      → length ps ≡ c .parts → Wound (c .relays) ps → reading e s ≡ (boardOf c ps, given n)
+  unfolding reading answered
+  reached-reading c ps n short here all wounds =
+      rw (le-leb (length s) longestInput short, reached-board e known s c ps n here all wounds)
+
+pub file-refused : FileRefused
+file-refused s r n p was =
+    let answer = ap (λ (x : Board × Outcome ℕ). x .1) was in
+    let exactly = table-refused currentEdition current-known s n p in
+    (λ no. exactly .0 (sym answer ∙ no), λ line. answer ∙ exactly .1 line)
 
 pub file-accepted : FileAccepted
-unfolding reading
 file-accepted s r c ps n was = (
   λ so.
-      (let answer = sym was ∙ ap (λ (o : Outcome ℕ). (r .board, o)) (so .0) in
-      let there =
-      leads-given (Line s) (BoardGiven s) (read s) (record { value = r .board; next = n }) (read-leads s)
-      (answered-given (read s) (r .board) n answer) in
+      (let there =
+      table-accepted currentEdition current-known s (r .board) n
+      (sym was ∙ ap (λ (o : Outcome ℕ). (r .board, o)) (so .0)) in
       rw (← so .1, ← so .2) (there .0, there .1 .reached, there .1 .counted, there .1 .all-wound)),
   λ (short, here, all, wounds).
-      (let answer = was ∙ reached-reading s c ps n short here all wounds in (
+      (let answer = was ∙ reached-reading currentEdition current-known s c ps n short here all wounds in (
         ap (λ (x : Board × Outcome ℕ). x .1) answer,
         ap (λ (x : Board × Outcome ℕ). x .0 .counts) answer,
         ap (λ (x : Board × Outcome ℕ). partsOf (x .0)) answer ∙ padded-parts c ps (sym all),

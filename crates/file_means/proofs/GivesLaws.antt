@@ -38,7 +38,8 @@ wanted-gives Q e ok n s at so =
     gives-after Q (numberAt (e .width) s at) _ (λ v read. gives-unless Q (ok (v .value)) n at (given v) (so v read))
 
 pub wanted-then : {B : Type 0} (Q : B → Type 0) (e : Edition) (ok : ℕ → Bool) (n : ℕ) (s : List ℕ) (at : ℕ)
-    (f : Found ℕ → Outcome B) → ((v : Found ℕ) → numberAt (e .width) s at ≡ given v → ok (v .value) ≡ true → Gives Q (f v))
+    (f : Found ℕ → Outcome B)
+    → ((v : Found ℕ) → numberAt (e .width) s at ≡ given v → ok (v .value) ≡ true → Gives Q (f v))
     → Gives Q (wanted e ok n s at >>= f)
 wanted-then Q e ok n s at f later =
     let passes : Found ℕ → Type 0 = λ v. (numberAt (e .width) s at ≡ given v) × (ok (v .value) ≡ true) in

@@ -13,7 +13,7 @@ use Rattle.bits.proofs.BoolLaws.{by-test}
 use Rattle.refusals.specs.Outcomes.{refused}
 use Rattle.refusals.specs.Refusals.{outOfRange, noSuchKind, noSuchTerminal, endsEqual, noSuchName, windingTaken}
 use Rattle.refusals.specs.Refusals.{windingLacking}
-use Rattle.number.specs.Numbers.{currentWidth, numberAt}
+use Rattle.number.specs.Numbers.{numberAt}
 use Rattle.kinds.specs.Kinds.{buttonKind, lastKind}
 use Rattle.windings.specs.declared.WoundSoFar.{WoundSoFar}
 use Rattle.windings.specs.Windings.{wound, complete}
@@ -24,8 +24,9 @@ use Rattle.board.specs.Parts.{mostParts}
 use Rattle.board.specs.Rules.{leastTerminals, mostTerminals, mostRelays, mostButtons, inRange, terminalFine, limitOf}
 use Rattle.board.specs.Sorts.{isRegular, isSteel}
 use Rattle.board.proofs.TallyLaws.{tallied-wound}
-use Rattle.board_reader.specs.Editions.{currentEdition}
+use Rattle.board_reader.specs.Editions.{Edition}
 use Rattle.board_reader.specs.Reading.{wanted, countsAt, partAt, partsAt, boardAt}
+use Rattle.board_reader.proofs.EditionLaws.{Known}
 use Rattle.board_reader.proofs.FieldLaws.{wanted-refused, wanted-fails, wanted-passes, wanted-found, range-below}
 use Rattle.board_reader.proofs.FieldLaws.{range-above, name-carried}
 use Rattle.board_reader.proofs.CountsLaws.{terminals-refused, relays-refused, buttons-refused, parts-refused}
@@ -40,15 +41,15 @@ use Rattle.file_means.proofs.ReachedRead.{PartsSoFar, StageRead, kind-m
 use Rattle.file_means.proofs.ReachedRead.{name-found, reached-read, rest-refused}
 
 -- the reader's test of the number that is wanted at a stage, and the number for no of it
-abbrev testOf : FileStage → ℕ → Bool
-testOf at-T = inRange leastTerminals mostTerminals
-testOf (at-R t) = inRange 0 mostRelays
-testOf (at-B t r) = inRange 0 mostButtons
-testOf (at-C t r b) = inRange 0 mostParts
-testOf (at-part c ps) = inRange 0 (currentEdition .lastKind)
-testOf (at-first c ps k) = terminalFine c
-testOf (at-second c ps k a) = terminalFine c
-testOf (at-name c ps k a b) = λ v. ltb v (limitOf c k)
+abbrev testOf : Edition → FileStage → ℕ → Bool
+testOf e at-T = inRange leastTerminals mostTerminals
+testOf e (at-R t) = inRange 0 mostRelays
+testOf e (at-B t r) = inRange 0 mostButtons
+testOf e (at-C t r b) = inRange 0 mostParts
+testOf e (at-part c ps) = inRange 0 (e .lastKind)
+testOf e (at-first c ps k) = terminalFine c
+testOf e (at-second c ps k a) = terminalFine c
+testOf e (at-name c ps k a b) = λ v. ltb v (limitOf c k)
 
 abbrev lineOf : FileStage → ℕ
 lineOf at-T = outOfRange
@@ -60,121 +61,124 @@ lineOf (at-first c ps k) = noSuchTerminal
 lineOf (at-second c ps k a) = noSuchTerminal
 lineOf (at-name c ps k a b) = noSuchName
 
-module _ (s : List ℕ) where
+module _ (e : Edition) (known : Known e) (s : List ℕ) where
   -- ---- a number that is refused, or that fails its test
 
   module _ (n p : ℕ) where
-    board-counts : refused n p ≡ countsAt currentEdition s → boardAt currentEdition s ≡ refused n p
+    board-counts : refused n p ≡ countsAt e s → boardAt e s ≡ refused n p
     unfolding boardAt
-    board-counts e = rw (← e)
+    board-counts stops = rw (← stops)
 
-    board-part : (c : Counts) (ps : List Part) (w : WoundSoFar) (at : ℕ) → PartsSoFar s c ps w at
-        → length ps < c .parts → refused n p ≡ partAt currentEdition c w s at → boardAt currentEdition s ≡ refused n p
+    board-part : (c : Counts) (ps : List Part) (w : WoundSoFar) (at : ℕ) → PartsSoFar e s c ps w at
+        → length ps < c .parts → refused n p ≡ partAt e c w s at → boardAt e s ≡ refused n p
     unfolding partsAt
-    board-part c ps w at x more e =
-        rest-refused s c ps w at (suc (c .parts - length ps - 1)) n p x (omega (arith, more)) (rw (← e))
+    board-part c ps w at x more stops =
+        rest-refused e known s c ps w at (suc (c .parts - length ps - 1)) n p x (omega (arith, more)) (rw (← stops))
 
-    board-stage : (f : FileStage) (at : ℕ) → StageRead s f at → NumberWanted f
-        → wanted currentEdition (testOf f) (lineOf f) s at ≡ refused n p → boardAt currentEdition s ≡ refused n p
-    board-stage at-T at here asked e = board-counts (terminals-refused currentEdition s n p (rw here at e))
-    board-stage (at-R t) at here asked e = board-counts (relays-refused currentEdition s n p t at here e)
-    board-stage (at-B t r) at (r-at, t-read, r-read) asked e =
-        board-counts (buttons-refused currentEdition s n p t r-at t-read r at r-read e)
-    board-stage (at-C t r b) at (r-at, b-at, t-read, r-read, b-read) asked e =
-        board-counts (parts-refused currentEdition s n p t r-at t-read r b-at r-read b at b-read e)
-    board-stage (at-part c ps) at (w, x) asked e = board-part c ps w at x asked (kind-refused currentEdition c w s at n p e)
-    board-stage (at-first c ps k) at (w, x) asked e =
+    board-stage : (f : FileStage) (at : ℕ) → StageRead e s f at → NumberWanted f
+        → wanted e (testOf e f) (lineOf f) s at ≡ refused n p → boardAt e s ≡ refused n p
+    board-stage at-T at here asked stops = board-counts (terminals-refused e s n p (rw here at stops))
+    board-stage (at-R t) at here asked stops = board-counts (relays-refused e s n p t at here stops)
+    board-stage (at-B t r) at (r-at, t-read, r-read) asked stops =
+        board-counts (buttons-refused e s n p t r-at t-read r at r-read stops)
+    board-stage (at-C t r b) at (r-at, b-at, t-read, r-read, b-read) asked stops =
+        board-counts (parts-refused e s n p t r-at t-read r b-at r-read b at b-read stops)
+    board-stage (at-part c ps) at (w, x) asked stops = board-part c ps w at x asked (kind-refused e c w s at n p stops)
+    board-stage (at-first c ps k) at (w, x) asked stops =
         board-part c ps w (x .part-at) (x .before) (x .one-more)
-        (a-refused currentEdition c w s (x .part-at) k at (x .kind-read) n p e)
-    board-stage (at-second c ps k a) at (w, x) asked e =
+        (a-refused e c w s (x .part-at) k at (x .kind-read) n p stops)
+    board-stage (at-second c ps k a) at (w, x) asked stops =
         let y = x .before in
         board-part c ps w (y .part-at) (y .before) (y .one-more)
-        (b-refused currentEdition c w s (y .part-at) k (x .a-at) (y .kind-read) a at (x .a-read) n p e)
-    board-stage (at-name c ps k a b) at (w, x) asked e =
+        (b-refused e c w s (y .part-at) k (x .a-at) (y .kind-read) a at (x .a-read) n p stops)
+    board-stage (at-name c ps k a b) at (w, x) asked stops =
         let y = x .before in
         let z = y .before in
         board-part c ps w (z .part-at) (z .before) (z .one-more)
-        (name-refused currentEdition c w s (z .part-at) k (y .a-at) (z .kind-read) a (x .b-at) (y .a-read) b at (x .b-read) (x .apart)
-        n p (sym (name-carried currentEdition c k s at asked) ∙ e))
+        (name-refused e c w s (z .part-at) k (y .a-at) (z .kind-read) a (x .b-at) (y .a-read) b at (x .b-read)
+        (x .apart) n p (sym (name-carried e c k s at asked) ∙ stops))
 
-  board-form : (n p : ℕ) (f : FileStage) (at : ℕ) → Reached currentEdition s f at → NumberWanted f → numberAt currentWidth s at ≡ refused n p
-      → boardAt currentEdition s ≡ refused n p
-  board-form n p f at here asked e =
-      board-stage n p f at (reached-read s f at here) asked (wanted-refused currentEdition (testOf f) (lineOf f) s at n p e)
+  board-form : (n p : ℕ) (f : FileStage) (at : ℕ) → Reached e s f at → NumberWanted f
+      → numberAt (e .width) s at ≡ refused n p
+      → boardAt e s ≡ refused n p
+  board-form n p f at here asked stops =
+      board-stage n p f at (reached-read e known s f at here) asked
+      (wanted-refused e (testOf e f) (lineOf f) s at n p stops)
 
-  board-test : (f : FileStage) (at v : ℕ) → NumberStands currentEdition s f at v → testOf f v ≡ false
-      → boardAt currentEdition s ≡ refused (lineOf f) at
+  board-test : (f : FileStage) (at v : ℕ) → NumberStands e s f at v → testOf e f v ≡ false
+      → boardAt e s ≡ refused (lineOf f) at
   board-test f at v (here, asked, next, stands) off =
-      board-stage (lineOf f) at f at (reached-read s f at here) asked
-      (wanted-fails currentEdition (testOf f) (lineOf f) s at v next stands off)
+      board-stage (lineOf f) at f at (reached-read e known s f at here) asked
+      (wanted-fails e (testOf e f) (lineOf f) s at v next stands off)
 
   -- ---- 6, 8 and 9, which are no test of one number alone
 
-  board-ends : (c : Counts) (ps : List Part) (k a at : ℕ) → NumberStands currentEdition s (at-second c ps k a) at a
-      → boardAt currentEdition s ≡ refused endsEqual at
+  board-ends : (c : Counts) (ps : List Part) (k a at : ℕ) → NumberStands e s (at-second c ps k a) at a
+      → boardAt e s ≡ refused endsEqual at
   board-ends c ps k a at (here, asked, next, stands) =
-      let read = reached-read s (at-second c ps k a) at here in
+      let read = reached-read e known s (at-second c ps k a) at here in
       let w = read .0 in
       let x = read .1 in
       let y = x .before in
-      let fine = wanted-found currentEdition (terminalFine c) noSuchTerminal s (x .a-at) a at (x .a-read) .0 in
+      let fine = wanted-found e (terminalFine c) noSuchTerminal s (x .a-at) a at (x .a-read) .0 in
       board-part endsEqual at c ps w (y .part-at) (y .before) (y .one-more)
-      (ends-equal currentEdition c w s (y .part-at) k (x .a-at) (y .kind-read) a at (x .a-read) a next
-      (wanted-passes currentEdition (terminalFine c) noSuchTerminal s at a next stands fine) refl)
+      (ends-equal e c w s (y .part-at) k (x .a-at) (y .kind-read) a at (x .a-read) a next
+      (wanted-passes e (terminalFine c) noSuchTerminal s at a next stands fine) refl)
 
-  board-winding : (c : Counts) (ps : List Part) (k a b v at : ℕ) → NumberStands currentEdition s (at-name c ps k a b) at v
-      → v < c .relays → Taken v ps k → boardAt currentEdition s ≡ refused windingTaken at
+  board-winding : (c : Counts) (ps : List Part) (k a b v at : ℕ) → NumberStands e s (at-name c ps k a b) at v
+      → v < c .relays → Taken v ps k → boardAt e s ≡ refused windingTaken at
   board-winding c ps k a b v at (here, asked, next, stands) below taken =
-      let read = reached-read s (at-name c ps k a b) at here in
+      let read = reached-read e known s (at-name c ps k a b) at here in
       let w = read .0 in
       let x = read .1 in
       let y = x .before in
       let z = y .before in
       let relay : ¬ (k ≡ buttonKind) = λ e. (let winding = taken-winding v ps k taken in omega (arith, e, winding)) in
       board-part windingTaken at c ps w (z .part-at) (z .before) (z .one-more)
-      (winding-taken-refused currentEdition c w s (z .part-at) k (y .a-at) (z .kind-read) a (x .b-at) (y .a-read) b at (x .b-read)
-      (x .apart) v next (name-found s c k at (c .relays) v next asked (relay-limit c k relay) stands below)
-      (taken-barred w ps v (z .before .so-far v) k (kind-most s c ps w k a b at x) taken))
+      (winding-taken-refused e c w s (z .part-at) k (y .a-at) (z .kind-read) a (x .b-at) (y .a-read) b at (x .b-read)
+      (x .apart) v next (name-found e known s c k at (c .relays) v next asked (relay-limit c k relay) stands below)
+      (taken-barred w ps v (z .before .so-far v) k (kind-most e known s c ps w k a b at x) taken))
 
-  board-lacking : (c : Counts) (ps : List Part) (r at : ℕ) → Reached currentEdition s (at-part c ps) at → length ps ≡ c .parts
-      → r < c .relays → ¬ isRegular r ps → ¬ isSteel r ps → boardAt currentEdition s ≡ refused windingLacking at
+  board-lacking : (c : Counts) (ps : List Part) (r at : ℕ) → Reached e s (at-part c ps) at → length ps ≡ c .parts
+      → r < c .relays → ¬ isRegular r ps → ¬ isSteel r ps → boardAt e s ≡ refused windingLacking at
   unfolding partsAt complete
   board-lacking c ps r at here all below irregular no-steel =
-      let read = reached-read s (at-part c ps) at here in
+      let read = reached-read e known s (at-part c ps) at here in
       let w = read .0 in
       let x = read .1 in
       let unwound : wound w r ≡ false =
       by-test (wound w r)
       (λ on. absurd (⊎-elim irregular no-steel (tallied-wound w ps r (x .so-far r) on))) (λ off. off) in
-      rest-refused s c ps w at 0 windingLacking at x (omega (arith, all))
+      rest-refused e known s c ps w at 0 windingLacking at x (omega (arith, all))
       (rw (every-fails (wound w) (c .relays) r below unwound))
 
 -- ---- every line
 
-pub holds-board : (s : List ℕ) (n p : ℕ) → LineHolds currentEdition s n p → boardAt currentEdition s ≡ refused n p
-holds-board s n p (line1 {f} {at} here asked ends) = board-form s n p f at here asked ends
-holds-board s n p (line2 {f} here asked bad) = board-form s n p f p here asked bad
-holds-board s n p (line3-T {v} x (inl under)) =
-    board-test s at-T p v x (range-below leastTerminals mostTerminals v under)
-holds-board s n p (line3-T {v} x (inr over)) =
-    board-test s at-T p v x (range-above leastTerminals mostTerminals v (omega arith) over)
-holds-board s n p (line3-R {t} {v} x over) =
-    board-test s (at-R t) p v x (range-above 0 mostRelays v (omega arith) over)
-holds-board s n p (line3-B {t} {r} {v} x over) =
-    board-test s (at-B t r) p v x (range-above 0 mostButtons v (omega arith) over)
-holds-board s n p (line3-C {t} {r} {b} {v} x over) =
-    board-test s (at-C t r b) p v x (range-above 0 mostParts v (omega arith) over)
-holds-board s n p (line4 {c} {ps} {v} x over) =
-    board-test s (at-part c ps) p v x (range-above 0 lastKind v (omega arith) over)
-holds-board s n p (line5-first {c} {ps} {k} {v} x over) =
-    board-test s (at-first c ps k) p v x (le-ltb v (c .terminals) over)
-holds-board s n p (line5-second {c} {ps} {k} {a} {v} x over) =
-    board-test s (at-second c ps k a) p v x (le-ltb v (c .terminals) over)
-holds-board s n p (line6 {c} {ps} {k} {a} x) = board-ends s c ps k a p x
-holds-board s n p (line7-button {c} {ps} {a} {b} {v} x over) =
-    board-test s (at-name c ps buttonKind a b) p v x (le-ltb v (c .buttons) over)
-holds-board s n p (line7-relay {c} {ps} {k} {a} {b} {v} x relay over) =
-    board-test s (at-name c ps k a b) p v x (rw (relay-limit c k relay) (le-ltb v (c .relays) over))
-holds-board s n p (line8 {c} {ps} {k} {a} {b} {v} x below taken) = board-winding s c ps k a b v p x below taken
-holds-board s n p (line9 {c} {ps} {r} x all below irregular no-steel) =
-    board-lacking s c ps r p x all below irregular no-steel
+pub holds-board : (e : Edition) → Known e → (s : List ℕ) (n p : ℕ) → LineHolds e s n p → boardAt e s ≡ refused n p
+holds-board e known s n p (line1 {f} {at} here asked ends) = board-form e known s n p f at here asked ends
+holds-board e known s n p (line2 {f} here asked bad) = board-form e known s n p f p here asked bad
+holds-board e known s n p (line3-T {v} x (inl under)) =
+    board-test e known s at-T p v x (range-below leastTerminals mostTerminals v under)
+holds-board e known s n p (line3-T {v} x (inr over)) =
+    board-test e known s at-T p v x (range-above leastTerminals mostTerminals v (omega arith) over)
+holds-board e known s n p (line3-R {t} {v} x over) =
+    board-test e known s (at-R t) p v x (range-above 0 mostRelays v (omega arith) over)
+holds-board e known s n p (line3-B {t} {r} {v} x over) =
+    board-test e known s (at-B t r) p v x (range-above 0 mostButtons v (omega arith) over)
+holds-board e known s n p (line3-C {t} {r} {b} {v} x over) =
+    board-test e known s (at-C t r b) p v x (range-above 0 mostParts v (omega arith) over)
+holds-board e known s n p (line4 {c} {ps} {v} x over) =
+    board-test e known s (at-part c ps) p v x (range-above 0 (e .lastKind) v (omega arith) over)
+holds-board e known s n p (line5-first {c} {ps} {k} {v} x over) =
+    board-test e known s (at-first c ps k) p v x (le-ltb v (c .terminals) over)
+holds-board e known s n p (line5-second {c} {ps} {k} {a} {v} x over) =
+    board-test e known s (at-second c ps k a) p v x (le-ltb v (c .terminals) over)
+holds-board e known s n p (line6 {c} {ps} {k} {a} x) = board-ends e known s c ps k a p x
+holds-board e known s n p (line7-button {c} {ps} {a} {b} {v} x over) =
+    board-test e known s (at-name c ps buttonKind a b) p v x (le-ltb v (c .buttons) over)
+holds-board e known s n p (line7-relay {c} {ps} {k} {a} {b} {v} x relay over) =
+    board-test e known s (at-name c ps k a b) p v x (rw (relay-limit c k relay) (le-ltb v (c .relays) over))
+holds-board e known s n p (line8 {c} {ps} {k} {a} {b} {v} x below taken) =
+    board-winding e known s c ps k a b v p x below taken
+holds-board e known s n p (line9 {c} {ps} {r} x all below irregular no-steel) =
+    board-lacking e known s c ps r p x all below irregular no-steel

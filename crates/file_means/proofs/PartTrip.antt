@@ -10,7 +10,7 @@ use lib.ListN.{length}
 use borrow.Author.Tests.{ltb-true, eqb-true, eqb-false, not-true}
 use Rattle.refusals.specs.Outcomes.{Found, found}
 use Rattle.refusals.specs.Refusals.{noSuchKind, noSuchTerminal, endsEqual, noSuchName, windingTaken}
-use Rattle.number.specs.Numbers.{numberBytes, Bytes}
+use Rattle.number.specs.Numbers.{numberBytes}
 use Rattle.kinds.specs.declared.Kind.{Kind}
 use Rattle.windings.specs.declared.WoundSoFar.{WoundSoFar}
 use Rattle.kinds.specs.Kinds.{kindNumber, nameOf, kindOf, lastKind}
@@ -21,14 +21,15 @@ use Rattle.board.specs.Rules.{inRange, terminalFine, endsFine, limitOf, nameFin
 use Rattle.bits.proofs.BoolLaws.{both-true, true-both}
 use Rattle.kinds.proofs.KindLaws.{kind-of-parts, kind-number-of, kind-name-of, kind-of-wire, kind-number-most}
 use Rattle.board.proofs.RuleLaws.{InRange}
-use Rattle.board_reader.specs.Editions.{currentEdition}
+use Rattle.board_reader.specs.Editions.{Edition, currentEdition}
 use Rattle.board_reader.specs.Reading.{wanted, nameAt, partAt}
+use Rattle.board_reader.proofs.EditionLaws.{Known}
 use Rattle.board_reader.proofs.FieldLaws.{range-within, range-bounds}
 use Rattle.board_reader.proofs.PartLaws.{part-as, part-found}
 use Rattle.board_writer.specs.File.{nameBytes, partBytes}
 use Rattle.board_writer.proofs.FileLaws.{limit-most, part-rules}
 use Rattle.file_means.proofs.StandLaws.{StandsTo, stands-none, stands-append, stands-first, stands-second}
-use Rattle.file_means.proofs.StandLaws.{number-stands, wanted-reads}
+use Rattle.file_means.proofs.StandLaws.{AsWritten, wanted-reads}
 use Rattle.file_means.proofs.GivesLaws.{Gives, gives-then, gives-unless, wanted-gives, wanted-then}
 
 -- a wire carries no name, which is told as 0
@@ -80,7 +81,8 @@ part-reads c w p s at next range fine here =
     let from-name = stands-second s ab next (numberBytes (p .b)) after-b from-b in
     let most : k ≤ lastKind = kind-number-most (p .kind) in
     let kinds =
-    wanted-reads (inRange 0 (currentEdition .lastKind)) noSuchKind s at ka k (omega arith) (range-within 0 lastKind k (omega arith) most)
+    wanted-reads (inRange 0 (currentEdition .lastKind)) noSuchKind s at ka k (omega arith)
+    (range-within 0 (currentEdition .lastKind) k (omega arith) most)
     (stands-first s at next (numberBytes k) after-kind here) in
     let as-a =
     terminal-reads c s ka ab (p .a) range (rules .a-below)
@@ -90,59 +92,60 @@ part-reads c w p s at next range fine here =
     (stands-first s ab next (numberBytes (p .b)) after-b from-b) in
     let names = name-reads c (p .kind) s bn next range (rules .named) from-name in
     let same = kind-of-parts (p .kind) in
-    sym (part-found currentEdition c w s at k ka kinds (p .a) ab as-a (p .b) bn as-b (eqb-false _ _ (not-true _ (rules .apart)))
-    (nameOf (p .kind)) next names (ap (windingFree w) same ∙ both .1))
+    sym (part-found currentEdition c w s at k ka kinds (p .a) ab as-a (p .b) bn as-b
+    (eqb-false _ _ (not-true _ (rules .apart))) (nameOf (p .kind)) next names (ap (windingFree w) same ∙ both .1))
     ∙ part-as _ _ next refl refl same
 
 -- a name that was read is below its limit and stands there by its bytes; a wire carries none
-record NameRead (c : Counts) (k : ℕ) (s : List ℕ) (at : ℕ) (n : Found ℕ) : Type 0 where
+record NameRead (e : Edition) (c : Counts) (k : ℕ) (s : List ℕ) (at : ℕ) (n : Found ℕ) : Type 0 where
   fine : nameFine c (kindOf k (n .value)) ≡ true
-  stands : Bytes s → StandsTo s at (n .next) (nameBytes (kindOf k (n .value)))
+  stands : AsWritten e s → StandsTo s at (n .next) (nameBytes (kindOf k (n .value)))
 
-name-read : (c : Counts) (k : ℕ) (s : List ℕ) (at : ℕ) → k ≤ lastKind → Gives (NameRead c k s at) (nameAt currentEdition c k s at)
+name-read : (e : Edition) (c : Counts) (k : ℕ) (s : List ℕ) (at : ℕ) → k ≤ lastKind
+    → Gives (NameRead e c k s at) (nameAt e c k s at)
 unfolding nameAt nameFine nameBytes
-name-read c k s at most = by (eqb k 0) refl
+name-read e c k s at most = by (eqb k 0) refl
   where
-    by : (t : Bool) → eqb k 0 ≡ t → Gives (NameRead c k s at)
-        (cond t (found 0 at) (wanted currentEdition (λ n. ltb n (limitOf c k)) noSuchName s at))
+    by : (t : Bool) → eqb k 0 ≡ t → Gives (NameRead e c k s at)
+        (cond t (found 0 at) (wanted e (λ n. ltb n (limitOf c k)) noSuchName s at))
     by true wire =
         record {
           fine = rw (kind-number-of k 0 most, wire) refl;
           stands =
-              λ bytes. rw (kind-number-of k 0 most, wire) (stands-none s at);
+              λ written. rw (kind-number-of k 0 most, wire) (stands-none s at);
         }
     by false some =
-        wanted-gives (NameRead c k s at) currentEdition (λ n. ltb n (limitOf c k)) noSuchName s at (λ n read below.
+        wanted-gives (NameRead e c k s at) e (λ n. ltb n (limitOf c k)) noSuchName s at (λ n read below.
         let number = kind-number-of k (n .value) most in
         let name = kind-name-of k (n .value) (let carried = eqb-false k 0 some in omega (arith, carried)) most in
         record {
           fine = rw (number, some, name) below;
-          stands = λ bytes. rw (number, some, name)
-              (number-stands s at n read bytes);
+          stands = λ written. rw (number, some, name) (written at n read);
         })
 
 -- a part that was read breaks no rule of 5 to 8 and stands there by its bytes
-pub record PartIsFine (c : Counts) (w : WoundSoFar) (s : List ℕ) (at : ℕ) (p : Found Part) : Type 0 where
+pub record PartIsFine (e : Edition) (c : Counts) (w : WoundSoFar) (s : List ℕ) (at : ℕ) (p : Found Part) : Type 0 where
   pub fine : partFine c w (p .value) ≡ true
-  pub stands : Bytes s → StandsTo s at (p .next) (partBytes (p .value))
+  pub stands : AsWritten e s → StandsTo s at (p .next) (partBytes (p .value))
 
-pub part-read : (c : Counts) (w : WoundSoFar) (s : List ℕ) (at : ℕ) → Gives (PartIsFine c w s at) (partAt currentEdition c w s at)
+pub part-read : (e : Edition) → Known e → (c : Counts) (w : WoundSoFar) (s : List ℕ) (at : ℕ)
+    → Gives (PartIsFine e c w s at) (partAt e c w s at)
 unfolding partAt partFine partFits partBytes
-part-read c w s at =
-    wanted-then _ currentEdition (inRange 0 (currentEdition .lastKind)) noSuchKind s at _ (λ k k-read kind.
-    wanted-then _ currentEdition (terminalFine c) noSuchTerminal s (k .next) _ (λ a a-read a-below.
-    wanted-then _ currentEdition (terminalFine c) noSuchTerminal s (a .next) _ (λ b b-read b-below.
+part-read e known c w s at =
+    wanted-then _ e (inRange 0 (e .lastKind)) noSuchKind s at _ (λ k k-read kind.
+    wanted-then _ e (terminalFine c) noSuchTerminal s (k .next) _ (λ a a-read a-below.
+    wanted-then _ e (terminalFine c) noSuchTerminal s (a .next) _ (λ b b-read b-below.
     gives-unless _ (endsFine (a .value) (b .value)) endsEqual (a .next) _ (λ apart.
-    let most = range-bounds 0 lastKind (k .value) kind .1 in
-    gives-then (NameRead c (k .value) s (b .next)) _ (nameAt currentEdition c (k .value) s (b .next)) _
-    (name-read c (k .value) s (b .next) most) (λ n name.
+    let most : k .value ≤ lastKind = omega (arith, range-bounds 0 (e .lastKind) (k .value) kind .1, known) in
+    gives-then (NameRead e c (k .value) s (b .next)) _ (nameAt e c (k .value) s (b .next)) _
+    (name-read e c (k .value) s (b .next) most) (λ n name.
     gives-unless _ (windingFree w (kindOf (k .value) (n .value))) windingTaken (b .next) _ (λ free.
     record {
       fine = true-both (true-both (true-both (true-both a-below b-below) apart) (name .fine)) free;
-      stands = λ bytes.
+      stands = λ written.
           rw (kind-number-of (k .value) (n .value) most)
-          (stands-append s at (k .next) (n .next) _ _ (number-stands s at k k-read bytes)
-          (stands-append s (k .next) (a .next) (n .next) _ _ (number-stands s (k .next) a a-read bytes)
-          (stands-append s (a .next) (b .next) (n .next) _ _ (number-stands s (a .next) b b-read bytes)
-          (name .stands bytes))));
+          (stands-append s at (k .next) (n .next) _ _ (written at k k-read)
+          (stands-append s (k .next) (a .next) (n .next) _ _ (written (k .next) a a-read)
+          (stands-append s (a .next) (b .next) (n .next) _ _ (written (a .next) b b-read)
+          (name .stands written))));
     }))))))

@@ -2,11 +2,11 @@
 -- it. So what it comes to from there on is what it comes to at all: a refusal there is the refusal of the board, and
 -- where no relay lacks a winding after the last part, the board is read.
 --     behind ps o                what o gives, behind the parts ps
---     PartsSoFar s c ps w at     the counts c and the parts ps were read, the parts give the windings w, and the rest
+--     PartsSoFar e s c ps w at   the counts c and the parts ps were read, the parts give the windings w, and the rest
 --                                of the board is what is read from here on
 --     KindRead, FirstRead, EndsRead
 --                                the kind of one more part, its first end, and its second that differs from it
---     StageRead s f at           what was read where stage f is reached
+--     StageRead e s f at         what was read where stage f is reached
 use Prim.Native.Nat.{ℕ, suc, _+_, _<_, _≤_}
 use native.Mathlib.Omega.{arith}
 use mathlib.Core.Path.{_≡_, refl, sym, ap, subst, _∙_}
@@ -27,8 +27,9 @@ use Rattle.board.specs.Parts.{mostParts}
 use Rattle.board.specs.Rules.{leastTerminals, mostTerminals, mostRelays, mostButtons, inRange, terminalFine, limitOf}
 use Rattle.board.specs.Sorts.{Wound}
 use Rattle.board.proofs.TallyLaws.{Tallied, tallied-none, tallied-gained, wound-tallied}
-use Rattle.board_reader.specs.Editions.{currentEdition}
+use Rattle.board_reader.specs.Editions.{Edition}
 use Rattle.board_reader.specs.Reading.{wanted, countsAt, nameAt, partAt, partsAt, boardOf, boardFrom, boardAt}
+use Rattle.board_reader.proofs.EditionLaws.{Known}
 use Rattle.board_reader.proofs.FieldLaws.{wanted-passes, wanted-found, wanted-below, range-within, range-bounds}
 use Rattle.board_reader.proofs.FieldLaws.{name-wire, name-carried}
 use Rattle.board_reader.proofs.CountsLaws.{countAt, count-most, counts-read}
@@ -55,51 +56,54 @@ behind-more : (ps : List Part) (q : Part) (o : Outcome (Found (List Part)))
 behind-more ps q (given qs) = ap (λ (l : List Part). found l (qs .next)) (sym (append-assoc ps (q ∷ []) (qs .value)))
 behind-more ps q (refused n p) = refl
 
-pub record PartsSoFar (s : List ℕ) (c : Counts) (ps : List Part) (w : WoundSoFar) (at : ℕ) : Type 0 where
+pub record PartsSoFar (e : Edition) (s : List ℕ) (c : Counts) (ps : List Part) (w : WoundSoFar) (at : ℕ) : Type 0 where
   pub few : c .relays ≤ mostRelays
   pub so-far : (r : ℕ) → Tallied w ps r
-  pub whole : (m : ℕ) → c .parts ≡ length ps + m → boardAt currentEdition s ≡ boardFrom c (behind ps (partsAt currentEdition c m w s at))
+  pub whole : (m : ℕ) → c .parts ≡ length ps + m → boardAt e s ≡ boardFrom c (behind ps (partsAt e c m w s at))
 
-pub record KindRead (s : List ℕ) (c : Counts) (ps : List Part) (w : WoundSoFar) (k at : ℕ) : Type 0 where
+pub record KindRead (e : Edition) (s : List ℕ) (c : Counts) (ps : List Part) (w : WoundSoFar) (k at : ℕ) : Type 0 where
   pub part-at : ℕ
-  pub before : PartsSoFar s c ps w part-at
+  pub before : PartsSoFar e s c ps w part-at
   pub one-more : length ps < c .parts
-  pub kind-read : wanted currentEdition (inRange 0 (currentEdition .lastKind)) noSuchKind s part-at ≡ found k at
+  pub kind-read : wanted e (inRange 0 (e .lastKind)) noSuchKind s part-at ≡ found k at
 
-pub record FirstRead (s : List ℕ) (c : Counts) (ps : List Part) (w : WoundSoFar) (k a at : ℕ) : Type 0 where
+pub record FirstRead (e : Edition) (s : List ℕ) (c : Counts) (ps : List Part) (w : WoundSoFar)
+    (k a at : ℕ) : Type 0 where
   pub a-at : ℕ
-  pub before : KindRead s c ps w k a-at
-  pub a-read : wanted currentEdition (terminalFine c) noSuchTerminal s a-at ≡ found a at
+  pub before : KindRead e s c ps w k a-at
+  pub a-read : wanted e (terminalFine c) noSuchTerminal s a-at ≡ found a at
 
-pub record EndsRead (s : List ℕ) (c : Counts) (ps : List Part) (w : WoundSoFar) (k a b at : ℕ) : Type 0 where
+pub record EndsRead (e : Edition) (s : List ℕ) (c : Counts) (ps : List Part) (w : WoundSoFar)
+    (k a b at : ℕ) : Type 0 where
   pub b-at : ℕ
-  pub before : FirstRead s c ps w k a b-at
-  pub b-read : wanted currentEdition (terminalFine c) noSuchTerminal s b-at ≡ found b at
+  pub before : FirstRead e s c ps w k a b-at
+  pub b-read : wanted e (terminalFine c) noSuchTerminal s b-at ≡ found b at
   pub apart : ¬ (a ≡ b)
 
-abbrev pub StageRead : List ℕ → FileStage → ℕ → Type 0
-StageRead s at-T at = at ≡ 0
-StageRead s (at-R t) at = countAt currentEdition leastTerminals mostTerminals s 0 ≡ found t at
-StageRead s (at-B t r) at =
-    (p : ℕ) × (countAt currentEdition leastTerminals mostTerminals s 0 ≡ found t p) × (countAt currentEdition 0 mostRelays s p ≡ found r at)
-StageRead s (at-C t r b) at =
-    (p : ℕ) × (q : ℕ) × (countAt currentEdition leastTerminals mostTerminals s 0 ≡ found t p) × (countAt currentEdition 0 mostRelays s p ≡ found r q)
-    × (countAt currentEdition 0 mostButtons s q ≡ found b at)
-StageRead s (at-part c ps) at = (w : WoundSoFar) × PartsSoFar s c ps w at
-StageRead s (at-first c ps k) at = (w : WoundSoFar) × KindRead s c ps w k at
-StageRead s (at-second c ps k a) at = (w : WoundSoFar) × FirstRead s c ps w k a at
-StageRead s (at-name c ps k a b) at = (w : WoundSoFar) × EndsRead s c ps w k a b at
+abbrev pub StageRead : Edition → List ℕ → FileStage → ℕ → Type 0
+StageRead e s at-T at = at ≡ 0
+StageRead e s (at-R t) at = countAt e leastTerminals mostTerminals s 0 ≡ found t at
+StageRead e s (at-B t r) at =
+    (p : ℕ) × (countAt e leastTerminals mostTerminals s 0 ≡ found t p) × (countAt e 0 mostRelays s p ≡ found r at)
+StageRead e s (at-C t r b) at =
+    (p : ℕ) × (q : ℕ) × (countAt e leastTerminals mostTerminals s 0 ≡ found t p)
+    × (countAt e 0 mostRelays s p ≡ found r q)
+    × (countAt e 0 mostButtons s q ≡ found b at)
+StageRead e s (at-part c ps) at = (w : WoundSoFar) × PartsSoFar e s c ps w at
+StageRead e s (at-first c ps k) at = (w : WoundSoFar) × KindRead e s c ps w k at
+StageRead e s (at-second c ps k a) at = (w : WoundSoFar) × FirstRead e s c ps w k a at
+StageRead e s (at-name c ps k a b) at = (w : WoundSoFar) × EndsRead e s c ps w k a b at
 
-module _ (s : List ℕ) where
+module _ (e : Edition) (known : Known e) (s : List ℕ) where
   -- ---- the counts
 
-  count-found : (low high at v next : ℕ) → StandsAt currentEdition s at v next → low ≤ v → v ≤ high
-      → countAt currentEdition low high s at ≡ found v next
+  count-found : (low high at v next : ℕ) → StandsAt e s at v next → low ≤ v → v ≤ high
+      → countAt e low high s at ≡ found v next
   count-found low high at v next stands least most =
-      wanted-passes currentEdition (inRange low high) outOfRange s at v next stands (range-within low high v least most)
+      wanted-passes e (inRange low high) outOfRange s at v next stands (range-within low high v least most)
 
-  counts-onward : (c : Counts) (at : ℕ) → c .relays ≤ mostRelays → found c at ≡ countsAt currentEdition s
-      → PartsSoFar s c [] noneWound at
+  counts-onward : (c : Counts) (at : ℕ) → c .relays ≤ mostRelays → found c at ≡ countsAt e s
+      → PartsSoFar e s c [] noneWound at
   unfolding boardAt boardFrom
   counts-onward c at few read =
       record {
@@ -107,53 +111,55 @@ module _ (s : List ℕ) where
         so-far = tallied-none;
         whole = λ m all.
             (let left : c .parts ≡ m = omega (arith, all) in
-            let parts = ap (λ (i : ℕ). partsAt currentEdition c i noneWound s at) left ∙ behind-none (partsAt currentEdition c m noneWound s at) in
+            let parts =
+            ap (λ (i : ℕ). partsAt e c i noneWound s at) left ∙ behind-none (partsAt e c m noneWound s at) in
             rw (← read, parts));
       }
 
   -- ---- one more part
 
-  part-onward : (c : Counts) (ps : List Part) (w : WoundSoFar) (at : ℕ) (q : Part) (next : ℕ) → PartsSoFar s c ps w at
-      → found q next ≡ partAt currentEdition c w s at → PartsSoFar s c (ps ++ (q ∷ [])) (gained w (q .kind)) next
+  part-onward : (c : Counts) (ps : List Part) (w : WoundSoFar) (at : ℕ) (q : Part) (next : ℕ) → PartsSoFar e s c ps w at
+      → found q next ≡ partAt e c w s at → PartsSoFar e s c (ps ++ (q ∷ [])) (gained w (q .kind)) next
   unfolding partsAt
   part-onward c ps w at q next x read =
-      let fine : PartIsFine c w s at (record { value = q; next = next }) =
-      subst (λ (o : Outcome (Found Part)). Gives (PartIsFine c w s at) o) (sym read) (part-read c w s at) in
+      let fine : PartIsFine e c w s at (record { value = q; next = next }) =
+      subst (λ (o : Outcome (Found Part)). Gives (PartIsFine e c w s at) o) (sym read) (part-read e known c w s at) in
       record {
         few = x .few;
         so-far = λ r. tallied-gained c (x .few) w ps q r (fine .fine) (x .so-far r);
         whole = λ m all.
-            (let parts : behind ps (partsAt currentEdition c (suc m) w s at) ≡ behind (ps ++ (q ∷ []))
-            (partsAt currentEdition c m (gained w (q .kind)) s next) =
-            rw (← read) (behind-more ps q (partsAt currentEdition c m (gained w (q .kind)) s next)) in
+            (let parts : behind ps (partsAt e c (suc m) w s at) ≡ behind (ps ++ (q ∷ []))
+            (partsAt e c m (gained w (q .kind)) s next) =
+            rw (← read) (behind-more ps q (partsAt e c m (gained w (q .kind)) s next)) in
             x .whole (suc m) (omega (arith, all, length-append ps (q ∷ []))) ∙ ap (boardFrom c) parts);
       }
 
-  module _ (c : Counts) (ps : List Part) (w : WoundSoFar) (k a b at : ℕ) (x : EndsRead s c ps w k a b at) where
-    named-onward : (v next : ℕ) → nameAt currentEdition c k s at ≡ found v next → windingFree w (kindOf k v) ≡ true
-        → PartsSoFar s c (ps ++ (record { a = a; b = b; kind = kindOf k v } ∷ [])) (gained w (kindOf k v)) next
+  module _ (c : Counts) (ps : List Part) (w : WoundSoFar) (k a b at : ℕ) (x : EndsRead e s c ps w k a b at) where
+    named-onward : (v next : ℕ) → nameAt e c k s at ≡ found v next → windingFree w (kindOf k v) ≡ true
+        → PartsSoFar e s c (ps ++ (record { a = a; b = b; kind = kindOf k v } ∷ [])) (gained w (kindOf k v)) next
     named-onward v next named free =
         let y = x .before in
         let z = y .before in
         part-onward c ps w (z .part-at) (record { a = a; b = b; kind = kindOf k v }) next (z .before)
-        (part-found currentEdition c w s (z .part-at) k (y .a-at) (z .kind-read) a (x .b-at) (y .a-read) b at (x .b-read) (x .apart)
+        (part-found e c w s (z .part-at) k (y .a-at) (z .kind-read) a (x .b-at) (y .a-read) b at (x .b-read) (x .apart)
         v next named free)
 
     pub kind-most : k ≤ lastKind
     kind-most =
         let z = x .before .before in
-        range-bounds 0 lastKind k (wanted-found currentEdition (inRange 0 (currentEdition .lastKind)) noSuchKind s (z .part-at) k _ (z .kind-read) .0) .1
+        let fine = wanted-found e (inRange 0 (e .lastKind)) noSuchKind s (z .part-at) k _ (z .kind-read) .0 in
+        omega (arith, range-bounds 0 (e .lastKind) k fine .1, known)
 
   -- a relay or button below its limit
-  pub name-found : (c : Counts) (k at limit v next : ℕ) → ¬ (k ≡ 0) → limitOf c k ≡ limit → StandsAt currentEdition s at v next
-      → v < limit → nameAt currentEdition c k s at ≡ found v next
-  name-found c k at limit v next carries e stands below =
-      sym (name-carried currentEdition c k s at carries) ∙ wanted-below currentEdition noSuchName s at (limitOf c k) limit e
-      ∙ wanted-passes currentEdition (λ n. ltb n limit) noSuchName s at v next stands (lt-ltb v limit below)
+  pub name-found : (c : Counts) (k at limit v next : ℕ) → ¬ (k ≡ 0) → limitOf c k ≡ limit → StandsAt e s at v next
+      → v < limit → nameAt e c k s at ≡ found v next
+  name-found c k at limit v next carries same stands below =
+      sym (name-carried e c k s at carries) ∙ wanted-below e noSuchName s at (limitOf c k) limit same
+      ∙ wanted-passes e (λ n. ltb n limit) noSuchName s at v next stands (lt-ltb v limit below)
 
   -- ---- every stage
 
-  pub reached-read : (f : FileStage) (at : ℕ) → Reached currentEdition s f at → StageRead s f at
+  pub reached-read : (f : FileStage) (at : ℕ) → Reached e s f at → StageRead e s f at
   unfolding kindOf
   reached-read f at start = refl
   reached-read f at (T-fine {t} {p} x stands least most) =
@@ -167,10 +173,10 @@ module _ (s : List ℕ) where
   reached-read f at (C-fine {t} {r} {b} {c} {p} x stands most) =
       let before = reached-read (at-C t r b) p x in
       let counts : Counts = record { terminals = t; relays = r; buttons = b; parts = c } in
-      let few = count-most currentEdition 0 mostRelays s (before .0) r (before .1) (before .3) in (
+      let few = count-most e 0 mostRelays s (before .0) r (before .1) (before .3) in (
         noneWound,
         counts-onward counts at few
-            (counts-read currentEdition s t (before .0) r (before .1) b p c at (before .2) (before .3) (before .4)
+            (counts-read e s t (before .0) r (before .1) b p c at (before .2) (before .3) (before .4)
             (count-found 0 mostParts p c at stands (omega arith) most)),
       )
   reached-read f at (kind-fine {c} {ps} {k} {p} x more stands most) =
@@ -180,8 +186,8 @@ module _ (s : List ℕ) where
           part-at = p;
           before = before .1;
           one-more = more;
-          kind-read = wanted-passes currentEdition (inRange 0 (currentEdition .lastKind)) noSuchKind s p k at stands
-              (range-within 0 lastKind k (omega arith) most);
+          kind-read = wanted-passes e (inRange 0 (e .lastKind)) noSuchKind s p k at stands
+              (range-within 0 (e .lastKind) k (omega arith) most);
         },
       )
   reached-read f at (first-fine {c} {ps} {k} {a} {p} x stands below) =
@@ -190,7 +196,7 @@ module _ (s : List ℕ) where
         record {
           a-at = p;
           before = before .1;
-          a-read = wanted-passes currentEdition (terminalFine c) noSuchTerminal s p a at stands (lt-ltb a (c .terminals) below);
+          a-read = wanted-passes e (terminalFine c) noSuchTerminal s p a at stands (lt-ltb a (c .terminals) below);
         },
       )
   reached-read f at (second-fine {c} {ps} {k} {a} {b} {p} x stands below apart) =
@@ -199,14 +205,14 @@ module _ (s : List ℕ) where
         record {
           b-at = p;
           before = before .1;
-          b-read = wanted-passes currentEdition (terminalFine c) noSuchTerminal s p b at stands (lt-ltb b (c .terminals) below);
+          b-read = wanted-passes e (terminalFine c) noSuchTerminal s p b at stands (lt-ltb b (c .terminals) below);
           apart = apart;
         },
       )
   reached-read f at (wire-fine {c} {ps} {a} {b} x) =
       let before = reached-read (at-name c ps 0 a b) at x in
       let w = before .0 in
-      (w, named-onward c ps w 0 a b at (before .1) 0 at (sym (name-wire currentEdition c 0 s at refl)) refl)
+      (w, named-onward c ps w 0 a b at (before .1) 0 at (sym (name-wire e c 0 s at refl)) refl)
   reached-read f at (button-fine {c} {ps} {a} {b} {v} {p} x stands below) =
       let before = reached-read (at-name c ps buttonKind a b) p x in
       let w = before .0 in
@@ -225,13 +231,13 @@ module _ (s : List ℕ) where
 
   -- ---- what follows
 
-  pub rest-refused : (c : Counts) (ps : List Part) (w : WoundSoFar) (at m n p : ℕ) → PartsSoFar s c ps w at
-      → c .parts ≡ length ps + m → partsAt currentEdition c m w s at ≡ refused n p → boardAt currentEdition s ≡ refused n p
+  pub rest-refused : (c : Counts) (ps : List Part) (w : WoundSoFar) (at m n p : ℕ) → PartsSoFar e s c ps w at
+      → c .parts ≡ length ps + m → partsAt e c m w s at ≡ refused n p → boardAt e s ≡ refused n p
   unfolding boardFrom
-  rest-refused c ps w at m n p x all e = x .whole m all ∙ rw e
+  rest-refused c ps w at m n p x all stops = x .whole m all ∙ rw stops
 
-  pub reached-board : (c : Counts) (ps : List Part) (at : ℕ) → Reached currentEdition s (at-part c ps) at → length ps ≡ c .parts
-      → Wound (c .relays) ps → boardAt currentEdition s ≡ found (boardOf c ps) at
+  pub reached-board : (c : Counts) (ps : List Part) (at : ℕ) → Reached e s (at-part c ps) at → length ps ≡ c .parts
+      → Wound (c .relays) ps → boardAt e s ≡ found (boardOf c ps) at
   unfolding boardFrom partsAt complete
   reached-board c ps at here all wounds =
       let read = reached-read (at-part c ps) at here in

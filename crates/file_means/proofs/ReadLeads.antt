@@ -13,7 +13,7 @@ use Rattle.bits.proofs.BoolLaws.{by-less}
 use Rattle.refusals.specs.Outcomes.{Outcome, given, refused, Found, found, _>>=_, _>>_, unless}
 use Rattle.refusals.specs.Refusals.{inputEnds, badForm, outOfRange, noSuchKind, noSuchTerminal, endsEqual, noSuchName}
 use Rattle.refusals.specs.Refusals.{windingTaken, windingLacking}
-use Rattle.number.specs.Numbers.{currentWidth, numberAt}
+use Rattle.number.specs.Numbers.{numberAt}
 use Rattle.number.proofs.NumberLaws.{number-refusal}
 use Rattle.kinds.specs.Kinds.{buttonKind, lastKind, kindOf}
 use Rattle.windings.specs.declared.WoundSoFar.{WoundSoFar}
@@ -26,8 +26,9 @@ use Rattle.board.specs.Rules.{leastTerminals, mostTerminals, mostRelays, mostBu
 use Rattle.board.specs.Sorts.{isRegular, isSteel, Wound}
 use Rattle.board.proofs.PaddedLaws.{padded-parts}
 use Rattle.board.proofs.TallyLaws.{Tallied, tallied-none, tallied-gained, tallied-wound, wound-tallied}
-use Rattle.board_reader.specs.Editions.{currentEdition}
+use Rattle.board_reader.specs.Editions.{Edition}
 use Rattle.board_reader.specs.Reading.{wanted, countsAt, nameAt, partAt, partsAt, boardFrom, boardAt}
+use Rattle.board_reader.proofs.EditionLaws.{Known}
 use Rattle.board_reader.proofs.FieldLaws.{range-bounds}
 use Rattle.board_reader.proofs.CountsLaws.{count-most, counts-found}
 use Rattle.file_means.specs.FileRefusals.{StandsAt, FileStage, at-T, at-R, at-B, at-C, at-part, at-first}
@@ -42,8 +43,8 @@ use Rattle.file_means.proofs.TakenLaws.{taken-barred, barred-taken}
 use Rattle.file_means.proofs.LeadsLaws.{Leads, leads-each, leads-then, leads-unless}
 
 -- a board of counts c and parts ps is reached up to a place, and no relay of it lacks a winding
-pub record BoardReached (s : List ℕ) (c : Counts) (ps : List Part) (at : ℕ) : Type 0 where
-  pub reached : Reached currentEdition s (at-part c ps) at
+pub record BoardReached (e : Edition) (s : List ℕ) (c : Counts) (ps : List Part) (at : ℕ) : Type 0 where
+  pub reached : Reached e s (at-part c ps) at
   pub counted : length ps ≡ c .parts
   pub all-wound : Wound (c .relays) ps
 
@@ -56,35 +57,37 @@ unfolding inRange
 range-outside low high v off =
     by-less v low inl (λ least. inr (leb-false v high (rw (le-leb low v least) at off)))
 
-module _ (s : List ℕ) where
+module _ (e : Edition) (known : Known e) (s : List ℕ) where
   -- ---- 1 and 2, the form of a wanted number, and then the line of its test
 
-  module _ (f : FileStage) (at : ℕ) (here : Reached currentEdition s f at) (asked : NumberWanted f) where
-    form-holds : (n p : ℕ) → numberAt currentWidth s at ≡ refused n p
-        → ((n ≡ inputEnds) × (p ≡ length s)) ⊎ ((n ≡ badForm) × (p ≡ at)) → LineHolds currentEdition s n p
-    form-holds n p e (inl (one, end)) = rw (one, end) (line1 here asked (rw (one, end) at e))
-    form-holds n p e (inr (two, place)) = rw (two, place) (line2 here asked (rw (two, place) at e))
+  module _ (f : FileStage) (at : ℕ) (here : Reached e s f at) (asked : NumberWanted f) where
+    form-holds : (n p : ℕ) → numberAt (e .width) s at ≡ refused n p
+        → ((n ≡ inputEnds) × (p ≡ length s)) ⊎ ((n ≡ badForm) × (p ≡ at)) → LineHolds e s n p
+    form-holds n p stops (inl (one, end)) = rw (one, end) (line1 here asked (rw (one, end) at stops))
+    form-holds n p stops (inr (two, place)) = rw (two, place) (line2 here asked (rw (two, place) at stops))
 
-    wanted-leads : (ok : ℕ → Bool) (n : ℕ) → ((v : ℕ) → NumberStands currentEdition s f at v → ok v ≡ false → LineHolds currentEdition s n at)
-        → Leads (LineHolds currentEdition s) (λ v. StandsAt currentEdition s at (v .value) (v .next) × (ok (v .value) ≡ true)) (wanted currentEdition ok n s at)
+    wanted-leads : (ok : ℕ → Bool) (n : ℕ) → ((v : ℕ) → NumberStands e s f at v → ok v ≡ false → LineHolds e s n at)
+        → Leads (LineHolds e s) (λ v. StandsAt e s at (v .value) (v .next) × (ok (v .value) ≡ true))
+        (wanted e ok n s at)
     unfolding wanted
     wanted-leads ok n fails =
-        leads-then (LineHolds currentEdition s) (λ v. numberAt currentWidth s at ≡ given v) _ (numberAt currentWidth s at) _
-        (leads-each (LineHolds currentEdition s) _ (numberAt currentWidth s at) (λ m p e. form-holds m p e (number-refusal currentWidth s at m p e)) (λ v e. e))
-        (λ v read _. leads-unless (LineHolds currentEdition s) _ (ok (v .value)) n at (given v)
+        leads-then (LineHolds e s) (λ v. numberAt (e .width) s at ≡ given v) _ (numberAt (e .width) s at) _
+        (leads-each (LineHolds e s) _ (numberAt (e .width) s at)
+        (λ m p stops. form-holds m p stops (number-refusal (e .width) s at m p stops)) (λ v read. read))
+        (λ v read _. leads-unless (LineHolds e s) _ (ok (v .value)) n at (given v)
         (fails (v .value) (here, asked, v .next, read)) (λ fine. (read, fine)))
 
     field-leads : {B : Type 0} (Q : B → Type 0) (ok : ℕ → Bool) (n : ℕ) (g : Found ℕ → Outcome B)
-        → ((v : ℕ) → NumberStands currentEdition s f at v → ok v ≡ false → LineHolds currentEdition s n at)
-        → ((v : Found ℕ) → StandsAt currentEdition s at (v .value) (v .next) → ok (v .value) ≡ true → Leads (LineHolds currentEdition s) Q (g v))
-        → Leads (LineHolds currentEdition s) Q (wanted currentEdition ok n s at >>= g)
+        → ((v : ℕ) → NumberStands e s f at v → ok v ≡ false → LineHolds e s n at)
+        → ((v : Found ℕ) → StandsAt e s at (v .value) (v .next) → ok (v .value) ≡ true → Leads (LineHolds e s) Q (g v))
+        → Leads (LineHolds e s) Q (wanted e ok n s at >>= g)
     field-leads Q ok n g fails later =
-        leads-then (LineHolds currentEdition s) _ Q (wanted currentEdition ok n s at) g (wanted-leads ok n fails)
+        leads-then (LineHolds e s) _ Q (wanted e ok n s at) g (wanted-leads ok n fails)
         (λ v _ so. later v (so .0) (so .1))
 
   -- ---- 3, the counts
 
-  counts-lead : Leads (LineHolds currentEdition s) (λ c. Reached currentEdition s (at-part (c .value) []) (c .next)) (countsAt currentEdition s)
+  counts-lead : Leads (LineHolds e s) (λ c. Reached e s (at-part (c .value) []) (c .next)) (countsAt e s)
   unfolding countsAt
   counts-lead =
       field-leads at-T 0 start tt _ (inRange leastTerminals mostTerminals) outOfRange _
@@ -105,33 +108,33 @@ module _ (s : List ℕ) where
 
   module _ (c : Counts) (ps : List Part) (w : WoundSoFar) (so-far : (r : ℕ) → Tallied w ps r) where
     abbrev PartGiven : Found Part → Type 0
-    PartGiven p = Reached currentEdition s (at-part c (ps ++ (p .value ∷ []))) (p .next)
+    PartGiven p = Reached e s (at-part c (ps ++ (p .value ∷ []))) (p .next)
 
     -- a relay or button is wanted, and then 8 is tested
-    module _ (k a b at : ℕ) (here : Reached currentEdition s (at-name c ps k a b) at) (carries : ¬ (k ≡ 0)) (limit : ℕ) where
-      carried-leads : ((v : ℕ) → NumberStands currentEdition s (at-name c ps k a b) at v → limit ≤ v → LineHolds currentEdition s noSuchName at)
-          → ((v : ℕ) → NumberStands currentEdition s (at-name c ps k a b) at v → v < limit → windingFree w (kindOf k v) ≡ false
-          → LineHolds currentEdition s windingTaken at)
-          → ((v next : ℕ) → StandsAt currentEdition s at v next → v < limit → windingFree w (kindOf k v) ≡ true
-          → Reached currentEdition s (at-part c (ps ++ (record { a = a; b = b; kind = kindOf k v } ∷ []))) next)
-          → Leads (LineHolds currentEdition s) PartGiven (wanted currentEdition (λ v. ltb v limit) noSuchName s at >>= λ n. unless
+    module _ (k a b at : ℕ) (here : Reached e s (at-name c ps k a b) at) (carries : ¬ (k ≡ 0)) (limit : ℕ) where
+      carried-leads : ((v : ℕ) → NumberStands e s (at-name c ps k a b) at v → limit ≤ v → LineHolds e s noSuchName at)
+          → ((v : ℕ) → NumberStands e s (at-name c ps k a b) at v → v < limit → windingFree w (kindOf k v) ≡ false
+          → LineHolds e s windingTaken at)
+          → ((v next : ℕ) → StandsAt e s at v next → v < limit → windingFree w (kindOf k v) ≡ true
+          → Reached e s (at-part c (ps ++ (record { a = a; b = b; kind = kindOf k v } ∷ []))) next)
+          → Leads (LineHolds e s) PartGiven (wanted e (λ v. ltb v limit) noSuchName s at >>= λ n. unless
           (windingFree w (kindOf k (n .value))) windingTaken at
           >> found (record { a = a; b = b; kind = kindOf k (n .value) }) (n .next))
       carried-leads over taken free =
           field-leads (at-name c ps k a b) at here carries PartGiven (λ v. ltb v limit) noSuchName _
           (λ v comes off. over v comes (ltb-false v limit off)) (λ n stands fine.
           let below = ltb-true (n .value) limit fine in
-          leads-unless (LineHolds currentEdition s) PartGiven (windingFree w (kindOf k (n .value))) windingTaken at _
+          leads-unless (LineHolds e s) PartGiven (windingFree w (kindOf k (n .value))) windingTaken at _
           (taken (n .value) (here, carries, n .next, stands) below)
           (free (n .value) (n .next) stands below))
 
     abbrev nameOn : ℕ → ℕ → ℕ → ℕ → Outcome (Found Part)
     nameOn k a b at =
-        nameAt currentEdition c k s at >>= λ n. unless (windingFree w (kindOf k (n .value))) windingTaken at
+        nameAt e c k s at >>= λ n. unless (windingFree w (kindOf k (n .value))) windingTaken at
         >> found (record { a = a; b = b; kind = kindOf k (n .value) }) (n .next)
 
-    relay-leads : (k a b at : ℕ) → k ≤ lastKind → ¬ (k ≡ 0) → ¬ (k ≡ buttonKind) → Reached currentEdition s (at-name c ps k a b) at
-        → Leads (LineHolds currentEdition s) PartGiven (nameOn k a b at)
+    relay-leads : (k a b at : ℕ) → k ≤ lastKind → ¬ (k ≡ 0) → ¬ (k ≡ buttonKind) → Reached e s (at-name c ps k a b) at
+        → Leads (LineHolds e s) PartGiven (nameOn k a b at)
     unfolding nameAt
     relay-leads k a b at most carries relay here =
         rw (ne-eqb k 0 carries, ne-eqb k buttonKind relay) (carried-leads k a b at here carries (c .relays)
@@ -140,8 +143,8 @@ module _ (s : List ℕ) where
         (λ v next stands below free. relay-fine here carries relay stands below
         (λ taken. false≢true (sym (taken-barred w ps v (so-far v) k most taken) ∙ free))))
 
-    name-leads : (k a b at : ℕ) → k ≤ lastKind → Reached currentEdition s (at-name c ps k a b) at
-        → Leads (LineHolds currentEdition s) PartGiven (nameOn k a b at)
+    name-leads : (k a b at : ℕ) → k ≤ lastKind → Reached e s (at-name c ps k a b) at
+        → Leads (LineHolds e s) PartGiven (nameOn k a b at)
     unfolding nameAt kindOf
     name-leads zero a b at most here = wire-fine here
     name-leads (suc (suc (suc zero))) a b at most here =
@@ -156,37 +159,37 @@ module _ (s : List ℕ) where
     name-leads (suc (suc (suc (suc k)))) a b at most here =
         relay-leads (suc (suc (suc (suc k)))) a b at most (λ e. omega (arith, e)) (λ e. omega (arith, e)) here
 
-    part-leads : (at : ℕ) → Reached currentEdition s (at-part c ps) at → length ps < c .parts
-        → Leads (LineHolds currentEdition s) PartGiven (partAt currentEdition c w s at)
+    part-leads : (at : ℕ) → Reached e s (at-part c ps) at → length ps < c .parts
+        → Leads (LineHolds e s) PartGiven (partAt e c w s at)
     unfolding partAt
     part-leads at here more =
-        field-leads (at-part c ps) at here more PartGiven (inRange 0 (currentEdition .lastKind)) noSuchKind _
-        (λ v comes off. line4 comes (range-over lastKind v off)) (λ k k-stands k-fine.
-        let most = range-bounds 0 lastKind (k .value) k-fine .1 in
+        field-leads (at-part c ps) at here more PartGiven (inRange 0 (e .lastKind)) noSuchKind _
+        (λ v comes off. line4 comes (range-over (e .lastKind) v off)) (λ k k-stands k-fine.
+        let most = range-bounds 0 (e .lastKind) (k .value) k-fine .1 in
         let a-at = kind-fine here more k-stands most in
         field-leads (at-first c ps (k .value)) (k .next) a-at tt PartGiven (terminalFine c) noSuchTerminal _
         (λ v comes off. line5-first comes (ltb-false v (c .terminals) off)) (λ a a-stands a-fine.
         let b-at = first-fine a-at a-stands (ltb-true (a .value) (c .terminals) a-fine) in
         field-leads (at-second c ps (k .value) (a .value)) (a .next) b-at tt PartGiven (terminalFine c) noSuchTerminal _
         (λ v comes off. line5-second comes (ltb-false v (c .terminals) off)) (λ b b-stands b-fine.
-        leads-unless (LineHolds currentEdition s) PartGiven (endsFine (a .value) (b .value)) endsEqual (a .next) _
+        leads-unless (LineHolds e s) PartGiven (endsFine (a .value) (b .value)) endsEqual (a .next) _
         (λ equal.
         let same = eqb-true (a .value) (b .value) (not-false _ equal) in
         line6 (b-at, tt, b .next, rw same b-stands))
         (λ apart.
-        name-leads (k .value) (a .value) (b .value) (b .next) most
+        name-leads (k .value) (a .value) (b .value) (b .next) (omega (arith, most, known))
         (second-fine b-at b-stands (ltb-true (b .value) (c .terminals) b-fine)
         (eqb-false _ _ (not-true _ apart)))))))
 
   -- ---- 9, the parts one after the other
 
   module _ (c : Counts) (few : c .relays ≤ mostRelays) where
-    end-leads : (ps : List Part) (w : WoundSoFar) (at : ℕ) → ((r : ℕ) → Tallied w ps r) → Reached currentEdition s (at-part c ps) at
-        → length ps ≡ c .parts → Leads (LineHolds currentEdition s) (λ qs. BoardReached s c (ps ++ qs .value) (qs .next))
+    end-leads : (ps : List Part) (w : WoundSoFar) (at : ℕ) → ((r : ℕ) → Tallied w ps r) → Reached e s (at-part c ps) at
+        → length ps ≡ c .parts → Leads (LineHolds e s) (λ qs. BoardReached e s c (ps ++ qs .value) (qs .next))
         (unless (complete (c .relays) w) windingLacking at >> found [] at)
     unfolding complete
     end-leads ps w at so-far here all =
-        leads-unless (LineHolds currentEdition s) _ (every (c .relays) (wound w)) windingLacking at (found [] at)
+        leads-unless (LineHolds e s) _ (every (c .relays) (wound w)) windingLacking at (found [] at)
         (λ lacks.
         let some = every-lacks (wound w) (c .relays) lacks in
         let r = some .0 in
@@ -201,34 +204,34 @@ module _ (s : List ℕ) where
         }))
 
     parts-lead : (n : ℕ) (ps : List Part) (w : WoundSoFar) (at : ℕ) → ((r : ℕ) → Tallied w ps r)
-        → Reached currentEdition s (at-part c ps) at → length ps + n ≡ c .parts
-        → Leads (LineHolds currentEdition s) (λ qs. BoardReached s c (ps ++ qs .value) (qs .next)) (partsAt currentEdition c n w s at)
+        → Reached e s (at-part c ps) at → length ps + n ≡ c .parts
+        → Leads (LineHolds e s) (λ qs. BoardReached e s c (ps ++ qs .value) (qs .next)) (partsAt e c n w s at)
     unfolding partsAt
     parts-lead zero ps w at so-far here all = end-leads ps w at so-far here (omega arith)
     parts-lead (suc n) ps w at so-far here all =
-        leads-then (LineHolds currentEdition s) _ _ (partAt currentEdition c w s at) _ (part-leads c ps w so-far at here (omega arith))
+        leads-then (LineHolds e s) _ _ (partAt e c w s at) _ (part-leads c ps w so-far at here (omega arith))
         (λ p read there.
         let w′ = gained w (p .value .kind) in
         let more = ps ++ (p .value ∷ []) in
-        let fine : PartIsFine c w s at p =
-        subst (λ (o : Outcome (Found Part)). Gives (PartIsFine c w s at) o) read (part-read c w s at) in
-        leads-then (LineHolds currentEdition s) _ _ (partsAt currentEdition c n w′ s (p .next)) _
+        let fine : PartIsFine e c w s at p =
+        subst (λ (o : Outcome (Found Part)). Gives (PartIsFine e c w s at) o) read (part-read e known c w s at) in
+        leads-then (LineHolds e s) _ _ (partsAt e c n w′ s (p .next)) _
         (parts-lead n more w′ (p .next)
         (λ r. tallied-gained c few w ps (p .value) r (fine .fine) (so-far r)) there
         (omega (arith, length-append ps (p .value ∷ []))))
-        (λ qs _ rest. subst (λ (l : List Part). BoardReached s c l (qs .next))
+        (λ qs _ rest. subst (λ (l : List Part). BoardReached e s c l (qs .next))
         (append-assoc ps (p .value ∷ []) (qs .value)) rest))
 
   -- ---- a board
 
-  pub board-leads : Leads (LineHolds currentEdition s) (λ b. BoardReached s (b .value .counts) (partsOf (b .value)) (b .next))
-      (boardAt currentEdition s)
+  pub board-leads : Leads (LineHolds e s) (λ b. BoardReached e s (b .value .counts) (partsOf (b .value)) (b .next))
+      (boardAt e s)
   unfolding boardAt boardFrom
   board-leads =
-      leads-then (LineHolds currentEdition s) _ _ (countsAt currentEdition s) _ counts-lead (λ c read start.
-      let counts = counts-found currentEdition s (c .value) (c .next) read in
+      leads-then (LineHolds e s) _ _ (countsAt e s) _ counts-lead (λ c read start.
+      let counts = counts-found e s (c .value) (c .next) read in
       let few =
-      count-most currentEdition 0 mostRelays s (counts .relays-at) (c .value .relays) (counts .buttons-at) (counts .relays) in
-      leads-then (LineHolds currentEdition s) _ _ (partsAt currentEdition (c .value) (c .value .parts) noneWound s (c .next)) _
+      count-most e 0 mostRelays s (counts .relays-at) (c .value .relays) (counts .buttons-at) (counts .relays) in
+      leads-then (LineHolds e s) _ _ (partsAt e (c .value) (c .value .parts) noneWound s (c .next)) _
       (parts-lead (c .value) few (c .value .parts) [] noneWound (c .next) tallied-none start (omega arith))
       (λ ps _ so. rw (padded-parts (c .value) (ps .value) (sym (so .counted))) so))

@@ -16,12 +16,13 @@ use Rattle.board.proofs.PaddedLaws.{padded-parts}
 use Rattle.board.proofs.RuleLaws.{counts-in-range}
 use Rattle.board_reader.specs.Editions.{currentEdition}
 use Rattle.board_reader.specs.Reading.{boardOf, longestInput, answered, reading}
+use Rattle.board_reader.proofs.EditionLaws.{current-known}
 use Rattle.board_writer.specs.File.{boardBytes}
 use Rattle.board_writer.specs.Writing.{writing, bytesWritten}
 use Rattle.board_writer.proofs.WriteLaws.{writing-with-room}
 use Rattle.board_writer.proofs.FileLaws.{board-file-bound, WasWritten, writing-given, write-bytes}
 use Rattle.file_means.specs.RoundTrip.{WriteThenRead, RestStays, ReadThenWrite}
-use Rattle.file_means.proofs.StandLaws.{StandsTo}
+use Rattle.file_means.proofs.StandLaws.{StandsTo, bytes-as-written}
 use Rattle.file_means.proofs.GivesLaws.{Gives}
 use Rattle.file_means.proofs.BoardTrip.{board-reads, BoardIsFine}
 use Rattle.file_means.proofs.ReadFine.{read-fine}
@@ -87,10 +88,10 @@ writes b out n fine long room =
 pub read-then-write : ReadThenWrite
 read-then-write s out out′ n r w bytes read told wrote =
     let b = r .board in
-    let was : BoardIsFine s b n =
-    subst (λ (a : Board × Outcome ℕ). Gives (BoardIsFine s (a .0)) (a .1))
-    (sym read ∙ ap (λ (o : Outcome ℕ). (b, o)) told) (read-fine s) in
-    let long : n ≡ length (boardBytes b) = omega (arith, was .stands bytes .ends) in (
+    let was : BoardIsFine currentEdition s b n =
+    subst (λ (a : Board × Outcome ℕ). Gives (BoardIsFine currentEdition s (a .0)) (a .1))
+    (sym read ∙ ap (λ (o : Outcome ℕ). (b, o)) told) (read-fine currentEdition current-known s) in
+    let long : n ≡ length (boardBytes b) = omega (arith, was .stands (bytes-as-written s bytes) .ends) in (
       was .fine,
       λ room.
           (let answer = wrote ∙ writes b out n (was .fine) long room in (
@@ -98,6 +99,6 @@ read-then-write s out out′ n r w bytes read told wrote =
             ap (λ (a : Outcome ℕ × List ℕ). take n (a .1)) answer
                 ∙ take-at (boardBytes b) (drop n out) n (sym long)
                 ∙ sym (take-at (boardBytes b) (drop n s) n (sym long))
-                ∙ ap (take n) (sym (was .stands bytes .there)),
+                ∙ ap (take n) (sym (was .stands (bytes-as-written s bytes) .there)),
           )),
     )

@@ -11,7 +11,7 @@ use Rattle.refusals.specs.Outcomes.{given, Found, found}
 use Rattle.number.specs.Numbers.{currentWidth, numberAt, numberBytes, Bytes}
 use Rattle.number.proofs.Buffers.{drop-past}
 use Rattle.number.proofs.NumberLaws.{number-written-read, number-read-written}
-use Rattle.board_reader.specs.Editions.{currentEdition}
+use Rattle.board_reader.specs.Editions.{Edition, currentEdition}
 use Rattle.board_reader.specs.Reading.{wanted}
 use Rattle.board_reader.proofs.FieldLaws.{wanted-passes, wanted-found}
 
@@ -50,9 +50,13 @@ number-reads : (s : List ℕ) (at next v : ℕ) → v ≤ currentWidth .largest 
 number-reads s at next v small here =
     number-written-read s at v (drop next s) small (here .there) ∙ ap (found v) (sym (here .ends))
 
-pub number-stands : (s : List ℕ) (at : ℕ) (v : Found ℕ) → numberAt currentWidth s at ≡ given v → Bytes s
-    → StandsTo s at (v .next) (numberBytes (v .value))
-number-stands s at v h bytes =
+-- the numbers that are read in s by the edition e stand there by the bytes that they are written as
+abbrev pub AsWritten : Edition → List ℕ → Type 0
+AsWritten e s =
+    (at : ℕ) (v : Found ℕ) → numberAt (e .width) s at ≡ given v → StandsTo s at (v .next) (numberBytes (v .value))
+
+pub bytes-as-written : (s : List ℕ) → Bytes s → AsWritten currentEdition s
+bytes-as-written s bytes at v h =
     let read = number-read-written s at (v .value) (v .next) bytes h in
     record { there = read .bytes; ends = read .next }
 
@@ -61,7 +65,7 @@ pub wanted-reads : (ok : ℕ → Bool) (n : ℕ) (s : List ℕ) (at next v : ℕ
 wanted-reads ok n s at next v small fine here =
     wanted-passes currentEdition ok n s at v next (number-reads s at next v small here) fine
 
-pub wanted-stands : (ok : ℕ → Bool) (n : ℕ) (s : List ℕ) (at next v : ℕ) → Bytes s → wanted currentEdition ok n s at ≡ found v next
-    → StandsTo s at next (numberBytes v)
-wanted-stands ok n s at next v bytes h =
-    number-stands s at (record { value = v; next = next }) (wanted-found currentEdition ok n s at v next h .1) bytes
+pub wanted-stands : (e : Edition) (ok : ℕ → Bool) (n : ℕ) (s : List ℕ) (at next v : ℕ) → AsWritten e s
+    → wanted e ok n s at ≡ found v next → StandsTo s at next (numberBytes v)
+wanted-stands e ok n s at next v written h =
+    written at (record { value = v; next = next }) (wanted-found e ok n s at v next h .1)

@@ -80,7 +80,8 @@ pub data Reached (e : Edition) (s : List ℕ) : FileStage → ℕ → Type 0 whe
   start : Reached e s at-T 0
   T-fine : {t p next : ℕ} → Reached e s at-T p → StandsAt e s p t next → leastTerminals ≤ t → t ≤ mostTerminals
       → Reached e s (at-R t) next
-  R-fine : {t r p next : ℕ} → Reached e s (at-R t) p → StandsAt e s p r next → r ≤ mostRelays → Reached e s (at-B t r) next
+  R-fine : {t r p next : ℕ} → Reached e s (at-R t) p → StandsAt e s p r next → r ≤ mostRelays
+      → Reached e s (at-B t r) next
   B-fine : {t r b p next : ℕ} → Reached e s (at-B t r) p → StandsAt e s p b next → b ≤ mostButtons
       → Reached e s (at-C t r b) next
   C-fine : {t r b c p next : ℕ} → Reached e s (at-C t r b) p → StandsAt e s p c next → c ≤ mostParts
@@ -104,11 +105,13 @@ abbrev pub NumberStands : Edition → List ℕ → FileStage → ℕ → ℕ →
 NumberStands e s f p v = Reached e s f p × NumberWanted f × (next : ℕ) × StandsAt e s p v next
 
 pub data LineHolds (e : Edition) (s : List ℕ) : ℕ → ℕ → Type 0 where
-  line1 : {f : FileStage} {at : ℕ} → Reached e s f at → NumberWanted f → numberAt (e .width) s at ≡ refused inputEnds (length s)
+  line1 : {f : FileStage} {at : ℕ} → Reached e s f at → NumberWanted f
+      → numberAt (e .width) s at ≡ refused inputEnds (length s)
       → LineHolds e s inputEnds (length s)
   line2 : {f : FileStage} {p : ℕ} → Reached e s f p → NumberWanted f → numberAt (e .width) s p ≡ refused badForm p
       → LineHolds e s badForm p
-  line3-T : {v p : ℕ} → NumberStands e s at-T p v → (v < leastTerminals) ⊎ (mostTerminals < v) → LineHolds e s outOfRange p
+  line3-T : {v p : ℕ} → NumberStands e s at-T p v → (v < leastTerminals) ⊎ (mostTerminals < v)
+      → LineHolds e s outOfRange p
   line3-R : {t v p : ℕ} → NumberStands e s (at-R t) p v → mostRelays < v → LineHolds e s outOfRange p
   line3-B : {t r v p : ℕ} → NumberStands e s (at-B t r) p v → mostButtons < v → LineHolds e s outOfRange p
   line3-C : {t r b v p : ℕ} → NumberStands e s (at-C t r b) p v → mostParts < v → LineHolds e s outOfRange p
@@ -118,7 +121,8 @@ pub data LineHolds (e : Edition) (s : List ℕ) : ℕ → ℕ → Type 0 where
       → LineHolds e s noSuchTerminal p
   line5-second : {c : Counts} {ps : List Part} {k a v p : ℕ} → NumberStands e s (at-second c ps k a) p v
       → c .terminals ≤ v → LineHolds e s noSuchTerminal p
-  line6 : {c : Counts} {ps : List Part} {k a p : ℕ} → NumberStands e s (at-second c ps k a) p a → LineHolds e s endsEqual p
+  line6 : {c : Counts} {ps : List Part} {k a p : ℕ} → NumberStands e s (at-second c ps k a) p a
+      → LineHolds e s endsEqual p
   line7-button : {c : Counts} {ps : List Part} {a b v p : ℕ} → NumberStands e s (at-name c ps buttonKind a b) p v
       → c .buttons ≤ v → LineHolds e s noSuchName p
   line7-relay : {c : Counts} {ps : List Part} {k a b v p : ℕ} → NumberStands e s (at-name c ps k a b) p v
@@ -133,11 +137,13 @@ FileRefused =
     (s : List ℕ) (r : BoardRead) (n p : ℕ)
     → Reads s r
     → toldReadAnswer (r .answer) ≡ refused n p
-    ↔ ((longestInput < length s) × (n ≡ inputTooLong) × (p ≡ 0)) ⊎ ((length s ≤ longestInput) × LineHolds currentEdition s n p)
+    ↔ ((longestInput < length s) × (n ≡ inputTooLong) × (p ≡ 0))
+    ⊎ ((length s ≤ longestInput) × LineHolds currentEdition s n p)
 
 abbrev pub FileAccepted : Type 0
 FileAccepted =
     (s : List ℕ) (r : BoardRead) (c : Counts) (ps : List Part) (n : ℕ)
     → Reads s r
     → ((toldReadAnswer (r .answer) ≡ given n) × (r .board .counts ≡ c) × (partsOf (r .board) ≡ ps))
-    ↔ ((length s ≤ longestInput) × Reached currentEdition s (at-part c ps) n × (length ps ≡ c .parts) × Wound (c .relays) ps)
+    ↔ ((length s ≤ longestInput) × Reached currentEdition s (at-part c ps) n × (length ps ≡ c .parts)
+    × Wound (c .relays) ps)

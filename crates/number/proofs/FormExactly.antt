@@ -1,11 +1,11 @@
--- The theorem of specs/FormExactly.antt: what `form` makes of some bytes is one of four cases, and in each case it makes
--- just that of them, over the longest form k; so what a place of an input comes to is one of five, at every width.
-use Prim.Native.Nat.{ℕ, zero, suc, _-_, _^_, _≤_, _<_}
-use native.Mathlib.Nat.{one-le-pow}
+-- The theorem of specs/FormExactly.antt: what `form` makes of some bytes is one of four cases, and in each case it
+-- makes just that of them, over the longest form k. So what stands at a place of an input comes to one of five cases,
+-- at every width.
+use Prim.Native.Nat.{ℕ, zero, suc, _-_, _≤_, _<_}
 use native.Mathlib.Omega.{arith}
 use mathlib.Core.Path.{_≡_, refl, sym, ap, subst, _∙_}
 use mathlib.Core.List.{List, [], _∷_, _++_}
-use lib.ListN.{length, drop, length-append}
+use lib.ListN.{length, drop}
 use Rattle.lists.specs.Members.{All}
 use Rattle.bits.proofs.BoolLaws.{by-less}
 use Rattle.number.specs.declared.Form.{Form}

@@ -34,7 +34,7 @@ use Rattle.refusals.proofs.Told.{Told, answerOf, given-or-refused}
 use Rattle.number.proofs.FormLaws.{FormRead, Bytes-slice, Bytes-drop, form-written, form-read, form-within}
 use Rattle.number.proofs.FormLaws.{form-no-further}
 use Rattle.number.proofs.Buffers.{take-drop}
-use Rattle.number.proofs.FormLaws.{encode-last, encode-some, encode-few, encode-short, encode-long}
+use Rattle.number.proofs.FormLaws.{encode-last, encode-some, encode-few, encode-short}
 
 -- ---- outcomes
 
@@ -178,7 +178,8 @@ pub number-written-read : (s : List ℕ) (at v : ℕ) (rest : List ℕ) → v �
 unfolding numberAt numberBytes
 number-written-read s at v rest h e =
     ap (λ (l : List ℕ). placed currentWidth (length s) at (form (currentWidth .longest) l)) e
-    ∙ ap (placed currentWidth (length s) at) (form-written (currentWidth .longest) v rest current-some (current-room v h))
+    ∙ ap (placed currentWidth (length s) at)
+    (form-written (currentWidth .longest) v rest current-some (current-room v h))
     ∙ placed-as currentWidth (length s) at v (length (encode (currentWidth .longest) v)) h
 
 -- what is known where the number v was read at a place of s, with the place n just after it
@@ -216,20 +217,6 @@ pub number-bytes-length-two : (v : ℕ) → v < 16384 → length (numberBytes v)
 unfolding numberBytes
 number-bytes-length-two v h = encode-short 1 (currentWidth .longest) v h
 
--- the length, by the limits that it steps at
-pub number-length-one : (v : ℕ) → v < 128 → 1 ≡ length (numberBytes v)
-number-length-one v h = sym (ap length (number-bytes-one v h))
-
-pub number-length-two : (v : ℕ) → 128 ≤ v → v < 16384 → 2 ≡ length (numberBytes v)
-unfolding numberBytes
-number-length-two v h l =
-    omega (arith, encode-long 1 (currentWidth .longest) v (omega arith) h, encode-short 1 (currentWidth .longest) v l)
-
-pub number-length-three : (v : ℕ) → 16384 ≤ v → 3 ≡ length (numberBytes v)
-unfolding numberBytes
-number-length-three v h =
-    omega (arith, encode-long 2 (currentWidth .longest) v (omega arith) h, encode-few (currentWidth .longest) v)
-
 -- ---- what writing a number does to a buffer
 
 pub number-written : (v : ℕ) (out : List ℕ) (at : ℕ) → v ≤ currentWidth .largest
@@ -257,7 +244,8 @@ pub number-asked : (v : ℕ) (out : List ℕ) (at : ℕ) {bytes : ℕ} {room : B
     → p ≡ firstNo (numberLines v out at)
 number-asked v out at {bytes} {room} {o} long fits first second =
     second
-    ∙ asks-then ((leb v (currentWidth .largest), badForm) ∷ []) room bufferTooShort o (first ∙ sym (asks-first _ badForm))
+    ∙ asks-then ((leb v (currentWidth .largest), badForm) ∷ []) room bufferTooShort o
+    (first ∙ sym (asks-first _ badForm))
     ∙ ap (λ (t : Bool). firstNo ((leb v (currentWidth .largest), badForm) ∷ (t, bufferTooShort) ∷ []))
     (fits ∙ ap (λ (n : ℕ). leb (at + n) (length out)) long)
 

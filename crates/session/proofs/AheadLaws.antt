@@ -66,7 +66,8 @@ module _ (z : Session) (s : List ℕ) where
 pub event-next : (b : Board) (s : List ℕ) (at : ℕ) (v : Found ℕ) → eventAt b s at ≡ given v → at < v .next
 unfolding eventAt
 event-next b s at v e =
-    number-next-within currentWidth s at (v .value) (v .next) (wanted-found currentEdition _ noSuchName s at (v .value) (v .next) e .1) .1
+    number-next-within currentWidth s at (v .value) (v .next)
+    (wanted-found currentEdition _ noSuchName s at (v .value) (v .next) e .1) .1
 
 pub line-never : (l : Line) → no-line ≡ line l → ⊥
 line-never l e = let z : _≡_ {A = ℕ} 0 1 = cc in omega arith

@@ -40,7 +40,8 @@ module _ (b : Board) (x : number.Number) where
 module _ (s : List ℕ) (r : BoardRead) (read : Reads s r) where
   head-by : headAt s ≡ (toldReadAnswer (r .answer) >>= (λ at. withAllowance (r .board) (numberAt currentWidth s at)))
   unfolding headAt
-  head-by = ap (λ (x : Board × Outcome ℕ). x .1 >>= (λ at. withAllowance (x .0) (numberAt currentWidth s at))) (sym read)
+  head-by =
+      ap (λ (x : Board × Outcome ℕ). x .1 >>= (λ at. withAllowance (x .0) (numberAt currentWidth s at))) (sym read)
 
   pub beginning-board : (at : ℕ) (x : number.Number) → r .answer ≡ board-was.Read at → ReadsNumber s at x
       → begunFrom (withAllowance (r .board) (toldNumber x)) ≡ beginning s

@@ -45,7 +45,9 @@ read-short s at read = by (leb (length s) longestInput) refl
 head-short : (s : List ℕ) (h : Found Head) → headAt s ≡ given h → length s ≤ longestInput
 unfolding headAt
 head-short s h e =
-    let board = handed (reading currentEdition s .1) (λ at. withAllowance (reading currentEdition s .0) (numberAt currentWidth s at)) h e in
+    let board =
+    handed (reading currentEdition s .1)
+    (λ at. withAllowance (reading currentEdition s .0) (numberAt currentWidth s at)) h e in
     read-short s (board .value) (board .first)
 
 begun-numbered : (o : Outcome (Found Head)) (s : List ℕ)

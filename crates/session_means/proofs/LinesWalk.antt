@@ -17,6 +17,7 @@ use Rattle.state.specs.States.{freshState, stateFine}
 use Rattle.state.proofs.StateLaws.{fresh-fits}
 use Rattle.board_reader.specs.Editions.{currentEdition}
 use Rattle.board_reader.specs.Reading.{wanted, reading}
+use Rattle.board_reader.proofs.EditionLaws.{current-known}
 use Rattle.file_means.proofs.GivesLaws.{Gives, gives-then, gives-after}
 use Rattle.file_means.proofs.BoardTrip.{BoardIsFine}
 use Rattle.file_means.proofs.ReadFine.{read-fine}
@@ -95,7 +96,8 @@ HeadFine h = boardFine (h .value .board) ≡ true
 pub head-fine : (s : List ℕ) → Gives HeadFine (headAt s)
 unfolding headAt withAllowance
 head-fine s =
-    gives-then (BoardIsFine s (reading currentEdition s .0)) HeadFine (reading currentEdition s .1) _ (read-fine s)
+    gives-then (BoardIsFine currentEdition s (reading currentEdition s .0)) HeadFine (reading currentEdition s .1) _
+    (read-fine currentEdition current-known s)
     (λ at was. gives-after HeadFine (numberAt currentWidth s at) _ (λ w read. was .fine))
 
 pub head-walk : (h : Found Head) (s : List ℕ) → HeadFine h → (Q : ℕ → State → List Line → Type 0)

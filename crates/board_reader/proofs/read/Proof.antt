@@ -26,20 +26,20 @@ counts c = answer-went _ _ _ (c .before .before .read-counts .ensures) _ (c .ans
 returns : tie.Need-returns
 returns c =
     answer-refused (c .no-board .result) _ _ _ (c .no-board .ensures .0) (c .no-board .ensures .1)
-    (c .before .refuse .ensures) ∙ reading-long currentEdition _ (c .before .before .if1 .taken)
+    (c .before .refuse .ensures) ∙ reading-long _ _ (c .before .before .if1 .taken)
 
 returns-2 : tie.Need-returns-2
 returns-2 c =
     let refusal = c .before .enum-told .given .1 in
     let called = c .before .before .before in
     answer-refused (c .no-board2 .result) _ _ _ (c .no-board2 .ensures .0) (c .no-board2 .ensures .1)
-    (ap toldReadAnswer refusal) ∙ reading-stopped currentEdition _ _ _ (called .before .if1 .left)
+    (ap toldReadAnswer refusal) ∙ reading-stopped _ _ _ _ (called .before .if1 .left)
     (answer-stopped _ _ _ (called .read-counts .ensures) _ refusal)
 
 read-parts-requires : tie.Need-read-parts-requires
 read-parts-requires c κs =
     counts-in-range _
-    (counts-found-fine currentEdition _ _ _ (counts-found currentEdition _ _ _ (counts (c .before .before .before)))) .most-parts
+    (counts-found-fine _ _ _ _ (counts-found _ _ _ _ (counts (c .before .before .before)))) .most-parts
 
 -- what the parts are read from: an input that is short enough, after the counts that were found
 abbrev after-counts : tie.After-read-parts → tie.After-answer

@@ -39,8 +39,8 @@ rest-bounds t c =
     let at-slice = at-read-form .before .before .before .before .before .before in
     let args = at-slice .before .args in
     let bounds =
-    form-bounds (currentWidth .longest - 1) _ (args .at + 1) (args .s .now) (at-slice .shared-slice-known .given) (omega arith) _
-    (at-read-form .read-form .ensures) _ _ (at-rest .rest .given .1) in (bounds .small, bounds .few)
+    form-bounds (currentWidth .longest - 1) _ (args .at + 1) (args .s .now) (at-slice .shared-slice-known .given)
+    (omega arith) _ (at-read-form .read-form .ensures) _ _ (at-rest .rest .given .1) in (bounds .small, bounds .few)
 
 pub +read-form-spec : {M : Type 1} → statement M
 +read-form-spec = close μ-read-form λ t. read-form-lts.spec (

@@ -22,11 +22,13 @@ terminals : (c : tie.After-terminals-read)
 terminals c = told-found _ _ _ _ (c .terminals-read .given .1) (c .before .before .read-count .ensures)
 
 relays : (c : tie.After-relays-read) → let before = c .before .before .before .before in
-    countAt currentEdition 0 mostRelays (input before) (before .terminals-read .given .0 .1 .0) ≡ bound (c .relays-read .given .0)
+    countAt currentEdition 0 mostRelays (input before) (before .terminals-read .given .0 .1 .0)
+    ≡ bound (c .relays-read .given .0)
 relays c = told-found _ _ _ _ (c .relays-read .given .1) (c .before .before .read-count2 .ensures)
 
 buttons : (c : tie.After-buttons-read) → let before = c .before .before .before .before in
-    countAt currentEdition 0 mostButtons (input (before .before .before .before .before)) (before .relays-read .given .0 .1 .0)
+    countAt currentEdition 0 mostButtons (input (before .before .before .before .before))
+    (before .relays-read .given .0 .1 .0)
     ≡ bound (c .buttons-read .given .0)
 buttons c = told-found _ _ _ _ (c .buttons-read .given .1) (c .before .before .read-count3 .ensures)
 
@@ -34,13 +36,13 @@ returns : tie.Need-returns
 returns c =
     let refusal = c .before .enum-told .given .1 in
     number-stopped (c .no-counts .result .counts) (c .no-counts .result .answer) _ _ (c .no-counts .ensures) refusal
-    ∙ terminals-refused currentEdition _ _ _ (told-refused _ _ _ refusal (c .before .before .before .read-count .ensures))
+    ∙ terminals-refused _ _ _ _ (told-refused _ _ _ refusal (c .before .before .before .read-count .ensures))
 
 returns-2 : tie.Need-returns-2
 returns-2 c =
     let refusal = c .before .enum-told2 .given .1 in
     number-stopped (c .no-counts2 .result .counts) (c .no-counts2 .result .answer) _ _ (c .no-counts2 .ensures) refusal
-    ∙ relays-refused currentEdition _ _ _ _ _ (terminals (c .before .before .before .before .before))
+    ∙ relays-refused _ _ _ _ _ _ (terminals (c .before .before .before .before .before))
     (told-refused _ _ _ refusal (c .before .before .before .read-count2 .ensures))
 
 returns-3 : tie.Need-returns-3
@@ -48,7 +50,7 @@ returns-3 c =
     let refusal = c .before .enum-told3 .given .1 in
     let r = c .before .before .before .before .before in
     number-stopped (c .no-counts3 .result .counts) (c .no-counts3 .result .answer) _ _ (c .no-counts3 .ensures) refusal
-    ∙ buttons-refused currentEdition _ _ _ _ _ (terminals (r .before .before .before .before)) _ _ (relays r)
+    ∙ buttons-refused _ _ _ _ _ _ (terminals (r .before .before .before .before)) _ _ (relays r)
     (told-refused _ _ _ refusal (c .before .before .before .read-count3 .ensures))
 
 returns-4 : tie.Need-returns-4
@@ -57,27 +59,27 @@ returns-4 c =
     let b = c .before .before .before .before .before in
     let r = b .before .before .before .before in
     number-stopped (c .no-counts4 .result .counts) (c .no-counts4 .result .answer) _ _ (c .no-counts4 .ensures) refusal
-    ∙ parts-refused currentEdition _ _ _ _ _ (terminals (r .before .before .before .before)) _ _ (relays r) _ _ (buttons b)
+    ∙ parts-refused _ _ _ _ _ _ (terminals (r .before .before .before .before)) _ _ (relays r) _ _ (buttons b)
     (told-refused _ _ _ refusal (c .before .before .before .read-count4 .ensures))
 
 cast-t17 : tie.Need-cast-t17
 cast-t17 c =
     let r = c .before .before .before .before .before .before .before .before .before in
-    omega (arith, count-most currentEdition _ _ _ _ _ _ (terminals (r .before .before .before .before)))
+    omega (arith, count-most _ _ _ _ _ _ _ (terminals (r .before .before .before .before)))
 
 cast-t18 : tie.Need-cast-t18
 cast-t18 c =
     let r = c .before .before .before .before .before .before .before .before .before in
-    omega (arith, count-most currentEdition _ _ _ _ _ _ (relays r))
+    omega (arith, count-most _ _ _ _ _ _ _ (relays r))
 
 cast-t19 : tie.Need-cast-t19
-cast-t19 c = omega (arith, count-most currentEdition _ _ _ _ _ _ (buttons (c .before .before .before .before .before)))
+cast-t19 c = omega (arith, count-most _ _ _ _ _ _ _ (buttons (c .before .before .before .before .before)))
 
 returns-5 : tie.Need-returns-5
 returns-5 c =
     let b = c .before .before .before .before .before in
     let r = b .before .before .before .before in
-    counts-read currentEdition _ _ _ _ _ _ _ _ _ (terminals (r .before .before .before .before)) (relays r) (buttons b)
+    counts-read _ _ _ _ _ _ _ _ _ _ (terminals (r .before .before .before .before)) (relays r) (buttons b)
     (told-found _ _ _ _ (c .before .parts-read .given .1) (c .before .before .before .read-count4 .ensures))
 
 pub read-counts-spec : {M : Type 1} → statement M

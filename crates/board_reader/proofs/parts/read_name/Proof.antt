@@ -5,17 +5,16 @@ use Rattle.board_reader.proofs.parts.read_name.Statement.{statement}
 use Rattle.board_reader.proofs.parts.read_name.Tie as tie
 use mathlib.Core.Path.{_∙_}
 use Rattle.refusals.specs.Refusals.{noSuchName}
-use Rattle.board_reader.specs.Editions.{currentEdition}
 use Rattle.board_reader.proofs.FieldLaws.{wanted-below, name-wire, name-carried}
 
 returns : tie.Need-returns
-returns c = name-wire currentEdition _ _ _ _ (c .if1 .taken)
+returns c = name-wire _ _ _ _ _ (c .if1 .taken)
 
 returns-2 : tie.Need-returns-2
 returns-2 c =
-    c .read-below .ensures ∙ wanted-below currentEdition noSuchName _ _ _ _
+    c .read-below .ensures ∙ wanted-below _ noSuchName _ _ _ _
     (c .before .wide .ensures .0 ∙ c .before .before .limit .ensures)
-    ∙ name-carried currentEdition _ _ _ _ (c .before .before .before .if1 .left)
+    ∙ name-carried _ _ _ _ _ (c .before .before .before .if1 .left)
 
 pub read-name-spec : {M : Type 1} → statement M
 read-name-spec =

@@ -21,24 +21,28 @@ abbrev entry : tie.After-kind-read → tie.Start
 entry k = k .before .before .before .before
 
 kind : (k : tie.After-kind-read)
-    → wanted currentEdition (inRange 0 (currentEdition .lastKind)) noSuchKind (entry k .args .s .now) (entry k .args .at)
+    → wanted currentEdition (inRange 0 (currentEdition .lastKind)) noSuchKind (entry k .args .s .now)
+    (entry k .args .at)
     ≡ bound (k .kind-read .given .0)
 kind k = told-found _ _ _ _ (k .kind-read .given .1) (k .before .before .read-within .ensures)
 
 first-end : (a : tie.After-a-read) → let k = a .before .before .before .before in
-    wanted currentEdition (terminalFine (entry k .args .counts)) noSuchTerminal (entry k .args .s .now) (k .kind-read .given .0 .1 .0)
+    wanted currentEdition (terminalFine (entry k .args .counts)) noSuchTerminal (entry k .args .s .now)
+    (k .kind-read .given .0 .1 .0)
     ≡ bound (a .a-read .given .0)
 first-end a = told-found _ _ _ _ (a .a-read .given .1) (a .before .before .read-terminal .ensures)
 
 second-end : (b : tie.After-b-read) → let a = b .before .before .before .before in
     let k = a .before .before .before .before in
-    wanted currentEdition (terminalFine (entry k .args .counts)) noSuchTerminal (entry k .args .s .now) (a .a-read .given .0 .1 .0)
+    wanted currentEdition (terminalFine (entry k .args .counts)) noSuchTerminal (entry k .args .s .now)
+    (a .a-read .given .0 .1 .0)
     ≡ bound (b .b-read .given .0)
 second-end b = told-found _ _ _ _ (b .b-read .given .1) (b .before .before .read-terminal2 .ensures)
 
 name : (n : tie.After-name-read) → let b = n .before .before .before .before .before in
     let k = b .before .before .before .before .before .before .before .before in
-    nameAt currentEdition (entry k .args .counts) (k .kind-read .given .0 .0) (entry k .args .s .now) (b .b-read .given .0 .1 .0)
+    nameAt currentEdition (entry k .args .counts) (k .kind-read .given .0 .0) (entry k .args .s .now)
+    (b .b-read .given .0 .1 .0)
     ≡ bound (n .name-read .given .0)
 name n = told-found _ _ _ _ (n .name-read .given .1) (n .before .before .read-name .ensures)
 
@@ -47,15 +51,15 @@ returns c =
     let refusal = c .before .enum-told .given .1 in
     let args = c .before .before .before .before .before .args in
     number-stopped (c .no-field .result .part) (c .no-field .result .answer) _ _ (c .no-field .ensures) refusal
-    ∙ kind-refused currentEdition _ _ _ _ _ _
-    (told-refused (wanted currentEdition (inRange 0 (currentEdition .lastKind)) noSuchKind (args .s .now) (args .at)) _ _ refusal
-    (c .before .before .before .read-within .ensures))
+    ∙ kind-refused _ _ _ _ _ _ _
+    (told-refused (wanted currentEdition (inRange 0 (currentEdition .lastKind)) noSuchKind (args .s .now)
+    (args .at)) _ _ refusal (c .before .before .before .read-within .ensures))
 
 returns-2 : tie.Need-returns-2
 returns-2 c =
     let refusal = c .before .enum-told2 .given .1 in
     number-stopped (c .no-field2 .result .part) (c .no-field2 .result .answer) _ _ (c .no-field2 .ensures) refusal
-    ∙ a-refused currentEdition _ _ _ _ _ _ (kind (c .before .before .before .before .before)) _ _
+    ∙ a-refused _ _ _ _ _ _ _ (kind (c .before .before .before .before .before)) _ _
     (told-refused _ _ _ refusal (c .before .before .before .read-terminal .ensures))
 
 returns-3 : tie.Need-returns-3
@@ -63,7 +67,7 @@ returns-3 c =
     let refusal = c .before .enum-told3 .given .1 in
     let a = c .before .before .before .before .before in
     number-stopped (c .no-field3 .result .part) (c .no-field3 .result .answer) _ _ (c .no-field3 .ensures) refusal
-    ∙ b-refused currentEdition _ _ _ _ _ _ (kind (a .before .before .before .before)) _ _ (first-end a) _ _
+    ∙ b-refused _ _ _ _ _ _ _ (kind (a .before .before .before .before)) _ _ (first-end a) _ _
     (told-refused _ _ _ refusal (c .before .before .before .read-terminal2 .ensures))
 
 returns-4 : tie.Need-returns-4
@@ -71,7 +75,7 @@ returns-4 c =
     let b = c .before .before .before .before in
     let a = b .before .before .before .before in
     no-part-told (c .no-part .result) _ _ _ (c .no-part .ensures) (c .before .refuse .ensures)
-    ∙ ends-equal currentEdition _ _ _ _ _ _ (kind (a .before .before .before .before)) _ _ (first-end a) _ _ (second-end b)
+    ∙ ends-equal _ _ _ _ _ _ _ (kind (a .before .before .before .before)) _ _ (first-end a) _ _ (second-end b)
     (c .before .before .if1 .taken)
 
 returns-5 : tie.Need-returns-5
@@ -81,7 +85,7 @@ returns-5 c =
     let b = apart .before .before in
     let a = b .before .before .before .before in
     number-stopped (c .no-field4 .result .part) (c .no-field4 .result .answer) _ _ (c .no-field4 .ensures) refusal
-    ∙ name-refused currentEdition _ _ _ _ _ _ (kind (a .before .before .before .before)) _ _ (first-end a) _ _ (second-end b)
+    ∙ name-refused _ _ _ _ _ _ _ (kind (a .before .before .before .before)) _ _ (first-end a) _ _ (second-end b)
     (apart .if1 .left) _ _ (told-refused _ _ _ refusal (c .before .before .before .read-name .ensures))
 
 cast-of : tie.Need-cast-of
@@ -90,7 +94,7 @@ cast-of c =
     let k = b .before .before .before .before .before .before .before .before in
     let below = entry k .good .1 .1 .0 .1 .1 in
     record {
-      fits = name-below currentEdition _ _ _ _ _ _ 256 (name (c .before)) (omega (arith, below .1 .0 .1))
+      fits = name-below _ _ _ _ _ _ _ 256 (name (c .before)) (omega (arith, below .1 .0 .1))
           (omega (arith, below .1 .1 .0 .1)) (omega arith);
     }
 
@@ -101,7 +105,8 @@ returns-6 c =
     let b = apart .before .before in
     let a = b .before .before .before .before in
     no-part-told (c .no-part2 .result) _ _ _ (c .no-part2 .ensures) (c .before .refuse2 .ensures)
-    ∙ winding-taken-refused currentEdition _ _ _ _ _ _ (kind (a .before .before .before .before)) _ _ (first-end a) _ _ (second-end b)
+    ∙ winding-taken-refused _ _ _ _ _ _ _ (kind (a .before .before .before .before)) _ _ (first-end a) _ _
+    (second-end b)
     (apart .if1 .left) _ _ (name n)
     (ap (windingFree _) (sym (c .before .before .before .before .of .ensures))
     ∙ sym (c .before .before .before .free .ensures) ∙ not-true _ (c .before .before .if2 .taken))
@@ -111,13 +116,13 @@ cast-t21 c =
     let b = c .before .before .before .before .before .before .before .before .before in
     let a = b .before .before .before .before in
     let start = entry (a .before .before .before .before) in
-    omega (arith, terminal-below currentEdition (start .args .counts) _ _ _ _ (first-end a), start .good .1 .1 .0 .1 .1 .0 .1)
+    omega (arith, terminal-below _ (start .args .counts) _ _ _ _ (first-end a), start .good .1 .1 .0 .1 .1 .0 .1)
 
 cast-t24 : tie.Need-cast-t24
 cast-t24 c =
     let b = c .before .before .before .before .before .before .before .before .before in
     let start = entry (b .before .before .before .before .before .before .before .before) in
-    omega (arith, terminal-below currentEdition (start .args .counts) _ _ _ _ (second-end b), start .good .1 .1 .0 .1 .1 .0 .1)
+    omega (arith, terminal-below _ (start .args .counts) _ _ _ _ (second-end b), start .good .1 .1 .0 .1 .1 .0 .1)
 
 returns-7 : tie.Need-returns-7
 returns-7 c =
@@ -127,7 +132,7 @@ returns-7 c =
     let b = apart .before .before in
     let a = b .before .before .before .before in
     part-as _ _ _ refl refl made
-    ∙ part-found currentEdition _ _ _ _ _ _ (kind (a .before .before .before .before)) _ _ (first-end a) _ _ (second-end b)
+    ∙ part-found _ _ _ _ _ _ _ (kind (a .before .before .before .before)) _ _ (first-end a) _ _ (second-end b)
     (apart .if1 .left) _ _ (name n)
     (ap (windingFree _) (sym made) ∙ sym (c .before .free .ensures) ∙ not-false _ (c .if2 .left))
 

@@ -26,7 +26,7 @@ loop-holds c = (
   c .before .before .pre,
   omega arith,
   refl,
-  walk-start currentEdition _ _ _ _ _ (c .blank .ensures),
+  walk-start _ _ _ _ _ _ (c .blank .ensures),
 )
 
 returns : tie.Need-returns Inv-loop μ-loop
@@ -34,7 +34,7 @@ returns c =
     let refusal = c .enum-told .given .1 in
     let called = c .before .before in
     refused-told _ _ _ refusal
-    ∙ walk-refused currentEdition _ _ _ _ _ _ _ _ (called .before .before .loop .inv .4) _ _
+    ∙ walk-refused _ _ _ _ _ _ _ _ _ (called .before .before .loop .inv .4) _ _
     (called .before .loop-test .taken) (answer-stopped _ _ _ (called .read-part .ensures) _ refusal)
 
 loop-again : tie.Need-loop-again Inv-loop μ-loop
@@ -45,7 +45,7 @@ loop-again c =
       at-loop .loop .inv .1,
       omega arith,
       length-set (at-loop .loop .parts) (at-loop .loop .i) (called .read-part .result .part) ∙ at-loop .loop .inv .3,
-      walk-on currentEdition _ _ _ _ _ _ _ _ (at-loop .loop .inv .4) _ _ _
+      walk-on _ _ _ _ _ _ _ _ _ (at-loop .loop .inv .4) _ _ _
           (called .before .loop-test .taken) (at-loop .loop .inv .1)
           (answer-went _ _ _ (called .read-part .ensures) _ (c .before .before .before .answer .given .1))
           (c .with .ensures),
@@ -63,4 +63,4 @@ read-parts-spec =
     returns
     (λ c κs. search needs) (λ c. omega arith) (λ c. omega arith) (λ c. omega arith) (λ c. omega arith)
     loop-again
-    (λ c. walk-end currentEdition _ _ _ _ _ _ _ _ (c .before .loop .inv .4) (c .loop-test .left)))
+    (λ c. walk-end _ _ _ _ _ _ _ _ _ (c .before .loop .inv .4) (c .loop-test .left)))
