@@ -2,7 +2,7 @@
 -- windings so far.
 use Prim.Native.Nat.{ℕ, _+_, _≤_, _<_}
 use mathlib.Core.Path.{_≡_, refl, sym, ap, _∙_}
-use mathlib.Core.List.{List, [], _∷_}
+use mathlib.Core.List.{List, [], _∷_, _++_}
 use mathlib.Core.Bool.{Bool, true, false, cond}
 use mathlib.Core.Option.{Option, none, some, Option·none-ne-some, Option·some-injective}
 use lib.Dec.{leb}
@@ -48,6 +48,13 @@ module _ (c : Counts) (w : WoundSoFar) (p : Part) where
 row-end : (c : Counts) (w : WoundSoFar) → rowAfter c w [] ≡ some w
 unfolding gainedAll partsFine rowAfter
 row-end c w = refl
+
+-- the windings once one more part has come
+pub gained-more : (w : WoundSoFar) (ps : List Part) (p : Part)
+    → gainedAll w (ps ++ (p ∷ [])) ≡ gained (gainedAll w ps) (p .kind)
+unfolding gainedAll
+gained-more w [] p = refl
+gained-more w (q ∷ ps) p = gained-more (gained w (q .kind)) ps p
 
 -- a row that is fine has its windings, and one that is not has none
 pub row-fine : (c : Counts) (w v : WoundSoFar) (ps : List Part) → some v ≡ rowAfter c w ps

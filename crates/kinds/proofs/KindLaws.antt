@@ -5,6 +5,8 @@ use Prim.Native.Nat.{ℕ, zero, suc, _-_, _≤_}
 use native.Mathlib.Omega.{arith}
 use mathlib.Core.Path.{_≡_, refl, sym, ap, ap₂, _∙_}
 use mathlib.Core.List.{List, [], _∷_, _++_}
+use mathlib.Core.Bool.{cond}
+use lib.Dec.{eqb}
 use lib.ListN.{length, getD, take, replicate}
 use lib.Seq.{take-append-seam}
 use Rattle.kinds.specs.declared.Kind.{Kind}
@@ -71,7 +73,20 @@ fields-few (Dropping r) a b = omega arith
 pub in-places-first : (vs : List ℕ) → take (inPlaces vs .count) (inPlaces vs .numbers) ≡ vs
 in-places-first vs = take-append-seam vs (replicate (mostFields - length vs) 0)
 
--- both ends stand first, and then the name
+-- both ends and then the name, if the kind carries one
+abbrev pub namesOf : Kind → List ℕ
+namesOf k = cond (eqb (kindNumber k) wireKind) [] (nameOf k ∷ [])
+
+pub fields-are : (k : Kind) (a b : ℕ) → fields k a b ≡ a ∷ b ∷ namesOf k
+fields-are Wire a b = refl
+fields-are (Upper r) a b = refl
+fields-are (Lower r) a b = refl
+fields-are (Button n) a b = refl
+fields-are (Regular r) a b = refl
+fields-are (Drawing r) a b = refl
+fields-are (Dropping r) a b = refl
+
+-- each as the field at its place; the name of a wire, which has none, is told as 0
 fields-begin : (k : Kind) (a b : ℕ) → (getD (fields k a b) 0 0 ≡ a) × (getD (fields k a b) 1 0 ≡ b)
     × (getD (fields k a b) 2 0 ≡ nameOf k)
 fields-begin Wire a b = (refl, refl, refl)
