@@ -36,7 +36,7 @@ use Rattle.session.specs.Filling.{filledBy, linesHanded, nextLines}
 
 -- ---- writing into a buffer, which stays as lent where it is refused
 
-abbrev WriteStands : List ℕ → Order → Outcome ℕ × List ℕ → Type 0
+abbrev pub WriteStands : List ℕ → Order → Outcome ℕ × List ℕ → Type 0
 WriteStands out ls = StandsAgainst (λ x. x .0) (λ x. x .1 ≡ out) (firstNo ls)
 
 -- k bytes are written and the buffer becomes l, unless a line stands against it
@@ -63,7 +63,7 @@ nothing-written (Refused r) n p e = refl
 
 -- ---- a button, and a single move: what is left beside what the call came to
 
-abbrev LeftStands : {A : Type 0} → State → Outcome (Unit {0}) → State × Outcome A → Type 0
+abbrev pub LeftStands : {A : Type 0} → State → Outcome (Unit {0}) → State × Outcome A → Type 0
 LeftStands s = StandsAgainst (λ x. x .1) (λ x. x .0 ≡ s)
 
 left-stands : {A : Type 0} (s : State) (f : A → State) (o : Outcome A) → LeftStands s (against o) (left s f o)
@@ -140,6 +140,7 @@ judge-stands b s r k w =
     subst (λ o. StandsAgainst (λ (v : Verdict). v .finding) NoVerdict o (judging b s r k w)) lines
     (verdict-stands b s w (windingFor b s r k))
   where
+    winding : Option Winding
     winding = windingOf k r (partsOf b)
 
     split : firstNo (judgeLines b s r k)
@@ -175,7 +176,7 @@ filled-given out (a, []) = refl
 filled-given out (a, l ∷ ls) = refl
 
 -- x is handed out where the longest line has room; else the session z and the buffer stay
-abbrev HandStands : Session → List ℕ → Handed → Type 0
+abbrev pub HandStands : Session → List ℕ → Handed → Type 0
 HandStands z out =
     StandsAgainst (λ (h : Handed). h .answer) (λ h. (h .session ≡ z) × (h .out ≡ out)) (firstNo (lineLines out))
 

@@ -43,6 +43,7 @@ use Rattle.moves.specs.Moving.{Moves}
 use Rattle.runs.specs.Running.{Runs}
 use Rattle.lines.specs.declared.Line.{Line}
 use Rattle.lines.specs.Lines.{WritesLine}
+use Rattle.events.specs.declared.Event.{Event}
 use Rattle.events.specs.Events.{RunLine, EventLine}
 use Rattle.session.specs.declared.Session.{Session}
 use Rattle.session.specs.Carried.{Begins}
@@ -111,7 +112,7 @@ pub record OneAnswer : Type 0 where
   pub runs-run : (b : Board) (s : State) (log : List ℕ) (w : ℕ) → OneLent (Runs b s log w)
   pub lines-write-line : (l : Line) (out : List ℕ) → OneLent (WritesLine l out)
   pub events-run-line : (b : Board) (e : ℕ) (s : State) (w : ℕ) → One (RunLine b e s w)
-  pub events-event-line : (b : Board) (e : ℕ) (s : State) (v w : ℕ) → One (EventLine b e s v w)
+  pub events-event-line : (b : Board) (e : ℕ) (s : State) (v : Event) (w : ℕ) → One (EventLine b e s v w)
   pub session-begin : (s : List ℕ) → One (Begins s)
   pub session-next-line : (z : Session) (s out : List ℕ) → OneLent (NextLine z s out)
   pub session-next-lines : (z : Session) (s out : List ℕ) → OneLent (NextLines z s out)
