@@ -95,7 +95,7 @@ kept z r out out′ left = (told-injective toldSession session-told (r .session)
 pub as-lent : AsLent
 as-lent = record {
   reads =
-      λ s r n p read told. reading-refused s (r .board) n p
+      λ s r n p read told. reading-refused _ s (r .board) n p
       (sym read ∙ ap {B = Board × Outcome ℕ} (λ o. (r .board, o)) told);
   writes-number = λ v out out′ at x n p wrote is. told-left written wrote (number-writing-stands v out at) n p is;
   writes-line = λ l out out′ x n p wrote is. told-left written wrote (line-writing-stands (toldLine l) out) n p is;
