@@ -18,7 +18,8 @@ use Rattle.board.specs.Parts.{partsOf, mostParts}
 use Rattle.board.specs.Rules.{leastTerminals, mostTerminals, mostRelays, mostButtons, inRange, countsFine}
 use Rattle.board.specs.Rules.{nameFine, partFits, boardFine}
 use Rattle.board.specs.Sorts.{isRegular, isSteel}
-use Rattle.board.specs.BreaksNoRule.{InRange, Names, Fits, BoardFits, BreaksNoRule, FifteenExactly, EveryRelaySort}
+use Rattle.board.specs.BreaksNoRule.{InRange, Names, Fits, BoardFits, BreaksNoRule, FifteenExactly}
+use Rattle.board.specs.BreaksNoRule.{EveryRelaySort}
 use Rattle.bits.proofs.BoolLaws.{both-true, true-both}
 use Rattle.board.proofs.FineLaws.{splits-fine, fine-range, fine-parts-fit, fine-relays-wound}
 use Rattle.board.proofs.WindingLaws.{partsFit, wound-fine}

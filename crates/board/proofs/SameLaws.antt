@@ -1,5 +1,5 @@
--- Laws of the comparison of boards: a walk along their parts, and along the fields of two parts, and that boards compare
--- as the same exactly if their counts and first C parts are equal.
+-- Laws of the comparison of boards: a walk along their parts, or along the fields of two parts, and that boards
+-- compare as the same exactly if their counts and first C parts are equal.
 use Prim.Native.Nat.{ℕ, suc, _+_, _<_, _≤_}
 use mathlib.Core.Path.{_≡_, refl, sym, ap, ap₂, _∙_}
 use mathlib.Core.Bool.{Bool, true, false, false≢true}

@@ -1,5 +1,5 @@
 -- Parts and boards. Rule book, "Parts of a board".
---     fieldsOf p      the fields that the table gives a part, in its order: a part's bytes and its comparison go by them
+--     fieldsOf p      the fields that the table gives a part, in its order: its bytes and its comparison go by them
 --     partsOf b       a board's first C parts: nothing here or above looks at the places past them
 --     mostParts       the most parts that a board can have
 --     blank           what fills the places past C of a board that was read

@@ -90,15 +90,24 @@ numbers-few (v ∷ vs) small =
 
 -- a part that fits takes a byte for its kind and one for each field
 module _ (c : Counts) (fit : InRange c) where
+  end : {n : ℕ} → n < c .terminals → n < 128
+  end below = omega (arith, below, fit)
+
+  relay : {n : ℕ} → n < c .relays → n < 128
+  relay below = omega (arith, below, fit)
+
+  button : {n : ℕ} → n < c .buttons → n < 128
+  button below = omega (arith, below, fit)
+
   fields-small : (k : Kind) (a b : ℕ) → a < c .terminals → b < c .terminals → Names c k
       → All (λ v. v < 128) (fields k a b)
-  fields-small Wire a b first second named = (omega (arith, fit), (omega (arith, fit), tt))
-  fields-small (Upper r) a b first second named = (omega (arith, fit), (omega (arith, fit), (omega (arith, fit), tt)))
-  fields-small (Lower r) a b first second named = (omega (arith, fit), (omega (arith, fit), (omega (arith, fit), tt)))
-  fields-small (Button n) a b first second named = (omega (arith, fit), (omega (arith, fit), (omega (arith, fit), tt)))
-  fields-small (Regular r) a b first second named = (omega (arith, fit), (omega (arith, fit), (omega (arith, fit), tt)))
-  fields-small (Drawing r) a b first second named = (omega (arith, fit), (omega (arith, fit), (omega (arith, fit), tt)))
-  fields-small (Dropping r) a b first second named = (omega (arith, fit), (omega (arith, fit), (omega (arith, fit), tt)))
+  fields-small Wire a b first second named = (end first, (end second, tt))
+  fields-small (Upper r) a b first second named = (end first, (end second, (relay named, tt)))
+  fields-small (Lower r) a b first second named = (end first, (end second, (relay named, tt)))
+  fields-small (Button n) a b first second named = (end first, (end second, (button named, tt)))
+  fields-small (Regular r) a b first second named = (end first, (end second, (relay named, tt)))
+  fields-small (Drawing r) a b first second named = (end first, (end second, (relay named, tt)))
+  fields-small (Dropping r) a b first second named = (end first, (end second, (relay named, tt)))
 
   part-bytes-few : (p : Part) → Fits c p → length (partBytes p) ≤ 1 + mostFields
   part-bytes-few p fits =

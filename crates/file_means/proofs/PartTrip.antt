@@ -38,7 +38,8 @@ unfoldable nameBytes : Kind → List ℕ
 nameBytes k = numbersBytes (namesOf k)
 
 part-bytes : (p : Part)
-    → partBytes p ≡ numberBytes (kindNumber (p .kind)) ++ (numberBytes (p .a) ++ (numberBytes (p .b) ++ nameBytes (p .kind)))
+    → partBytes p ≡ numberBytes (kindNumber (p .kind))
+    ++ (numberBytes (p .a) ++ (numberBytes (p .b) ++ nameBytes (p .kind)))
 unfolding partBytes nameBytes rowBytes
 part-bytes p =
     ap (λ (vs : List ℕ). numberBytes (kindNumber (p .kind)) ++ numbersBytes vs) (fields-are (p .kind) (p .a) (p .b))
@@ -153,10 +154,11 @@ part-read e known c w s at =
     gives-then (NameRead e c (k .value) s (b .next)) _ (nameAt e c (k .value) s (b .next)) _
     (name-read e c (k .value) s (b .next) most) (λ n name.
     gives-unless _ (windingFree w (kindOf (k .value) (n .value))) windingTaken (b .next) _ (λ free.
+    let part : Part = record { a = a .value; b = b .value; kind = kindOf (k .value) (n .value) } in
     record {
       fine = true-both (true-both (true-both (true-both a-below b-below) apart) (name .fine)) free;
       stands = λ written.
-          rw (part-bytes (record { a = a .value; b = b .value; kind = kindOf (k .value) (n .value) }), kind-number-of (k .value) (n .value) most)
+          rw (part-bytes part, kind-number-of (k .value) (n .value) most)
           (stands-append s at (k .next) (n .next) _ _ (written at k k-read)
           (stands-append s (k .next) (a .next) (n .next) _ _ (written (k .next) a a-read)
           (stands-append s (a .next) (b .next) (n .next) _ _ (written (a .next) b b-read)

@@ -97,8 +97,8 @@ pub data Reached (e : Edition) (s : List ℕ) : FileStage → ℕ → Type 0 whe
   button-fine : {c : Counts} {ps : List Part} {a b v p next : ℕ} → Reached e s (at-name c ps buttonKind a b) p
       → StandsAt e s p v next → v < c .buttons
       → Reached e s (at-part c (ps ++ (record { a = a; b = b; kind = Button v } ∷ []))) next
-  relay-fine : {c : Counts} {ps : List Part} {k a b v p next : ℕ} → Reached e s (at-name c ps k a b) p → ¬ (k ≡ wireKind)
-      → ¬ (k ≡ buttonKind) → StandsAt e s p v next → v < c .relays → ¬ Taken v ps k
+  relay-fine : {c : Counts} {ps : List Part} {k a b v p next : ℕ} → Reached e s (at-name c ps k a b) p
+      → ¬ (k ≡ wireKind) → ¬ (k ≡ buttonKind) → StandsAt e s p v next → v < c .relays → ¬ Taken v ps k
       → Reached e s (at-part c (ps ++ (record { a = a; b = b; kind = kindOf k v } ∷ []))) next
 
 abbrev pub NumberStands : Edition → List ℕ → FileStage → ℕ → ℕ → Type 0

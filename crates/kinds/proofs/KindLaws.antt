@@ -1,6 +1,6 @@
 -- Laws of a kind as its number and name: the two determine it, and each kind's number is 0 to 6. What the reader and
--- the writer of board files need of a part's kind. And of the fields that the table gives a part: how many they are, and
--- that with the kind's number they determine the part.
+-- the writer of board files need of a part's kind. And of the fields that the table gives a part: how many they are,
+-- what they are, and that with the kind's number they determine the part.
 use Prim.Native.Nat.{ℕ, zero, suc, _-_, _≤_}
 use native.Mathlib.Omega.{arith}
 use mathlib.Core.Path.{_≡_, refl, sym, ap, ap₂, _∙_}
@@ -102,7 +102,8 @@ pub fields-injective : (k l : Kind) (a b c d : ℕ) → kindNumber k ≡ kindNum
 fields-injective k l a b c d number same =
     let here = fields-begin k a b in
     let there = fields-begin l c d in
-    let field : (i : ℕ) → getD (fields k a b) i 0 ≡ getD (fields l c d) i 0 = λ i. ap (λ (vs : List ℕ). getD vs i 0) same in (
+    let field : (i : ℕ) → getD (fields k a b) i 0 ≡ getD (fields l c d) i 0 =
+    λ i. ap (λ (vs : List ℕ). getD vs i 0) same in (
       sym (kind-of-parts k) ∙ ap₂ kindOf number (sym (here .2) ∙ field 2 ∙ there .2) ∙ kind-of-parts l,
       sym (here .0) ∙ field 0 ∙ there .0,
       sym (here .1) ∙ field 1 ∙ there .1,

@@ -1,4 +1,5 @@
-// The rule book's table of kinds: what a kind of part is, its number, the relay or button that it carries, and its fields.
+// The rule book's table of kinds: what a kind of part is, its number, the relay or button that it carries, and its
+// fields.
 ghost use mathlib.Core.Path.{_≡_};
 ghost use mathlib.Core.List.{[], _∷_};
 ghost use Rattle.kinds.specs.Kinds.{inPlaces, KindOf, KindNumber, KindName, KindFields};

@@ -14,7 +14,8 @@ use Rattle.board.proofs.SameLaws.{taken-apart, same-walk-off, same-walk
 abbrev Inv-loop : tie.InvT-loop
 Inv-loop count left right i₀ i =
     (count ≤ mostFields) × (length left ≡ mostFields) × (length right ≡ mostFields) × (i ≤ count)
-    × (alike eqb (take count left) (take count right) ≡ alike eqb (drop i (take count left)) (drop i (take count right)))
+    × (alike eqb (take count left) (take count right)
+    ≡ alike eqb (drop i (take count left)) (drop i (take count right)))
 
 abbrev μ-loop : tie.MeasureT-loop
 μ-loop count left right i₀ i = count - i

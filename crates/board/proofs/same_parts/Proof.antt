@@ -21,7 +21,8 @@ abbrev μ-loop : tie.MeasureT-loop
 
 returns : tie.Need-returns Inv-loop μ-loop
 returns c =
-    same-walk-off samePart blank _ _ _ _ _ (omega arith) (omega arith) (c .before .before .before .before .before .loop .inv .4)
+    same-walk-off samePart blank _ _ _ _ _ (omega arith) (omega arith)
+    (c .before .before .before .before .before .loop .inv .4)
     (c .before .before .before .before .loop-test .taken)
     (sym (c .before .same-part .ensures) ∙ not-true _ (c .if1 .taken))
 
@@ -48,4 +49,5 @@ same-parts-spec =
     returns
     (λ c. omega arith) (λ c. omega arith)
     loop-again
-    (λ c. same-walk-end samePart blank _ _ _ _ _ (omega arith) (omega arith) (c .before .loop .inv .4) (c .loop-test .left)))
+    (λ c. same-walk-end samePart blank _ _ _ _ _ (omega arith) (omega arith) (c .before .loop .inv .4)
+    (c .loop-test .left)))

@@ -1,5 +1,5 @@
--- `board_reader::read` meets its contract: an input that is too long, counts that are refused and a part that is refused
--- leave at once, and 9 is asked after the last part.
+-- `board_reader::read` meets its contract: an input that is too long, counts that are refused and a part that is
+-- refused leave at once, and 9 is asked after the last part.
 use borrow.Author.Needs.{needs}
 use Rattle.board_reader.proofs.read.Statement.{statement}
 use Rattle.board_reader.proofs.read.Tie as tie

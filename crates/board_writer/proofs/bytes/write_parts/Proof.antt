@@ -25,7 +25,8 @@ write-part-requires : tie.Need-write-part-requires Inv-loop μ-loop
 write-part-requires c κs =
     let at-loop = c .before .before .before in
     let entry = at-loop .before .before in
-    row-room partBytes blank (entry .args .t1) (entry .args .count) (at-loop .loop .i) (omega arith) (at-loop .loop .inv .3)
+    row-room partBytes blank (entry .args .t1) (entry .args .count) (at-loop .loop .i) (omega arith)
+    (at-loop .loop .inv .3)
     (c .before .before .loop-test .taken)
 
 loop-again : tie.Need-loop-again Inv-loop μ-loop

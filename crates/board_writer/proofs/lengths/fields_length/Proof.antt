@@ -1,5 +1,5 @@
--- `board_writer::lengths::fields_length` meets its contract. The invariant: the total and the bytes of the fields from i
--- on are all the bytes, and the total is at most the longest form for each field passed.
+-- `board_writer::lengths::fields_length` meets its contract. The invariant: the total and the bytes of the fields from
+-- i on are all the bytes, and the total is at most the longest form for each field passed.
 use Rattle.board_writer.proofs.lengths.fields_length.Statement.{statement}
 use Rattle.board_writer.proofs.lengths.fields_length.Tie as tie
 use mathlib.Core.Path.{_≡_, sym, ap, _∙_}
