@@ -18,9 +18,9 @@ use Rattle.board.specs.Parts.{partsOf, mostParts}
 use Rattle.board.specs.Rules.{leastTerminals, mostTerminals, mostRelays, mostButtons, inRange, countsFine}
 use Rattle.board.specs.Rules.{nameFine, partFits, boardFine}
 use Rattle.board.specs.Sorts.{isRegular, isSteel}
-use Rattle.board.specs.BreaksNoRule.{InRange, Names, Fits, BreaksNoRule, FifteenExactly, EveryRelaySort}
+use Rattle.board.specs.BreaksNoRule.{InRange, Names, Fits, BoardFits, BreaksNoRule, FifteenExactly, EveryRelaySort}
 use Rattle.bits.proofs.BoolLaws.{both-true, true-both}
-use Rattle.board.proofs.FineLaws.{fine-range, fine-parts-fit, fine-relays-wound}
+use Rattle.board.proofs.FineLaws.{splits-fine, fine-range, fine-parts-fit, fine-relays-wound}
 use Rattle.board.proofs.WindingLaws.{partsFit, wound-fine}
 
 -- ---- 3: the counts
@@ -94,19 +94,23 @@ module _ (c : Counts) where
 
 -- ---- the theorems
 
+pub fine-fits : (b : Board) → boardFine b ≡ true → BoardFits b
+fine-fits b fine =
+    record {
+      counts = fine-range b fine;
+      parts = parts-fit (b .counts) (partsOf b) (fine-parts-fit b fine);
+    }
+
 fine-breaks-none : (b : Board) → boardFine b ≡ true → BreaksNoRule b
-fine-breaks-none b fine = record {
-  counts = fine-range b fine;
-  parts = parts-fit (b .counts) (partsOf b) (fine-parts-fit b fine);
-  relays = fine-relays-wound b fine;
-}
+fine-breaks-none b fine = record { fits = fine-fits b fine; relays = fine-relays-wound b fine }
 
 breaks-none-fine : (b : Board) → BreaksNoRule b → boardFine b ≡ true
-unfolding boardFine
 breaks-none-fine b none =
-    true-both (range-counts (b .counts) (none .counts))
-    (wound-fine (b .counts) (partsOf b) (none .counts .most-relays) (none .relays)
-    (parts-test (b .counts) (partsOf b) (none .parts)))
+    let row =
+    wound-fine (b .counts) (partsOf b) (none .fits .counts .most-relays) (none .relays)
+    (parts-test (b .counts) (partsOf b) (none .fits .parts)) in
+    splits-fine b
+    (record { counts = range-counts (b .counts) (none .fits .counts); parts = row .0; whole = row .1 })
 
 pub fifteen-exactly : FifteenExactly
 fifteen-exactly b fine is = (λ on. fine-breaks-none b (sym is ∙ on), λ none. is ∙ breaks-none-fine b none)

@@ -1,58 +1,96 @@
--- Laws of the comparison of boards: a walk along their parts, and that boards compare as the same exactly if their
--- counts and first C parts are equal.
-use Prim.Native.Nat.{ℕ, _+_, _<_, _≤_}
+-- Laws of the comparison of boards: a walk along their parts, and along the fields of two parts, and that boards compare
+-- as the same exactly if their counts and first C parts are equal.
+use Prim.Native.Nat.{ℕ, suc, _+_, _<_, _≤_}
 use mathlib.Core.Path.{_≡_, refl, sym, ap, ap₂, _∙_}
 use mathlib.Core.Bool.{Bool, true, false, false≢true}
 use mathlib.Core.List.{List, [], _∷_}
 use lib.Dec.{eqb}
 use lib.ListN.{length, getD, take, drop}
-use lib.Seq.{take-all}
+use lib.Seq.{take-all, length-take-le}
 use native.Mathlib.Omega.{arith}
-use borrow.Author.Tests.{eq-eqb, eqb-true}
-use Rattle.kinds.specs.declared.Kind.{Kind}
-use Rattle.kinds.specs.Kinds.{kindNumber, nameOf, kindOf}
+use borrow.Author.Tests.{eq-eqb, ne-eqb, eqb-true}
+use Rattle.kinds.specs.Kinds.{kindNumber, mostFields, inPlaces}
+use Rattle.kinds.specs.declared.Fields.{Fields}
 use Rattle.board.specs.declared.Counts.{Counts}
 use Rattle.board.specs.declared.Part.{Part}
 use Rattle.board.specs.declared.Board.{Board}
-use Rattle.board.specs.Parts.{partsOf, mostParts, blank}
-use Rattle.board.specs.Same.{sameCounts, sameKind, samePart, sameParts, sameBoard}
+use Rattle.board.specs.Parts.{fieldsOf, partsOf, mostParts}
+use Rattle.board.specs.Same.{sameCounts, alike, samePart, sameParts, sameBoard}
 use Rattle.lists.proofs.FirstLaws.{first-from, first-past}
-use Rattle.bits.proofs.BoolLaws.{both-true, true-both}
-use Rattle.kinds.proofs.KindLaws.{kind-of-parts}
+use Rattle.bits.proofs.BoolLaws.{both-true, true-both, by-test}
+use Rattle.kinds.proofs.KindLaws.{fields-few, in-places-first, fields-injective}
 
-parts-apart : (p q : Part) (ps qs : List Part) → samePart p q ≡ false → sameParts (p ∷ ps) (q ∷ qs) ≡ false
-unfolding sameParts
-parts-apart p q ps qs off = simp off
+-- ---- members compared one by one
 
-parts-alike : (p q : Part) (ps qs : List Part) → samePart p q ≡ true → sameParts (p ∷ ps) (q ∷ qs) ≡ sameParts ps qs
-unfolding sameParts
-parts-alike p q ps qs same = simp same
+module _ {A : Type 0} (same : A → A → Bool) where
+  rest-apart : (x y : A) (xs ys : List A) → same x y ≡ false → alike same (x ∷ xs) (y ∷ ys) ≡ false
+  unfolding alike
+  rest-apart x y xs ys off = simp off
 
-none-alike : sameParts [] [] ≡ true
-unfolding sameParts
-none-alike = refl
+  rest-alike : (x y : A) (xs ys : List A) → same x y ≡ true → alike same (x ∷ xs) (y ∷ ys) ≡ alike same xs ys
+  unfolding alike
+  rest-alike x y xs ys on = simp on
 
--- a walk along the first n parts of l and m: at place i, `all` is what those from there on come to
-module _ (l m : List Part) (n i : ℕ) (all : Bool) (long : n ≤ length l) (longer : n ≤ length m)
-    (here : all ≡ sameParts (drop i (take n l)) (drop i (take n m))) where
-  step : i < n → all ≡ sameParts (getD l i blank ∷ drop (i + 1) (take n l)) (getD m i blank ∷ drop (i + 1) (take n m))
-  step below = here ∙ ap₂ sameParts (first-from blank l n long i below) (first-from blank m n longer i below)
+  none-alike : alike same [] [] ≡ true
+  unfolding alike
+  none-alike = refl
 
-  pub same-walk-off : i < n → samePart (getD l i blank) (getD m i blank) ≡ false → false ≡ all
-  same-walk-off below off =
-      sym (step below ∙ parts-apart (getD l i blank) (getD m i blank) (drop (i + 1) (take n l))
-      (drop (i + 1) (take n m)) off)
+  -- what compares as the same is as long
+  alike-long : (xs ys : List A) → alike same xs ys ≡ true → length xs ≡ length ys
+  unfolding alike
+  alike-long [] [] on = refl
+  alike-long [] (y ∷ ys) on = absurd (false≢true on)
+  alike-long (x ∷ xs) [] on = absurd (false≢true on)
+  alike-long (x ∷ xs) (y ∷ ys) on = ap suc (alike-long xs ys (both-true (same x y) (alike same xs ys) on .1))
 
-  pub same-walk-on : i < n → samePart (getD l i blank) (getD m i blank) ≡ true
-      → all ≡ sameParts (drop (i + 1) (take n l)) (drop (i + 1) (take n m))
-  same-walk-on below same =
-      step below ∙ parts-alike (getD l i blank) (getD m i blank) (drop (i + 1) (take n l)) (drop (i + 1) (take n m))
-      same
+  -- where the test says that two members are equal, so are all; and where it holds of any member and itself
+  alike-equal : ((x y : A) → same x y ≡ true → x ≡ y) → (xs ys : List A) → alike same xs ys ≡ true → xs ≡ ys
+  unfolding alike
+  alike-equal equal [] [] on = refl
+  alike-equal equal [] (y ∷ ys) on = absurd (false≢true on)
+  alike-equal equal (x ∷ xs) [] on = absurd (false≢true on)
+  alike-equal equal (x ∷ xs) (y ∷ ys) on =
+      let both = both-true (same x y) (alike same xs ys) on in
+      ap₂ _∷_ (equal x y (both .0)) (alike-equal equal xs ys (both .1))
 
-  pub same-walk-end : n ≤ i → true ≡ all
-  same-walk-end past =
-      sym (here ∙ ap₂ sameParts (first-past blank l n long i past) (first-past blank m n longer i past)
-      ∙ none-alike)
+  alike-self : ((x : A) → same x x ≡ true) → (xs : List A) → alike same xs xs ≡ true
+  unfolding alike
+  alike-self self [] = refl
+  alike-self self (x ∷ xs) = true-both (self x) (alike-self self xs)
+
+  -- a walk along the first n members of l and m: at place i, `all` is what those from there on come to
+  module _ (d : A) (l m : List A) (n i : ℕ) (all : Bool) (long : n ≤ length l) (longer : n ≤ length m)
+      (here : all ≡ alike same (drop i (take n l)) (drop i (take n m))) where
+    step : i < n
+        → all ≡ alike same (getD l i d ∷ drop (i + 1) (take n l)) (getD m i d ∷ drop (i + 1) (take n m))
+    step below = here ∙ ap₂ (alike same) (first-from d l n long i below) (first-from d m n longer i below)
+
+    pub same-walk-off : i < n → same (getD l i d) (getD m i d) ≡ false → false ≡ all
+    same-walk-off below off =
+        sym (step below ∙ rest-apart (getD l i d) (getD m i d) (drop (i + 1) (take n l)) (drop (i + 1) (take n m)) off)
+
+    pub same-walk-on : i < n → same (getD l i d) (getD m i d) ≡ true
+        → all ≡ alike same (drop (i + 1) (take n l)) (drop (i + 1) (take n m))
+    same-walk-on below on =
+        step below ∙ rest-alike (getD l i d) (getD m i d) (drop (i + 1) (take n l)) (drop (i + 1) (take n m)) on
+
+    pub same-walk-end : n ≤ i → true ≡ all
+    same-walk-end past =
+        sym (here ∙ ap₂ (alike same) (first-past d l n long i past) (first-past d m n longer i past) ∙ none-alike)
+
+-- lists of different lengths compare as different
+lengths-apart : {A : Type 0} (same : A → A → Bool) (xs ys : List A) → ¬ (length xs ≡ length ys)
+    → alike same xs ys ≡ false
+lengths-apart same xs ys differ =
+    by-test (alike same xs ys) (λ on. absurd (differ (alike-long same xs ys on))) (λ off. off)
+
+pub taken-apart : {A : Type 0} (same : A → A → Bool) (l m : List A) (n k : ℕ) → n ≤ length l → k ≤ length m → ¬ (n ≡ k)
+    → false ≡ alike same (take n l) (take k m)
+taken-apart same l m n k long longer differ =
+    sym (lengths-apart same (take n l) (take k m)
+    (λ e. differ (sym (length-take-le n l long) ∙ e ∙ length-take-le k m longer)))
+
+-- ---- counts, parts and boards
 
 counts-equal : (x y : Counts) → sameCounts x y ≡ true → x ≡ y
 unfolding sameCounts
@@ -90,32 +128,38 @@ module _ (x y : Board) where
       (take-all mostParts (y .parts) (omega arith) ∙ sym (take-all (x .counts .parts) (y .parts) (omega arith)))
       ∙ board-same-last same
 
--- what compares as the same is equal, and a thing compares as the same as itself
-kinds-equal : (k l : Kind) → sameKind k l ≡ true → k ≡ l
-unfolding sameKind
-kinds-equal k l same =
-    let both = both-true _ _ same in
-    sym (kind-of-parts k) ∙ ap₂ kindOf (eqb-true (kindNumber k) (kindNumber l) (both .0))
-    (eqb-true (nameOf k) (nameOf l) (both .1)) ∙ kind-of-parts l
+-- parts of one kind are the same if their fields are, of which x and y are copies
+module _ (p q : Part) where
+  pub kinds-differ : ¬ (kindNumber (p .kind) ≡ kindNumber (q .kind)) → false ≡ samePart p q
+  unfolding samePart
+  kinds-differ differ = simp (ne-eqb (kindNumber (p .kind)) (kindNumber (q .kind)) differ)
 
+  pub fields-decide : {x y : Fields} → kindNumber (p .kind) ≡ kindNumber (q .kind) → x ≡ inPlaces (fieldsOf p)
+      → y ≡ inPlaces (fieldsOf q)
+      → alike eqb (take (x .count) (x .numbers)) (take (y .count) (y .numbers)) ≡ samePart p q
+  unfolding samePart
+  fields-decide same left right =
+      rw (
+        left,
+        right,
+        in-places-first (fieldsOf p),
+        in-places-first (fieldsOf q),
+        eq-eqb (kindNumber (p .kind)) (kindNumber (q .kind)) same,
+      )
+
+pub fields-room : (p : Part) {x : Fields} → x ≡ inPlaces (fieldsOf p) → x .count ≤ mostFields
+fields-room p is = rw is (fields-few (p .kind) (p .a) (p .b))
+
+-- what compares as the same is equal, and a thing compares as the same as itself
 parts-equal : (p q : Part) → samePart p q ≡ true → p ≡ q
 unfolding samePart
 parts-equal p q same =
-    let kinds = both-true _ _ same in
-    let ends = both-true _ _ (kinds .0) in
-    let a : p .a ≡ q .a = eqb-true _ _ (ends .0) in
-    let b : p .b ≡ q .b = eqb-true _ _ (ends .1) in
-    let k : p .kind ≡ q .kind = kinds-equal (p .kind) (q .kind) (kinds .1) in
-    λ i. record { a = a i; b = b i; kind = k i }
-
-lists-equal : (ps qs : List Part) → sameParts ps qs ≡ true → ps ≡ qs
-unfolding sameParts
-lists-equal [] [] same = refl
-lists-equal [] (q ∷ qs) same = absurd (false≢true same)
-lists-equal (p ∷ ps) [] same = absurd (false≢true same)
-lists-equal (p ∷ ps) (q ∷ qs) same =
-    let both = both-true (samePart p q) (sameParts ps qs) same in
-    ap₂ _∷_ (parts-equal p q (both .0)) (lists-equal ps qs (both .1))
+    let both = both-true _ _ same in
+    let is =
+    fields-injective (p .kind) (q .kind) (p .a) (p .b) (q .a) (q .b)
+    (eqb-true (kindNumber (p .kind)) (kindNumber (q .kind)) (both .0))
+    (alike-equal eqb eqb-true (fieldsOf p) (fieldsOf q) (both .1)) in
+    λ i. record { a = is .1 i; b = is .2 i; kind = is .0 i }
 
 eqb-self : (n : ℕ) → eqb n n ≡ true
 eqb-self n = eq-eqb n n refl
@@ -125,23 +169,18 @@ unfolding sameCounts
 counts-self c = simp eqb-self
 
 part-self : (p : Part) → samePart p p ≡ true
-unfolding samePart sameKind
-part-self p = simp eqb-self
-
-list-self : (ps : List Part) → sameParts ps ps ≡ true
-unfolding sameParts
-list-self [] = refl
-list-self (p ∷ ps) = true-both (part-self p) (list-self ps)
+unfolding samePart
+part-self p = true-both (eqb-self (kindNumber (p .kind))) (alike-self eqb eqb-self (fieldsOf p))
 
 pub same-board-equal : (x y : Board) → sameBoard x y ≡ true → (x .counts ≡ y .counts) × (partsOf x ≡ partsOf y)
 unfolding sameBoard
 same-board-equal x y same =
     let both = both-true _ _ same in
-    (counts-equal (x .counts) (y .counts) (both .0), lists-equal (partsOf x) (partsOf y) (both .1))
+    (counts-equal (x .counts) (y .counts) (both .0), alike-equal samePart parts-equal (partsOf x) (partsOf y) (both .1))
 
 pub equal-same-board : (x y : Board) → x .counts ≡ y .counts → partsOf x ≡ partsOf y → sameBoard x y ≡ true
 unfolding sameBoard
 equal-same-board x y counts parts =
     true-both
     (ap (sameCounts (x .counts)) (sym counts) ∙ counts-self (x .counts))
-    (ap (sameParts (partsOf x)) (sym parts) ∙ list-self (partsOf x))
+    (ap (sameParts (partsOf x)) (sym parts) ∙ alike-self samePart part-self (partsOf x))

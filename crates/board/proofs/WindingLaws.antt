@@ -21,7 +21,8 @@ use Rattle.windings.specs.declared.WoundSoFar.{WoundSoFar}
 use Rattle.windings.specs.Windings.{noneWound, windingFree, gained, wound, complete}
 use Rattle.board.specs.declared.Part.{Part}
 use Rattle.board.specs.declared.Counts.{Counts}
-use Rattle.board.specs.Rules.{mostRelays, terminalFine, endsFine, nameFine, partFits, partFine, partsFine}
+use Rattle.board.specs.Rules.{mostRelays, terminalFine, endsFine, nameFine, partFits, partFine, gainedAll}
+use Rattle.board.specs.Rules.{partsFine}
 use Rattle.board.specs.Sorts.{carries, windingsOf, Wound}
 use Rattle.bits.proofs.BoolLaws.{both-true, true-both, by-test}
 use Rattle.windings.proofs.EveryLaws.{every-below, below-every}
@@ -243,31 +244,35 @@ part-named c p fits =
     fits .1
 
 fine-sort : (c : Counts) → c .relays ≤ mostRelays → (r : ℕ) → r < c .relays → (w : WoundSoFar) (ps : List Part)
-    → MostOneSort w r → partsFine c w ps ≡ true → OneSort w r ps
-unfolding partsFine complete windingsOf
-fine-sort c few r below w [] apart fine =
+    → MostOneSort w r → partsFine c w ps ≡ true → complete (c .relays) (gainedAll w ps) ≡ true → OneSort w r ps
+unfolding partsFine gainedAll complete windingsOf
+fine-sort c few r below w [] apart fine whole =
     end-sums (member (w .regular) r) (member (w .drawing) r) (member (w .dropping) r)
-    (every-below (wound w) (c .relays) r fine below) (apart .drawing) (apart .dropping)
-fine-sort c few r below w (p ∷ ps) apart fine =
+    (every-below (wound w) (c .relays) r whole below) (apart .drawing) (apart .dropping)
+fine-sort c few r below w (p ∷ ps) apart fine whole =
     let both = both-true (partFine c w p) (partsFine c (gained w (p .kind)) ps) fine in
     let part = part-splits c w p (both .0) in
     let more = gain c few w r (p .kind) (part-named c p (part .0)) (part .1) in
     sort-before w r p ps more (fine-sort c few r below (gained w (p .kind)) ps
-    (apart-gained w r (p .kind) (part .1) more apart) (both .1))
+    (apart-gained w r (p .kind) (part .1) more apart) (both .1) whole)
 
 sort-fine : (c : Counts) → c .relays ≤ mostRelays → (w : WoundSoFar) (ps : List Part) → partsFit c ps ≡ true
-    → ((r : ℕ) → r < c .relays → OneSort w r ps) → partsFine c w ps ≡ true
-unfolding partsFine partsFit complete windingsOf
-sort-fine c few w [] fit sorts =
-    below-every (wound w) (c .relays) (λ r below. sums-end (member (w .regular) r) (member (w .drawing) r)
-    (member (w .dropping) r) (sorts r below))
+    → ((r : ℕ) → r < c .relays → OneSort w r ps)
+    → (partsFine c w ps ≡ true) × (complete (c .relays) (gainedAll w ps) ≡ true)
+unfolding partsFine gainedAll partsFit complete windingsOf
+sort-fine c few w [] fit sorts = (
+  refl,
+  below-every (wound w) (c .relays) (λ r below. sums-end (member (w .regular) r) (member (w .drawing) r)
+      (member (w .dropping) r) (sorts r below)),
+)
 sort-fine c few w (p ∷ ps) fit sorts =
     let both = both-true (partFits c p) (partsFit c ps) fit in
     let named = part-named c p (both .0) in
     let free = sorted-free c w ps (p .a) (p .b) (p .kind) named sorts in
-    true-both (splits-part c w p (both .0) free)
-    (sort-fine c few (gained w (p .kind)) ps (both .1)
-    (λ r below. sort-after w r p ps (gain c few w r (p .kind) named free) (sorts r below)))
+    let rest =
+    sort-fine c few (gained w (p .kind)) ps (both .1)
+    (λ r below. sort-after w r p ps (gain c few w r (p .kind) named free) (sorts r below)) in
+    (true-both (splits-part c w p (both .0) free) (rest .0), rest .1)
 
 -- ---- the rule book's sentence
 
@@ -283,14 +288,14 @@ fine-fit c w (p ∷ ps) fine =
     true-both (part-splits c w p (both .0) .0) (fine-fit c (gained w (p .kind)) ps (both .1))
 
 pub fine-wound : (c : Counts) (ps : List Part) → c .relays ≤ mostRelays → partsFine c noneWound ps ≡ true
-    → Wound (c .relays) ps
-fine-wound c ps few fine r below =
+    → complete (c .relays) (gainedAll noneWound ps) ≡ true → Wound (c .relays) ps
+fine-wound c ps few fine whole r below =
     sums-same (none-sum r _) (none-sum r _) (none-sum r _)
     (fine-sort c few r below noneWound ps
-    (record { drawing = rw (member-none r) (omega arith); dropping = rw (member-none r) (omega arith) }) fine)
+    (record { drawing = rw (member-none r) (omega arith); dropping = rw (member-none r) (omega arith) }) fine whole)
 
 pub wound-fine : (c : Counts) (ps : List Part) → c .relays ≤ mostRelays → Wound (c .relays) ps → partsFit c ps ≡ true
-    → partsFine c noneWound ps ≡ true
+    → (partsFine c noneWound ps ≡ true) × (complete (c .relays) (gainedAll noneWound ps) ≡ true)
 wound-fine c ps few wound fit =
     sort-fine c few noneWound ps fit
     (λ r below. sums-same (sym (none-sum r _)) (sym (none-sum r _)) (sym (none-sum r _)) (wound r below))

@@ -4,8 +4,9 @@
 --     InRange c         3: "T terminals (2 to 64), R relays (0 to 32), B buttons (0 to 32), C parts (0 to 256)"
 --     Names c k         7: the relay that kind k carries is below R, or its button below B; a wire carries none
 --     Fits c p          5 to 7 of the part p: both ends are below T, they differ, and its relay or button is there
---     BreaksNoRule b    the counts are in range, each of the first C parts fits, and "Every relay is regular, with
---                       exactly one part of kind 4, or steel-core, with exactly one of kind 5 and one of kind 6" (8, 9)
+--     BoardFits b       3 to 7: the counts are in range, and each of the first C parts fits
+--     BreaksNoRule b    the board fits, and "Every relay is regular, with exactly one part of kind 4, or steel-core,
+--                       with exactly one of kind 5 and one of kind 6" (8, 9)
 --     FifteenExactly    what `board::check` answers for a board is true exactly if the board breaks no rule
 --     EveryRelaySort    each relay of a board that breaks no rule is regular or steel-core, and not both
 use Prim.Native.Nat.{ℕ, _≤_, _<_}
@@ -44,9 +45,12 @@ pub record Fits (c : Counts) (p : Part) : Type 0 where
   pub ends-differ : ¬ (p .a ≡ p .b)
   pub named : Names c (p .kind)
 
-pub record BreaksNoRule (b : Board) : Type 0 where
+pub record BoardFits (b : Board) : Type 0 where
   pub counts : InRange (b .counts)
   pub parts : All (Fits (b .counts)) (partsOf b)
+
+pub record BreaksNoRule (b : Board) : Type 0 where
+  pub fits : BoardFits b
   pub relays : Wound (b .counts .relays) (partsOf b)
 
 abbrev pub FifteenExactly : Type 0

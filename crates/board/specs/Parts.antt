@@ -1,4 +1,5 @@
 -- Parts and boards. Rule book, "Parts of a board".
+--     fieldsOf p      the fields that the table gives a part, in its order: a part's bytes and its comparison go by them
 --     partsOf b       a board's first C parts: nothing here or above looks at the places past them
 --     mostParts       the most parts that a board can have
 --     blank           what fills the places past C of a board that was read
@@ -11,8 +12,12 @@ use mathlib.Core.Path.{_≡_}
 use mathlib.Core.List.{List, [], _++_}
 use lib.ListN.{length, take, replicate}
 use Rattle.kinds.specs.declared.Kind.the-variants.{Wire}
+use Rattle.kinds.specs.Kinds.{fields}
 use Rattle.board.specs.declared.Part.{Part}
 use Rattle.board.specs.declared.Board.{Board}
+
+abbrev pub fieldsOf : Part → List ℕ
+fieldsOf p = fields (p .kind) (p .a) (p .b)
 
 abbrev pub partsOf : Board → List Part
 partsOf b = take (b .counts .parts) (b .parts)

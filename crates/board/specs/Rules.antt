@@ -10,22 +10,29 @@
 --     nameFine c k                     7: the relay or button that kind k carries is below R or B
 --     partFits c p                     5 to 7 of the part p, on which no other part bears
 --     partFine c w p                   5 to 8 of the part p after parts that gave the windings w
---     partsFine c w ps                 5 to 9: the rest of the parts is fine after these windings
---     boardFine b                      a board breaks no rule of refusals 3 to 9: 15 does not hold
+--     gainedAll w ps                   the windings once the parts ps have come too
+--     partsFine c w ps                 5 to 8 of each of the parts ps after parts that gave the windings w
+--     rowAfter c w ps                  the windings after the parts ps, if 5 to 8 hold of none of them
+--     boardFine b                      a board breaks no rule of refusals 3 to 9: 15 does not hold. 9 is asked once,
+--                                      after the last part
+--     toldRow                          the cases of a row that was checked, as `rowAfter` has them
 --     NameLimit c k r                  promise: `limit` of a kind of number k answers r
 --     Checks b r                       promise: `check` of board b answers r
 use Prim.Native.Nat.{ℕ}
 use mathlib.Core.Path.{_≡_}
-use mathlib.Core.Bool.{Bool, cond, not, _&&_, _||_}
+use mathlib.Core.Bool.{Bool, true, cond, not, _&&_, _||_}
 use mathlib.Core.List.{List, [], _∷_}
+use mathlib.Core.Option.{Option, none, some}
 use lib.Dec.{ltb, leb, eqb}
 use Rattle.kinds.specs.declared.Kind.{Kind}
 use Rattle.windings.specs.declared.WoundSoFar.{WoundSoFar}
-use Rattle.kinds.specs.Kinds.{kindNumber, nameOf, buttonKind}
+use Rattle.kinds.specs.Kinds.{kindNumber, nameOf, wireKind, buttonKind}
 use Rattle.windings.specs.Windings.{noneWound, windingFree, gained, complete}
 use Rattle.board.specs.declared.Part.{Part}
 use Rattle.board.specs.declared.Counts.{Counts}
 use Rattle.board.specs.declared.Board.{Board}
+use Rattle.board.specs.declared.RowChecked.{RowChecked}
+use Rattle.board.specs.declared.RowChecked.the-variants.{Fine, Broken}
 use Rattle.board.specs.Parts.{partsOf, mostParts}
 
 abbrev pub leastTerminals : ℕ
@@ -60,7 +67,7 @@ abbrev pub limitOf : Counts → ℕ → ℕ
 limitOf c k = cond (eqb k buttonKind) (c .buttons) (c .relays)
 
 unfoldable pub nameFine : Counts → Kind → Bool
-nameFine c k = eqb (kindNumber k) 0 || ltb (nameOf k) (limitOf c (kindNumber k))
+nameFine c k = eqb (kindNumber k) wireKind || ltb (nameOf k) (limitOf c (kindNumber k))
 
 unfoldable pub partFits : Counts → Part → Bool
 partFits c p = terminalFine c (p .a) && terminalFine c (p .b) && endsFine (p .a) (p .b) && nameFine c (p .kind)
@@ -68,12 +75,25 @@ partFits c p = terminalFine c (p .a) && terminalFine c (p .b) && endsFine (p .a)
 unfoldable pub partFine : Counts → WoundSoFar → Part → Bool
 partFine c w p = partFits c p && windingFree w (p .kind)
 
+unfoldable pub gainedAll : WoundSoFar → List Part → WoundSoFar
+gainedAll w [] = w
+gainedAll w (p ∷ ps) = gainedAll (gained w (p .kind)) ps
+
 unfoldable pub partsFine : Counts → WoundSoFar → List Part → Bool
-partsFine c w [] = complete (c .relays) w
+partsFine c w [] = true
 partsFine c w (p ∷ ps) = partFine c w p && partsFine c (gained w (p .kind)) ps
 
+unfoldable pub rowAfter : Counts → WoundSoFar → List Part → Option WoundSoFar
+rowAfter c w ps = cond (partsFine c w ps) (some (gainedAll w ps)) none
+
 unfoldable pub boardFine : Board → Bool
-boardFine b = countsFine (b .counts) && partsFine (b .counts) noneWound (partsOf b)
+boardFine b =
+    countsFine (b .counts) && partsFine (b .counts) noneWound (partsOf b)
+    && complete (b .counts .relays) (gainedAll noneWound (partsOf b))
+
+abbrev pub toldRow : RowChecked → Option WoundSoFar
+toldRow (Fine w) = some w
+toldRow Broken = none
 
 abbrev pub NameLimit : Counts → ℕ → ℕ → Type 0
 NameLimit c k r = r ≡ limitOf c k

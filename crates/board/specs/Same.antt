@@ -1,36 +1,37 @@
 -- When two boards are the same. Rule book: "Boards are compared by their counts and first C parts, each part by its
 -- kind and the fields the table gives it."
---     sameCounts, sameKind    the same counts, the same kind, field by field
---     samePart, sameParts     the same part, the same parts one by one
---     sameBoard x y           boards x and y are the same
---     SameBoards x y r        promise: `same` of boards x and y answers r
+--     sameCounts           the same counts, field by field
+--     alike same xs ys     the members of xs and ys are the same one by one, by the test `same`
+--     samePart             the same part, by its kind and its fields
+--     sameParts            the same parts one by one
+--     sameBoard x y        boards x and y are the same
+--     SameBoards x y r     promise: `same` of boards x and y answers r
 use mathlib.Core.Path.{_≡_}
 use mathlib.Core.Bool.{Bool, true, false, _&&_}
 use mathlib.Core.List.{List, [], _∷_}
 use lib.Dec.{eqb}
-use Rattle.kinds.specs.declared.Kind.{Kind}
-use Rattle.kinds.specs.Kinds.{kindNumber, nameOf}
+use Rattle.kinds.specs.Kinds.{kindNumber}
 use Rattle.board.specs.declared.Part.{Part}
 use Rattle.board.specs.declared.Counts.{Counts}
 use Rattle.board.specs.declared.Board.{Board}
-use Rattle.board.specs.Parts.{partsOf}
+use Rattle.board.specs.Parts.{fieldsOf, partsOf}
 
 unfoldable pub sameCounts : Counts → Counts → Bool
 sameCounts c d =
     eqb (c .terminals) (d .terminals) && eqb (c .relays) (d .relays) && eqb (c .buttons) (d .buttons)
     && eqb (c .parts) (d .parts)
 
-unfoldable pub sameKind : Kind → Kind → Bool
-sameKind k l = eqb (kindNumber k) (kindNumber l) && eqb (nameOf k) (nameOf l)
+unfoldable pub alike : {A : Type 0} → (A → A → Bool) → List A → List A → Bool
+alike same [] [] = true
+alike same [] (y ∷ ys) = false
+alike same (x ∷ xs) [] = false
+alike same (x ∷ xs) (y ∷ ys) = same x y && alike same xs ys
 
 unfoldable pub samePart : Part → Part → Bool
-samePart p q = eqb (p .a) (q .a) && eqb (p .b) (q .b) && sameKind (p .kind) (q .kind)
+samePart p q = eqb (kindNumber (p .kind)) (kindNumber (q .kind)) && alike eqb (fieldsOf p) (fieldsOf q)
 
-unfoldable pub sameParts : List Part → List Part → Bool
-sameParts [] [] = true
-sameParts [] (q ∷ qs) = false
-sameParts (p ∷ ps) [] = false
-sameParts (p ∷ ps) (q ∷ qs) = samePart p q && sameParts ps qs
+abbrev pub sameParts : List Part → List Part → Bool
+sameParts = alike samePart
 
 unfoldable pub sameBoard : Board → Board → Bool
 sameBoard x y = sameCounts (x .counts) (y .counts) && sameParts (partsOf x) (partsOf y)

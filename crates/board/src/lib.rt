@@ -3,10 +3,12 @@
 ghost use mathlib.Core.Path.{_≡_};
 ghost use Prim.Native.Nat.{_≤_};
 ghost use lib.ListN.{take};
-ghost use Rattle.windings.specs.Windings.{noneWound};
+ghost use lib.Dec.{eqb};
+ghost use Rattle.kinds.specs.Kinds.{mostFields};
 ghost use Rattle.board.specs.Parts.{mostParts, BlankPart, EmptyBoard};
-ghost use Rattle.board.specs.Rules.{nameFine, countsFine, partFine, partsFine, NameLimit, Checks};
-ghost use Rattle.board.specs.Same.{sameCounts, samePart, sameParts, SameBoards};
+ghost use Rattle.board.specs.Rules.{nameFine, countsFine, partFine, rowAfter, toldRow, NameLimit, Checks};
+ghost use Rattle.board.specs.Same.{sameCounts, alike, samePart, sameParts, SameBoards};
+use kinds::Fields;
 use kinds::Kind;
 use windings::WoundSoFar;
 
@@ -40,6 +42,12 @@ pub struct Counts {
 pub struct Board {
     pub counts: Counts,
     pub parts: [Part; 256],
+}
+
+// What checking a row of parts came to: the windings after it, or that one of its parts breaks a rule.
+enum RowChecked {
+    Fine(WoundSoFar),
+    Broken,
 }
 
 // What a name carried by a kind of this number must be below: B for a button, R for a relay.
@@ -84,7 +92,7 @@ fn names_one(counts: Counts, kind: Kind) -> bool
     ensures { λ r. ⌜ r ≡ nameFine counts kind ⌝ }
 {
     let number = kind.number();
-    if number == 0 {
+    if number == kinds::WIRE_KIND {
         return true;
     }
     kind.name() < limit(counts, number)
@@ -130,24 +138,24 @@ fn part_fine(counts: Counts, windings: WoundSoFar, part: Part) -> bool
     }
 }
 
-// Whether the first C parts break none of 5 to 9.
-fn parts_fine(parts: [Part; 256], counts: Counts) -> bool
+// The windings after the first C parts, which come after parts that gave these windings, if each breaks none of 5 to 8.
+fn parts_fine(parts: [Part; 256], counts: Counts, windings: WoundSoFar) -> RowChecked
     requires { ⌜ counts .parts ≤ mostParts ⌝ }
-    ensures { λ r. ⌜ r ≡ partsFine counts noneWound (take (counts .parts) parts) ⌝ }
+    ensures { λ r. ⌜ toldRow r ≡ rowAfter counts windings (take (counts .parts) parts) ⌝ }
 {
     let count = counts.parts;
-    let mut windings = WoundSoFar::none();
+    let mut after = windings;
     let mut i = 0;
     while i < count {
         let part = parts[i];
-        if !part_fine(counts, windings, part) {
-            return false;
+        if !part_fine(counts, after, part) {
+            return RowChecked::Broken;
         }
         let kind = part.kind;
-        windings = windings.with(kind);
+        after = after.with(kind);
         i += 1;
     }
-    windings.complete(counts.relays)
+    RowChecked::Fine(after)
 }
 
 // Whether a board breaks none of the rules behind refusals 3 to 9; one that does is refused by 15.
@@ -159,7 +167,11 @@ pub fn check(board: Board) -> bool
         return false;
     }
     let parts = board.parts;
-    parts_fine(parts, counts)
+    let row = parts_fine(parts, counts, WoundSoFar::none());
+    let RowChecked::Fine(windings) = row else {
+        return false;
+    };
+    windings.complete(counts.relays)
 }
 
 // Whether two boards' counts are the same.
@@ -178,22 +190,37 @@ fn same_counts(x: Counts, y: Counts) -> bool
     x.parts == y.parts
 }
 
-// Whether two parts are the same: both ends, the kind, and the relay or button it carries.
+// Whether two parts' fields are the same, one by one.
+fn same_fields(x: Fields, y: Fields) -> bool
+    requires { ⌜ (x .count ≤ mostFields) × (y .count ≤ mostFields) ⌝ }
+    ensures { λ r. ⌜ r ≡ alike eqb (take (x .count) (x .numbers)) (take (y .count) (y .numbers)) ⌝ }
+{
+    let count = x.count;
+    if count != y.count {
+        return false;
+    }
+    let left = x.numbers;
+    let right = y.numbers;
+    let mut i = 0;
+    while i < count {
+        if left[i] != right[i] {
+            return false;
+        }
+        i += 1;
+    }
+    true
+}
+
+// Whether two parts are the same: by their kind and the fields that the table gives them.
 fn same_part(x: Part, y: Part) -> bool
     ensures { λ r. ⌜ r ≡ samePart x y ⌝ }
 {
-    if x.a != y.a {
-        return false;
-    }
-    if x.b != y.b {
-        return false;
-    }
     let left = x.kind;
     let right = y.kind;
     if left.number() != right.number() {
         return false;
     }
-    left.name() == right.name()
+    same_fields(left.fields(x.a, x.b), right.fields(y.a, y.b))
 }
 
 // Whether the first `count` of two arrays of parts are the same.

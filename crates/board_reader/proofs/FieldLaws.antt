@@ -12,6 +12,7 @@ use Rattle.number.specs.Numbers.{currentWidth, numberAt, toldNumber, ReadsNumbe
 use Rattle.number.specs.declared.Number.{Number}
 use Rattle.number.specs.declared.Number.the-variants.{Read, Refused}
 use Rattle.refusals.specs.declared.Refusal.{Refusal}
+use Rattle.kinds.specs.Kinds.{wireKind}
 use Rattle.board.specs.declared.Counts.{Counts}
 use Rattle.bits.proofs.BoolLaws.{both-true}
 use Rattle.board.specs.Rules.{inRange, limitOf}
@@ -101,10 +102,10 @@ pub wanted-below : (e : Edition) (n : ℕ) (s : List ℕ) (at l m : ℕ) → l �
 wanted-below e n s at l m same = ap (λ (k : ℕ). wanted e (λ v. ltb v k) n s at) same
 
 module _ (e : Edition) (c : Counts) (k : ℕ) (s : List ℕ) (at : ℕ) where
-  pub name-wire : k ≡ 0 → found 0 at ≡ nameAt e c k s at
+  pub name-wire : k ≡ wireKind → found 0 at ≡ nameAt e c k s at
   unfolding nameAt
   name-wire wire = rw (eq-eqb k 0 wire)
 
-  pub name-carried : (k ≡ 0 → ⊥) → wanted e (λ v. ltb v (limitOf c k)) noSuchName s at ≡ nameAt e c k s at
+  pub name-carried : (k ≡ wireKind → ⊥) → wanted e (λ v. ltb v (limitOf c k)) noSuchName s at ≡ nameAt e c k s at
   unfolding nameAt
   name-carried carried = rw (ne-eqb k 0 carried)

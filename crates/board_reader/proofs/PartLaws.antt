@@ -9,7 +9,7 @@ use borrow.Author.Tests.{eq-eqb, ne-eqb, ltb-true}
 use Rattle.refusals.specs.Outcomes.{refused, found}
 use Rattle.refusals.specs.Refusals.{noSuchKind, noSuchTerminal, endsEqual, noSuchName, windingTaken}
 use Rattle.windings.specs.declared.WoundSoFar.{WoundSoFar}
-use Rattle.kinds.specs.Kinds.{buttonKind, kindOf}
+use Rattle.kinds.specs.Kinds.{wireKind, buttonKind, kindOf}
 use Rattle.windings.specs.Windings.{windingFree}
 use Rattle.board.specs.declared.Counts.{Counts}
 use Rattle.board.specs.declared.Part.{Part}
@@ -76,7 +76,7 @@ terminal-below e c s at v next h =
 pub name-below : (e : Edition) (c : Counts) (k : ℕ) (s : List ℕ) (at v next m : ℕ) → nameAt e c k s at ≡ found v next
     → c .relays ≤ m → c .buttons ≤ m → 0 < m → v < m
 unfolding nameAt
-name-below e c k s at v next m h relays buttons some = go (eqb k 0) h
+name-below e c k s at v next m h relays buttons some = go (eqb k wireKind) h
   where
     limit : (t : Bool) → cond t (c .buttons) (c .relays) ≤ m
     limit true = buttons

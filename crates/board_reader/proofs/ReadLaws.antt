@@ -6,14 +6,20 @@ use lib.Dec.{leb}
 use lib.ListN.{length}
 use borrow.Author.Tests.{le-leb, lt-leb}
 use Rattle.refusals.specs.Outcomes.{Outcome, given, refused, Found, found, _>>_, unless}
-use Rattle.refusals.specs.Refusals.{inputTooLong}
-use Rattle.windings.specs.Windings.{noneWound}
+use mathlib.Core.Bool.{true, false}
+use Rattle.refusals.specs.Refusals.{windingLacking, inputTooLong}
+use Rattle.windings.specs.declared.WoundSoFar.{WoundSoFar}
+use Rattle.windings.specs.Windings.{noneWound, complete}
+use Rattle.board.specs.declared.Part.{Part}
 use Rattle.board.specs.declared.Counts.{Counts}
 use Rattle.board.specs.declared.Board.{Board}
 use Rattle.board.specs.Parts.{emptyBoard}
 use Rattle.board_reader.specs.Editions.{Edition}
 use Rattle.board_reader.specs.Reading.{countsAt, partsAt, boardFrom, boardAt, longestInput, answered, reading}
+use Rattle.board_reader.specs.Steps.{rowFrom}
 use Rattle.refusals.proofs.OutcomeLaws.{refused-never}
+use Rattle.board_reader.proofs.PartsLaws.{RowFound, row-stopped, row-went, board-refused, board-lacking}
+use Rattle.board_reader.proofs.PartsLaws.{board-found}
 
 module _ (e : Edition) (s : List ℕ) where
   pub reading-long : longestInput < length s → answered (refused inputTooLong 0) ≡ reading e s
@@ -31,12 +37,38 @@ module _ (e : Edition) (s : List ℕ) where
       let stopped : refused k p ≡ boardAt e s = rw h in
       ap answered stopped ∙ reading-board short
 
-  pub reading-went : (c : Counts) (at : ℕ) → length s ≤ longestInput → countsAt e s ≡ found c at
+  reading-went : (c : Counts) (at : ℕ) → length s ≤ longestInput → countsAt e s ≡ found c at
       → answered (boardFrom c (partsAt e c (c .parts) noneWound s at)) ≡ reading e s
   unfolding boardAt
   reading-went c at short h =
       let went : boardFrom c (partsAt e c (c .parts) noneWound s at) ≡ boardAt e s = rw h in
       ap answered went ∙ reading-board short
+
+  -- the row of parts after the counts, with the windings w before it, and then 9
+  module _ (c : Counts) (at : ℕ) (short : length s ≤ longestInput) (counts : countsAt e s ≡ found c at)
+      {w : WoundSoFar} (begins : w ≡ noneWound) where
+    pub row-refused : (k p : ℕ) → rowFrom w (partsAt e c (c .parts) w s at) ≡ refused k p
+        → answered (refused k p) ≡ reading e s
+    row-refused k p h =
+        ap answered (board-refused c (partsAt e c (c .parts) noneWound s at) k p
+        (row-stopped noneWound (partsAt e c (c .parts) noneWound s at) k p (rw begins at h)))
+        ∙ reading-went c at short counts
+
+    module _ (parts : List Part) (w′ : WoundSoFar) (next : ℕ)
+        (row : rowFrom w (partsAt e c (c .parts) w s at) ≡ found (parts, w′) next) where
+      read : RowFound noneWound (partsAt e c (c .parts) noneWound s at) parts w′ next
+      read = row-went noneWound (partsAt e c (c .parts) noneWound s at) parts w′ next (rw begins at row)
+
+      pub row-lacking : complete (c .relays) w′ ≡ false → answered (refused windingLacking next) ≡ reading e s
+      row-lacking off =
+          ap answered (board-lacking c (partsAt e c (c .parts) noneWound s at) parts w′ next read off)
+          ∙ reading-went c at short counts
+
+      pub row-found : complete (c .relays) w′ ≡ true
+          → _≡_ {A = Board × Outcome ℕ} (record { counts = c; parts = parts }, given next) (reading e s)
+      row-found full =
+          board-found c (partsAt e c (c .parts) noneWound s at) parts w′ next read full
+          ∙ reading-went c at short counts
 
 -- an answer is refused as what was read is, and a refused read returns the empty board
 pub answered-refused : (o : Outcome (Found Board)) (k p : ℕ) → answered o .1 ≡ refused k p → o ≡ refused k p

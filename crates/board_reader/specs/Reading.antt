@@ -5,9 +5,9 @@
 --     countsAt e s                     T, R, B and C at the start of the input
 --     nameAt e c k s at                the relay or button of a part of kind number k; a wire has none
 --     partAt e c w s at                a part, after parts that gave the windings w
---     partsAt e c n w s at             n parts one after the other, the last of them followed by the test of 9
+--     partsAt e c n w s at             n parts one after the other, after parts that gave the windings w
 --     boardOf c ps                     the board of counts c and parts ps
---     boardFrom c o                    the board of counts c with the parts that were read
+--     boardFrom c o                    the board of counts c with the parts that were read, and after them 9
 --     boardAt e s                      the board at the start of the input, and the place just after it
 --     longestInput                     the longest input that is read
 --     answered o                       the answer, by what was read: "A refused read returns number, place and the
@@ -26,14 +26,14 @@ use Rattle.refusals.specs.Refusals.{outOfRange, noSuchKind, noSuchTerminal, end
 use Rattle.refusals.specs.Refusals.{windingLacking, inputTooLong}
 use Rattle.number.specs.Numbers.{numberAt}
 use Rattle.windings.specs.declared.WoundSoFar.{WoundSoFar}
-use Rattle.kinds.specs.Kinds.{kindOf}
+use Rattle.kinds.specs.Kinds.{wireKind, kindOf}
 use Rattle.windings.specs.Windings.{noneWound, windingFree, gained, complete}
 use Rattle.board.specs.declared.Part.{Part}
 use Rattle.board.specs.declared.Counts.{Counts}
 use Rattle.board.specs.declared.Board.{Board}
 use Rattle.board.specs.Parts.{padded, emptyBoard, mostParts}
 use Rattle.board.specs.Rules.{leastTerminals, mostTerminals, mostRelays, mostButtons, inRange, terminalFine, endsFine}
-use Rattle.board.specs.Rules.{limitOf}
+use Rattle.board.specs.Rules.{limitOf, gainedAll}
 use Rattle.board_reader.specs.Editions.{Edition, currentEdition}
 use Rattle.board_reader.specs.declared.BoardRead.{BoardRead}
 use Rattle.board_reader.specs.declared.ReadAnswer.{ReadAnswer}
@@ -54,7 +54,7 @@ countsAt e s = do
   found (record { terminals = t .value; relays = r .value; buttons = b .value; parts = c .value }) (c .next)
 
 unfoldable pub nameAt : Edition → Counts → ℕ → List ℕ → ℕ → Outcome (Found ℕ)
-nameAt e c k s at = cond (eqb k 0) (found 0 at) (wanted e (λ n. ltb n (limitOf c k)) noSuchName s at)
+nameAt e c k s at = cond (eqb k wireKind) (found 0 at) (wanted e (λ n. ltb n (limitOf c k)) noSuchName s at)
 
 unfoldable pub partAt : Edition → Counts → WoundSoFar → List ℕ → ℕ → Outcome (Found Part)
 partAt e c w s at = do
@@ -67,9 +67,7 @@ partAt e c w s at = do
   found (record { a = a .value; b = b .value; kind = kindOf (k .value) (n .value) }) (n .next)
 
 unfoldable pub partsAt : Edition → Counts → ℕ → WoundSoFar → List ℕ → ℕ → Outcome (Found (List Part))
-partsAt e c zero w s at = do
-  unless (complete (c .relays) w) windingLacking at
-  found [] at
+partsAt e c zero w s at = found [] at
 partsAt e c (suc n) w s at = do
   p ← partAt e c w s at
   ps ← partsAt e c n (gained w (p .value .kind)) s (p .next)
@@ -81,6 +79,7 @@ boardOf c ps = record { counts = c; parts = padded ps }
 unfoldable pub boardFrom : Counts → Outcome (Found (List Part)) → Outcome (Found Board)
 boardFrom c o = do
   ps ← o
+  unless (complete (c .relays) (gainedAll noneWound (ps .value))) windingLacking (ps .next)
   found (boardOf c (ps .value)) (ps .next)
 
 unfoldable pub boardAt : Edition → List ℕ → Outcome (Found Board)

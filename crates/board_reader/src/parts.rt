@@ -1,8 +1,6 @@
 // Reading the parts of a board file: one part field by field, and all of them one after the other.
-use crate::BoardRead;
 use crate::ReadAnswer;
 use crate::fields;
-use board::Board;
 use board::Counts;
 use board::Part;
 use kinds::Kind;
@@ -12,17 +10,22 @@ ghost use mathlib.Core.Path.{_≡_};
 ghost use Prim.Native.Nat.{_≤_};
 ghost use Rattle.number.specs.Numbers.{toldNumber};
 ghost use Rattle.refusals.specs.Refusals.{noSuchTerminal};
-ghost use Rattle.windings.specs.Windings.{noneWound};
-ghost use Rattle.board.specs.Parts.{mostParts, emptyBoard};
+ghost use Rattle.board.specs.Parts.{mostParts};
 ghost use Rattle.board.specs.Rules.{terminalFine};
 ghost use Rattle.board_reader.specs.Editions.{currentEdition};
-ghost use Rattle.board_reader.specs.Reading.{wanted, nameAt, partAt, partsAt, boardFrom, answered};
-ghost use Rattle.board_reader.specs.Reading.{toldReadAnswer, toldBoardRead};
-ghost use Rattle.board_reader.specs.Steps.{placeOf, toldPartRead};
+ghost use Rattle.board_reader.specs.Reading.{wanted, nameAt, partAt, partsAt, toldReadAnswer};
+ghost use Rattle.board_reader.specs.Steps.{placeOf, rowFrom, toldPartRead, toldRowRead};
 
 // The part that was read, where the answer is no refusal.
 pub struct PartRead {
     pub part: Part,
+    pub answer: ReadAnswer,
+}
+
+// A row of parts that was read, and the windings after it, where the answer is no refusal.
+pub struct RowRead {
+    pub parts: [Part; 256],
+    pub windings: WoundSoFar,
     pub answer: ReadAnswer,
 }
 
@@ -41,14 +44,6 @@ fn no_field(number: Number) -> PartRead
     no_part(fields::place_of(number))
 }
 
-// A refused board: the refusal with the empty board.
-pub fn no_board(answer: ReadAnswer) -> BoardRead
-    ensures { λ r. ⌜ (r .board ≡ emptyBoard) × (r .answer ≡ answer) ⌝ }
-{
-    let board = board::empty();
-    BoardRead { board, answer }
-}
-
 // The terminal at a place, refused by 5 there unless it is below T.
 fn read_terminal(s: &[u8], at: usize, counts: Counts) -> Number
     ensures { λ r. ⌜ toldNumber r ≡ wanted currentEdition (terminalFine counts) noSuchTerminal (now (s .entry)) at ⌝ }
@@ -61,7 +56,7 @@ fn read_terminal(s: &[u8], at: usize, counts: Counts) -> Number
 fn read_name(s: &[u8], at: usize, counts: Counts, kind: u32) -> Number
     ensures { λ r. ⌜ toldNumber r ≡ nameAt currentEdition counts kind (now (s .entry)) at ⌝ }
 {
-    if kind == 0 {
+    if kind == kinds::WIRE_KIND {
         return Number::Read(0, at);
     }
     let limit = bits::wide(board::limit(counts, kind));
@@ -106,36 +101,38 @@ fn read_part(s: &[u8], at: usize, counts: Counts, windings: WoundSoFar) -> PartR
     }
 }
 
-// The parts from a place on, and with them the board.
-pub fn read_parts(s: &[u8], start: usize, counts: Counts) -> BoardRead
+// The first C parts from a place on, after parts that gave these windings.
+pub fn read_parts(s: &[u8], start: usize, counts: Counts, windings: WoundSoFar) -> RowRead
     requires { ⌜ counts .parts ≤ mostParts ⌝ }
-    ensures { λ r. ⌜ toldBoardRead r ≡ answered
-        (boardFrom counts (partsAt currentEdition counts (counts .parts) noneWound (now (s .entry)) start)) ⌝ }
+    ensures { λ r. ⌜ toldRowRead r
+        ≡ rowFrom windings (partsAt currentEdition counts (counts .parts) windings (now (s .entry)) start) ⌝ }
 {
     let filler = board::blank();
     let mut parts = [filler; 256];
-    let mut windings = WoundSoFar::none();
+    let mut after = windings;
     let mut at = start;
     let count = counts.parts;
     let mut i = 0;
     while i < count {
-        let part_read = read_part(s, at, counts, windings);
+        let part_read = read_part(s, at, counts, after);
         let answer = part_read.answer;
         let ReadAnswer::Read(next) = answer else {
-            return no_board(answer);
+            return RowRead {
+                parts,
+                windings: after,
+                answer,
+            };
         };
         let part = part_read.part;
         let kind = part.kind;
-        windings = windings.with(kind);
+        after = after.with(kind);
         parts[i] = part;
         at = next;
         i += 1;
     }
-    if !windings.complete(counts.relays) {
-        return no_board(fields::refuse(refusals::WINDING_LACKING, at));
-    }
-    BoardRead {
-        board: Board { counts, parts },
+    RowRead {
+        parts,
+        windings: after,
         answer: ReadAnswer::Read(at),
     }
 }

@@ -1,11 +1,11 @@
 -- Laws of a board's file for those who write one and read it back: how long it is, and what a write answers.
 use mathlib.Core.Path.{_≡_, refl, sym, ap, _∙_}
-use mathlib.Core.Bool.{Bool, true, false, cond, _||_}
+use mathlib.Core.Bool.{Bool, true, false, cond}
 use mathlib.Core.List.{List, [], _∷_, _++_}
-use Prim.Native.Nat.{ℕ, _*_, _≤_, _<_}
+use Prim.Native.Nat.{ℕ, _+_, _*_, _≤_, _<_}
 use native.Mathlib.Omega.{arith}
-use borrow.Author.Tests.{ltb-true, leb-true, leb-false}
-use lib.Dec.{eqb, ltb, leb}
+use borrow.Author.Tests.{leb-true, leb-false}
+use lib.Dec.{eqb, leb}
 use lib.ListN.{length, take, drop, length-append, length-take}
 use lib.Seq.{take-all}
 use Rattle.refusals.proofs.OutcomeLaws.{given-injective, refused-never}
@@ -15,20 +15,22 @@ use Rattle.refusals.specs.Refusals.{brokenBoard, bufferTooShort}
 use Rattle.number.specs.Numbers.{numberBytes}
 use Rattle.number.proofs.NumberLaws.{number-bytes-one, number-bytes-length-two}
 use Rattle.kinds.specs.declared.Kind.{Kind}
-use Rattle.kinds.specs.Kinds.{kindNumber, nameOf, buttonKind}
-use Rattle.windings.specs.Windings.{noneWound}
+use Rattle.kinds.specs.declared.Kind.the-variants.{Wire, Upper, Lower, Button, Regular, Drawing, Dropping}
+use Rattle.kinds.specs.Kinds.{kindNumber, buttonKind, fields, mostFields}
 use Rattle.board.specs.declared.Part.{Part}
 use Rattle.board.specs.declared.Counts.{Counts}
 use Rattle.board.specs.declared.Board.{Board}
-use Rattle.board.specs.Parts.{partsOf}
+use Rattle.board.specs.Parts.{fieldsOf, partsOf}
 use Rattle.board.specs.Rules.{mostRelays, terminalFine, endsFine, limitOf, nameFine, partFits, boardFine}
+use Rattle.board.specs.BreaksNoRule.{InRange, Names, Fits}
+use Rattle.lists.specs.Members.{All}
 use Rattle.bits.proofs.BoolLaws.{both-true, by-test}
-use Rattle.kinds.proofs.KindLaws.{kind-number-most}
-use Rattle.board.proofs.RuleLaws.{InRange, counts-in-range}
-use Rattle.board.proofs.WindingLaws.{partsFit, fine-fit}
+use Rattle.kinds.proofs.KindLaws.{kind-number-most, fields-few}
+use Rattle.board.proofs.BreaksNoRule.{fine-fits}
 use Rattle.board_writer.specs.declared.Written.{Written}
 use Rattle.board_writer.specs.declared.Written.the-variants.{Bytes, Refused}
-use Rattle.board_writer.specs.File.{nameBytes, partBytes, partsBytes, countsBytes, boardBytes, longestFile}
+use Rattle.board_writer.specs.File.{rowBytes, numbersBytes, partBytes, partsBytes, countsBytes, boardBytes}
+use Rattle.board_writer.specs.File.{longestFile}
 use Rattle.board_writer.specs.Writing.{writing, toldWritten, bytesWritten, Writes}
 use Rattle.board_writer.proofs.LengthLaws.{counts-bytes-sum, part-bytes-sum}
 use Rattle.board_writer.proofs.WriteLaws.{board-bytes-sum, writing-broken}
@@ -59,16 +61,6 @@ limit-most c k fit = by (eqb k buttonKind)
     by true = fit .most-buttons
     by false = fit .most-relays
 
-name-bytes-few : (c : Counts) (k : Kind) → InRange c → nameFine c k ≡ true → length (nameBytes k) ≤ 1
-unfolding nameFine nameBytes
-name-bytes-few c k fit fine =
-    few (eqb (kindNumber k) 0) (nameOf k) (limitOf c (kindNumber k)) (limit-most c (kindNumber k) fit) fine
-  where
-    few : (wire : Bool) (name limit : ℕ) → limit ≤ mostRelays → (wire || ltb name limit) ≡ true
-        → length (cond wire [] (numberBytes name)) ≤ 1
-    few true name limit most fine = omega arith
-    few false name limit most fine = omega (arith, one-byte name (omega (arith, ltb-true name limit fine)))
-
 -- the rules of 5 to 7 that a part keeps, one by one
 pub record PartRules (c : Counts) (p : Part) : Type 0 where
   pub a-below : terminalFine c (p .a) ≡ true
@@ -84,42 +76,60 @@ part-rules c p fits =
     let below = both-true _ _ (apart .0) in
     record { a-below = below .0; b-below = below .1; apart = apart .1; named = named .1 }
 
--- a part of a fine board takes at most 4
-part-bytes-few : (c : Counts) (p : Part) → InRange c → partFits c p ≡ true → length (partBytes p) ≤ 4
-part-bytes-few c p fit fine =
-    let rules = part-rules c p fine in
+-- small numbers take a byte each
+numbers-few : (vs : List ℕ) → All (λ v. v < 128) vs → length (numbersBytes vs) ≡ length vs
+unfolding rowBytes
+numbers-few [] small = refl
+numbers-few (v ∷ vs) small =
     omega (
       arith,
-      part-bytes-sum p,
-      one-byte (kindNumber (p .kind)) (omega (arith, kind-number-most (p .kind))),
-      one-byte (p .a) (omega (arith, fit, ltb-true (p .a) (c .terminals) (rules .a-below))),
-      one-byte (p .b) (omega (arith, fit, ltb-true (p .b) (c .terminals) (rules .b-below))),
-      name-bytes-few c (p .kind) fit (rules .named),
+      length-append (numberBytes v) (numbersBytes vs),
+      one-byte v (small .0),
+      numbers-few vs (small .1),
     )
 
-parts-bytes-few : (c : Counts) (ps : List Part) → InRange c → partsFit c ps ≡ true
-    → length (partsBytes ps) ≤ 4 * length ps
-unfolding partsFit partsBytes
-parts-bytes-few c [] fit fine = omega arith
-parts-bytes-few c (p ∷ ps) fit fine =
-    let both = both-true (partFits c p) (partsFit c ps) fine in
-    omega (
-      arith,
-      length-append (partBytes p) (partsBytes ps),
-      part-bytes-few c p fit (both .0),
-      parts-bytes-few c ps fit (both .1),
-    )
+-- a part that fits takes a byte for its kind and one for each field
+module _ (c : Counts) (fit : InRange c) where
+  fields-small : (k : Kind) (a b : ℕ) → a < c .terminals → b < c .terminals → Names c k
+      → All (λ v. v < 128) (fields k a b)
+  fields-small Wire a b first second named = (omega (arith, fit), (omega (arith, fit), tt))
+  fields-small (Upper r) a b first second named = (omega (arith, fit), (omega (arith, fit), (omega (arith, fit), tt)))
+  fields-small (Lower r) a b first second named = (omega (arith, fit), (omega (arith, fit), (omega (arith, fit), tt)))
+  fields-small (Button n) a b first second named = (omega (arith, fit), (omega (arith, fit), (omega (arith, fit), tt)))
+  fields-small (Regular r) a b first second named = (omega (arith, fit), (omega (arith, fit), (omega (arith, fit), tt)))
+  fields-small (Drawing r) a b first second named = (omega (arith, fit), (omega (arith, fit), (omega (arith, fit), tt)))
+  fields-small (Dropping r) a b first second named = (omega (arith, fit), (omega (arith, fit), (omega (arith, fit), tt)))
+
+  part-bytes-few : (p : Part) → Fits c p → length (partBytes p) ≤ 1 + mostFields
+  part-bytes-few p fits =
+      omega (
+        arith,
+        part-bytes-sum p,
+        one-byte (kindNumber (p .kind)) (omega (arith, kind-number-most (p .kind))),
+        numbers-few (fieldsOf p) (fields-small (p .kind) (p .a) (p .b) (fits .a-below) (fits .b-below) (fits .named)),
+        fields-few (p .kind) (p .a) (p .b),
+      )
+
+  parts-bytes-few : (ps : List Part) → All (Fits c) ps → length (partsBytes ps) ≤ (1 + mostFields) * length ps
+  unfolding rowBytes
+  parts-bytes-few [] fits = omega arith
+  parts-bytes-few (p ∷ ps) fits =
+      omega (
+        arith,
+        length-append (partBytes p) (partsBytes ps),
+        part-bytes-few p (fits .0),
+        parts-bytes-few ps (fits .1),
+      )
 
 pub board-file-bound : (b : Board) → boardFine b ≡ true → length (boardBytes b) ≤ longestFile
-unfolding boardFine
 board-file-bound b fine =
-    let both = both-true _ _ fine in
-    let fit : InRange (b .counts) = counts-in-range (b .counts) (both .0) in
+    let fits = fine-fits b fine in
     omega (
       arith,
       board-bytes-sum b,
-      counts-bytes-few (b .counts) fit,
-      parts-bytes-few (b .counts) (partsOf b) fit (fine-fit (b .counts) noneWound (partsOf b) (both .1)),
+      fits .counts .most-parts,
+      counts-bytes-few (b .counts) (fits .counts),
+      parts-bytes-few (b .counts) (fits .counts) (partsOf b) (fits .parts),
       length-take (b .counts .parts) (b .parts),
     )
 

@@ -1,5 +1,5 @@
 -- Laws of writing piece by piece: what is still to come of a row of bytes that is being written into a buffer.
--- `write_counts` and `write_part` write a row of numbers so, and `write_parts` a row of parts.
+-- `write_counts` and `write_part` write a row of numbers so, `write_fields` and `write_parts` a row by a loop.
 use mathlib.Core.Path.{_≡_, refl, sym, ap, ap₂, subst, _∙_}
 use mathlib.Core.List.{List, [], _∷_, _++_}
 use Prim.Native.Nat.{ℕ, _+_, _≤_}
@@ -9,6 +9,7 @@ use lib.ListN.{length, length-append}
 use lib.Seq.{sets, length-sets}
 use Rattle.number.specs.Numbers.{currentWidth, numberBytes}
 use Rattle.number.proofs.Buffers.{sets-append}
+use Rattle.board_writer.specs.File.{rowBytes, numbersBytes}
 
 -- of the bytes `all`, which go into `before` from `start` on, `rest` is still to come: it goes into `out` from `at` on
 pub record ToCome (before : List ℕ) (start : ℕ) (all out : List ℕ) (at : ℕ) (rest : List ℕ) : Type 0 where
@@ -44,11 +45,6 @@ module _ {before all out : List ℕ} {start at : ℕ} where
   pub to-come-none : ToCome before start all out at [] → (at ≡ start + length all) × (out ≡ sets before start all)
   to-come-none t = (omega (arith, t .end), t .becomes)
 
--- numbers one after the other
-unfoldable pub numbersBytes : List ℕ → List ℕ
-numbersBytes [] = []
-numbersBytes (v ∷ vs) = numberBytes v ++ numbersBytes vs
-
 -- of the bytes `all` the numbers `vs` are still to come
 pub record NumbersToCome (before : List ℕ) (start : ℕ) (all out : List ℕ) (at : ℕ) (vs : List ℕ) : Type 0 where
   pub bytes : ToCome before start all out at (numbersBytes vs)
@@ -62,23 +58,32 @@ module _ {before all out : List ℕ} {start at v w : ℕ} {vs : List ℕ} (is : 
     (t : NumbersToCome before start all out at (v ∷ vs)) where
   -- the next number, of which w is a copy, has room
   pub number-room : w ≤ currentWidth .largest → (w ≤ currentWidth .largest) × (at + length (numberBytes w) ≤ length out)
-  unfolding numbersBytes
+  unfolding rowBytes
   number-room small = (small, rw is (to-come-room (numberBytes v) (numbersBytes vs) (t .bytes)))
 
   -- once it is put the others are to come
   pub number-put : {out′ : List ℕ} {at′ : ℕ} → (at′ ≡ at + length (numberBytes w))
       × (out′ ≡ sets out at (numberBytes w)) → NumbersToCome before start all out′ at′ vs
-  unfolding numbersBytes
+  unfolding rowBytes
   number-put put =
       record {
         bytes = to-come-next (numberBytes v) (numbersBytes vs) (t .bytes) (rw is at (put .0))
             (rw is at (put .1));
       }
 
+-- the numbers that are to come have room, and once they are written all is
+module _ {before all out : List ℕ} {start at : ℕ} {vs : List ℕ} (t : NumbersToCome before start all out at vs) where
+  pub numbers-room : at + length (numbersBytes vs) ≤ length out
+  numbers-room = t .bytes .room
+
+  pub numbers-put : {out′ : List ℕ} {at′ : ℕ} → (at′ ≡ at + length (numbersBytes vs))
+      × (out′ ≡ sets out at (numbersBytes vs)) → (at′ ≡ start + length all) × (out′ ≡ sets before start all)
+  numbers-put put = (put .0 ∙ t .bytes .end, put .1 ∙ t .bytes .becomes)
+
 -- no number is to come: all is written
 pub numbers-done : {before all out : List ℕ} {start at : ℕ} → NumbersToCome before start all out at []
     → (at ≡ start + length all) × (out ≡ sets before start all)
-unfolding numbersBytes
+unfolding rowBytes
 numbers-done t = to-come-none (t .bytes)
 
 pub numbers-done-first : {before all out : List ℕ} {at : ℕ} → NumbersToCome before 0 all out at []

@@ -1,14 +1,16 @@
 // Writing a board's counts and parts into a buffer that has room for them.
 use board::Counts;
 use board::Part;
+use kinds::Fields;
 use number::NumberWritten;
 ghost use mathlib.Core.Path.{_≡_};
 ghost use Prim.Native.Nat.{_+_, _≤_};
 ghost use lib.ListN.{length, take};
 ghost use lib.Seq.{sets};
 ghost use Rattle.number.specs.Numbers.{currentWidth, numberBytes};
+ghost use Rattle.kinds.specs.Kinds.{mostFields};
 ghost use Rattle.board.specs.Parts.{mostParts};
-ghost use Rattle.board_writer.specs.File.{countsBytes, partBytes, partsBytes};
+ghost use Rattle.board_writer.specs.File.{numbersBytes, countsBytes, partBytes, partsBytes};
 
 // Writes a number at a place where it has room, and gives the next place.
 fn put(value: u32, out: &mut [u8], at: usize) -> usize
@@ -35,6 +37,24 @@ pub fn write_counts(counts: Counts, out: &mut [u8]) -> usize
     put(counts.parts as u32, out, parts_at)
 }
 
+// Writes a part's fields one after the other from a place on where they have room, and gives the next place.
+fn write_fields(fields: Fields, out: &mut [u8], start: usize) -> usize
+    requires { ⌜ (fields .count ≤ mostFields)
+        × (start + length (numbersBytes (take (fields .count) (fields .numbers))) ≤ length (now out)) ⌝ }
+    ensures { λ r. ⌜ (r ≡ start + length (numbersBytes (take (fields .count) (fields .numbers))))
+        × (now (out .exit) ≡ sets (now (out .entry)) start (numbersBytes (take (fields .count) (fields .numbers)))) ⌝ }
+{
+    let count = fields.count;
+    let numbers = fields.numbers;
+    let mut at = start;
+    let mut i = 0;
+    while i < count {
+        at = put(bits::wide(numbers[i]), out, at);
+        i += 1;
+    }
+    at
+}
+
 // Writes a part at a place where it has room, and gives the next place.
 fn write_part(part: Part, out: &mut [u8], at: usize) -> usize
     requires { ⌜ at + length (partBytes part) ≤ length (now out) ⌝ }
@@ -42,15 +62,9 @@ fn write_part(part: Part, out: &mut [u8], at: usize) -> usize
         × (now (out .exit) ≡ sets (now (out .entry)) at (partBytes part)) ⌝ }
 {
     let kind = part.kind;
-    let number = kind.number();
-    let a_at = put(number, out, at);
-    let b_at = put(bits::wide(part.a), out, a_at);
-    let name_at = put(bits::wide(part.b), out, b_at);
-    if number == 0 {
-        name_at
-    } else {
-        put(bits::wide(kind.name()), out, name_at)
-    }
+    let fields = kind.fields(part.a, part.b);
+    let fields_at = put(kind.number(), out, at);
+    write_fields(fields, out, fields_at)
 }
 
 // Writes the first `count` parts one after the other from a place on where they have room.

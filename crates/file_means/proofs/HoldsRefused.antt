@@ -38,7 +38,7 @@ use Rattle.file_means.specs.FileRefusals.{line2, line3-T, line3-R, line3
 use Rattle.file_means.specs.FileRefusals.{line5-second, line6, line7-button, line7-relay, line8, line9}
 use Rattle.file_means.proofs.TakenLaws.{taken-winding, taken-barred}
 use Rattle.file_means.proofs.ReachedRead.{PartsSoFar, StageRead, kind-most, relay-limit}
-use Rattle.file_means.proofs.ReachedRead.{name-found, reached-read, rest-refused}
+use Rattle.file_means.proofs.ReachedRead.{name-found, reached-read, rest-refused, last-part}
 
 -- the reader's test of the number that is wanted at a stage, and the number for no of it
 abbrev testOf : Edition → FileStage → ℕ → Bool
@@ -141,7 +141,7 @@ module _ (e : Edition) (known : Known e) (s : List ℕ) where
 
   board-lacking : (c : Counts) (ps : List Part) (r at : ℕ) → Reached e s (at-part c ps) at → length ps ≡ c .parts
       → r < c .relays → ¬ isRegular r ps → ¬ isSteel r ps → boardAt e s ≡ refused windingLacking at
-  unfolding partsAt complete
+  unfolding complete
   board-lacking c ps r at here all below irregular no-steel =
       let read = reached-read e known s (at-part c ps) at here in
       let w = read .0 in
@@ -149,8 +149,7 @@ module _ (e : Edition) (known : Known e) (s : List ℕ) where
       let unwound : wound w r ≡ false =
       by-test (wound w r)
       (λ on. absurd (⊎-elim irregular no-steel (tallied-wound w ps r (x .so-far r) on))) (λ off. off) in
-      rest-refused e known s c ps w at 0 windingLacking at x (omega (arith, all))
-      (rw (every-fails (wound w) (c .relays) r below unwound))
+      last-part e known s c ps w at x all ∙ rw (every-fails (wound w) (c .relays) r below unwound)
 
 -- ---- every line
 

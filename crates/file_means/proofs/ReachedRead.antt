@@ -15,8 +15,8 @@ use mathlib.Core.List.{List, [], _∷_, _++_, append-nil, append-assoc}
 use lib.Dec.{ltb}
 use lib.ListN.{length, length-append}
 use borrow.Author.Tests.{lt-ltb, ne-eqb}
-use Rattle.refusals.specs.Outcomes.{Outcome, given, refused, Found, found, _>>=_}
-use Rattle.refusals.specs.Refusals.{outOfRange, noSuchKind, noSuchTerminal, noSuchName}
+use Rattle.refusals.specs.Outcomes.{Outcome, given, refused, Found, found, _>>=_, _>>_, unless}
+use Rattle.refusals.specs.Refusals.{outOfRange, noSuchKind, noSuchTerminal, noSuchName, windingLacking}
 use Rattle.kinds.specs.Kinds.{buttonKind, lastKind, kindOf}
 use Rattle.windings.specs.declared.WoundSoFar.{WoundSoFar}
 use Rattle.windings.specs.Windings.{noneWound, windingFree, gained, wound, every, complete}
@@ -25,7 +25,9 @@ use Rattle.board.specs.declared.Counts.{Counts}
 use Rattle.board.specs.declared.Part.{Part}
 use Rattle.board.specs.Parts.{mostParts}
 use Rattle.board.specs.Rules.{leastTerminals, mostTerminals, mostRelays, mostButtons, inRange, terminalFine, limitOf}
+use Rattle.board.specs.Rules.{gainedAll}
 use Rattle.board.specs.Sorts.{Wound}
+use Rattle.board.proofs.RuleLaws.{gained-more}
 use Rattle.board.proofs.TallyLaws.{Tallied, tallied-none, tallied-gained, wound-tallied}
 use Rattle.board_reader.specs.Editions.{Edition}
 use Rattle.board_reader.specs.Reading.{wanted, countsAt, nameAt, partAt, partsAt, boardOf, boardFrom, boardAt}
@@ -59,6 +61,7 @@ behind-more ps q (refused n p) = refl
 pub record PartsSoFar (e : Edition) (s : List ℕ) (c : Counts) (ps : List Part) (w : WoundSoFar) (at : ℕ) : Type 0 where
   pub few : c .relays ≤ mostRelays
   pub so-far : (r : ℕ) → Tallied w ps r
+  pub after : w ≡ gainedAll noneWound ps
   pub whole : (m : ℕ) → c .parts ≡ length ps + m → boardAt e s ≡ boardFrom c (behind ps (partsAt e c m w s at))
 
 pub record KindRead (e : Edition) (s : List ℕ) (c : Counts) (ps : List Part) (w : WoundSoFar) (k at : ℕ) : Type 0 where
@@ -104,11 +107,12 @@ module _ (e : Edition) (known : Known e) (s : List ℕ) where
 
   counts-onward : (c : Counts) (at : ℕ) → c .relays ≤ mostRelays → found c at ≡ countsAt e s
       → PartsSoFar e s c [] noneWound at
-  unfolding boardAt boardFrom
+  unfolding boardAt boardFrom gainedAll
   counts-onward c at few read =
       record {
         few = few;
         so-far = tallied-none;
+        after = refl;
         whole = λ m all.
             (let left : c .parts ≡ m = omega (arith, all) in
             let parts =
@@ -127,6 +131,7 @@ module _ (e : Edition) (known : Known e) (s : List ℕ) where
       record {
         few = x .few;
         so-far = λ r. tallied-gained c (x .few) w ps q r (fine .fine) (x .so-far r);
+        after = ap (λ (v : WoundSoFar). gained v (q .kind)) (x .after) ∙ sym (gained-more noneWound ps q);
         whole = λ m all.
             (let parts : behind ps (partsAt e c (suc m) w s at) ≡ behind (ps ++ (q ∷ []))
             (partsAt e c m (gained w (q .kind)) s next) =
@@ -236,13 +241,20 @@ module _ (e : Edition) (known : Known e) (s : List ℕ) where
   unfolding boardFrom
   rest-refused c ps w at m n p x all stops = x .whole m all ∙ rw stops
 
+  -- after the last part 9 is asked
+  pub last-part : (c : Counts) (ps : List Part) (w : WoundSoFar) (at : ℕ) → PartsSoFar e s c ps w at
+      → length ps ≡ c .parts
+      → boardAt e s ≡ (unless (complete (c .relays) w) windingLacking at >> found (boardOf c ps) at)
+  unfolding boardFrom partsAt
+  last-part c ps w at x all = x .whole 0 (omega (arith, all)) ∙ rw (append-nil ps, ← x .after)
+
   pub reached-board : (c : Counts) (ps : List Part) (at : ℕ) → Reached e s (at-part c ps) at → length ps ≡ c .parts
       → Wound (c .relays) ps → boardAt e s ≡ found (boardOf c ps) at
-  unfolding boardFrom partsAt complete
+  unfolding complete
   reached-board c ps at here all wounds =
       let read = reached-read (at-part c ps) at here in
       let w = read .0 in
       let x = read .1 in
       let full : every (c .relays) (wound w) ≡ true =
       below-every (wound w) (c .relays) (λ r below. wound-tallied w ps r (x .so-far r) (wounds r below)) in
-      x .whole 0 (omega (arith, all)) ∙ rw (full, append-nil ps)
+      last-part c ps w at x all ∙ rw full

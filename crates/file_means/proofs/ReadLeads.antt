@@ -23,11 +23,12 @@ use Rattle.board.specs.declared.Counts.{Counts}
 use Rattle.board.specs.declared.Part.{Part}
 use Rattle.board.specs.Parts.{mostParts, partsOf}
 use Rattle.board.specs.Rules.{leastTerminals, mostTerminals, mostRelays, mostButtons, inRange, terminalFine, endsFine}
+use Rattle.board.specs.Rules.{gainedAll}
 use Rattle.board.specs.Sorts.{isRegular, isSteel, Wound}
 use Rattle.board.proofs.PaddedLaws.{padded-parts}
 use Rattle.board.proofs.TallyLaws.{Tallied, tallied-none, tallied-gained, tallied-wound, wound-tallied}
 use Rattle.board_reader.specs.Editions.{Edition}
-use Rattle.board_reader.specs.Reading.{wanted, countsAt, nameAt, partAt, partsAt, boardFrom, boardAt}
+use Rattle.board_reader.specs.Reading.{wanted, countsAt, nameAt, partAt, partsAt, boardOf, boardFrom, boardAt}
 use Rattle.board_reader.proofs.EditionLaws.{Known}
 use Rattle.board_reader.proofs.FieldLaws.{range-bounds}
 use Rattle.board_reader.proofs.CountsLaws.{count-most, counts-found}
@@ -47,6 +48,12 @@ pub record BoardReached (e : Edition) (s : List ℕ) (c : Counts) (ps : List Par
   pub reached : Reached e s (at-part c ps) at
   pub counted : length ps ≡ c .parts
   pub all-wound : Wound (c .relays) ps
+
+-- parts ps that give the windings w are reached up to a place, and they are C
+record RowReached (e : Edition) (s : List ℕ) (c : Counts) (w : WoundSoFar) (ps : List Part) (at : ℕ) : Type 0 where
+  reached : Reached e s (at-part c ps) at
+  counted : length ps ≡ c .parts
+  so-far : (r : ℕ) → Tallied w ps r
 
 range-over : (high v : ℕ) → inRange 0 high v ≡ false → high < v
 unfolding inRange
@@ -184,30 +191,13 @@ module _ (e : Edition) (known : Known e) (s : List ℕ) where
   -- ---- 9, the parts one after the other
 
   module _ (c : Counts) (few : c .relays ≤ mostRelays) where
-    end-leads : (ps : List Part) (w : WoundSoFar) (at : ℕ) → ((r : ℕ) → Tallied w ps r) → Reached e s (at-part c ps) at
-        → length ps ≡ c .parts → Leads (LineHolds e s) (λ qs. BoardReached e s c (ps ++ qs .value) (qs .next))
-        (unless (complete (c .relays) w) windingLacking at >> found [] at)
-    unfolding complete
-    end-leads ps w at so-far here all =
-        leads-unless (LineHolds e s) _ (every (c .relays) (wound w)) windingLacking at (found [] at)
-        (λ lacks.
-        let some = every-lacks (wound w) (c .relays) lacks in
-        let r = some .0 in
-        let never : ¬ (isRegular r ps ⊎ isSteel r ps) =
-        λ sort. false≢true (sym (some .2) ∙ wound-tallied w ps r (so-far r) sort) in
-        line9 here (omega (arith, all)) (some .1) (λ regular. never (inl regular)) (λ steel. never (inr steel)))
-        (λ full.
-        rw (append-nil ps) (record {
-          reached = here;
-          counted = all;
-          all-wound = λ r below. tallied-wound w ps r (so-far r) (every-below (wound w) (c .relays) r full below);
-        }))
-
     parts-lead : (n : ℕ) (ps : List Part) (w : WoundSoFar) (at : ℕ) → ((r : ℕ) → Tallied w ps r)
         → Reached e s (at-part c ps) at → length ps + n ≡ c .parts
-        → Leads (LineHolds e s) (λ qs. BoardReached e s c (ps ++ qs .value) (qs .next)) (partsAt e c n w s at)
-    unfolding partsAt
-    parts-lead zero ps w at so-far here all = end-leads ps w at so-far here (omega arith)
+        → Leads (LineHolds e s) (λ qs. RowReached e s c (gainedAll w (qs .value)) (ps ++ qs .value) (qs .next))
+        (partsAt e c n w s at)
+    unfolding partsAt gainedAll
+    parts-lead zero ps w at so-far here all =
+        rw (append-nil ps) (record { reached = here; counted = omega arith; so-far = so-far })
     parts-lead (suc n) ps w at so-far here all =
         leads-then (LineHolds e s) _ _ (partAt e c w s at) _ (part-leads c ps w so-far at here (omega arith))
         (λ p read there.
@@ -219,8 +209,28 @@ module _ (e : Edition) (known : Known e) (s : List ℕ) where
         (parts-lead n more w′ (p .next)
         (λ r. tallied-gained c few w ps (p .value) r (fine .fine) (so-far r)) there
         (omega (arith, length-append ps (p .value ∷ []))))
-        (λ qs _ rest. subst (λ (l : List Part). BoardReached e s c l (qs .next))
+        (λ qs _ rest. subst (λ (l : List Part). RowReached e s c (gainedAll w′ (qs .value)) l (qs .next))
         (append-assoc ps (p .value ∷ []) (qs .value)) rest))
+
+    -- after the last part
+    end-leads : (ps : List Part) (w : WoundSoFar) (at : ℕ) → RowReached e s c w ps at
+        → Leads (LineHolds e s) (λ b. BoardReached e s (b .value .counts) (partsOf (b .value)) (b .next))
+        (unless (complete (c .relays) w) windingLacking at >> found (boardOf c ps) at)
+    unfolding complete
+    end-leads ps w at row =
+        leads-unless (LineHolds e s) _ (every (c .relays) (wound w)) windingLacking at (found (boardOf c ps) at)
+        (λ lacks.
+        let some = every-lacks (wound w) (c .relays) lacks in
+        let r = some .0 in
+        let never : ¬ (isRegular r ps ⊎ isSteel r ps) =
+        λ sort. false≢true (sym (some .2) ∙ wound-tallied w ps r (row .so-far r) sort) in
+        line9 (row .reached) (row .counted) (some .1) (λ regular. never (inl regular)) (λ steel. never (inr steel)))
+        (λ full.
+        rw (padded-parts c ps (sym (row .counted))) (record {
+          reached = row .reached;
+          counted = row .counted;
+          all-wound = λ r below. tallied-wound w ps r (row .so-far r) (every-below (wound w) (c .relays) r full below);
+        }))
 
   -- ---- a board
 
@@ -234,4 +244,4 @@ module _ (e : Edition) (known : Known e) (s : List ℕ) where
       count-most e 0 mostRelays s (counts .relays-at) (c .value .relays) (counts .buttons-at) (counts .relays) in
       leads-then (LineHolds e s) _ _ (partsAt e (c .value) (c .value .parts) noneWound s (c .next)) _
       (parts-lead (c .value) few (c .value .parts) [] noneWound (c .next) tallied-none start (omega arith))
-      (λ ps _ so. rw (padded-parts (c .value) (ps .value) (sym (so .counted))) so))
+      (λ ps _ row. end-leads (c .value) few (ps .value) (gainedAll noneWound (ps .value)) (ps .next) row))

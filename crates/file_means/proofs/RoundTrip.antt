@@ -10,10 +10,9 @@ use borrow.Author.Tests.{le-leb}
 use Rattle.refusals.specs.Outcomes.{Outcome, given}
 use Rattle.board.specs.declared.Board.{Board}
 use Rattle.board.specs.Parts.{mostParts, partsOf}
-use Rattle.board.specs.Rules.{boardFine, countsFine}
-use Rattle.bits.proofs.BoolLaws.{both-true}
+use Rattle.board.specs.Rules.{boardFine}
 use Rattle.board.proofs.PaddedLaws.{padded-parts}
-use Rattle.board.proofs.RuleLaws.{counts-in-range}
+use Rattle.board.proofs.FineLaws.{fine-range}
 use Rattle.board_reader.specs.Editions.{currentEdition}
 use Rattle.board_reader.specs.Reading.{boardOf, longestInput, answered, reading}
 use Rattle.board_reader.proofs.EditionLaws.{current-known}
@@ -46,9 +45,8 @@ module _ (b : Board) (rest : List ℕ) (n : ℕ) (places : length (b .parts) ≡
 -- the board that is read has the parts that were written
 parts-again : (b : Board) → length (b .parts) ≡ mostParts → boardFine b ≡ true
     → partsOf b ≡ partsOf (boardOf (b .counts) (partsOf b))
-unfolding boardFine
 parts-again b places fine =
-    let range = counts-in-range (b .counts) (both-true (countsFine (b .counts)) _ fine .0) in
+    let range = fine-range b fine in
     let counted : length (partsOf b) ≡ b .counts .parts =
     length-take-le (b .counts .parts) (b .parts) (omega (arith, range .most-parts)) in
     sym (padded-parts (b .counts) (partsOf b) (sym counted))

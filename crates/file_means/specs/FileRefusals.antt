@@ -37,7 +37,7 @@ use Rattle.refusals.specs.Outcomes.{refused, given, found}
 use Rattle.refusals.specs.Refusals.{inputEnds, badForm, outOfRange, noSuchKind, noSuchTerminal, endsEqual, noSuchName}
 use Rattle.refusals.specs.Refusals.{windingTaken, windingLacking, inputTooLong}
 use Rattle.number.specs.Numbers.{numberAt}
-use Rattle.kinds.specs.Kinds.{buttonKind, regularKind, drawingKind, droppingKind, kindOf}
+use Rattle.kinds.specs.Kinds.{wireKind, buttonKind, regularKind, drawingKind, droppingKind, kindOf}
 use Rattle.kinds.specs.declared.Kind.the-variants.{Wire, Button}
 use Rattle.board.specs.declared.Counts.{Counts}
 use Rattle.board.specs.declared.Part.{Part}
@@ -74,7 +74,7 @@ NumberWanted (at-C t r b) = Unit {0}
 NumberWanted (at-part c ps) = length ps < c .parts
 NumberWanted (at-first c ps k) = Unit {0}
 NumberWanted (at-second c ps k a) = Unit {0}
-NumberWanted (at-name c ps k a b) = ¬ (k ≡ 0)
+NumberWanted (at-name c ps k a b) = ¬ (k ≡ wireKind)
 
 pub data Reached (e : Edition) (s : List ℕ) : FileStage → ℕ → Type 0 where
   start : Reached e s at-T 0
@@ -92,12 +92,12 @@ pub data Reached (e : Edition) (s : List ℕ) : FileStage → ℕ → Type 0 whe
       → a < c .terminals → Reached e s (at-second c ps k a) next
   second-fine : {c : Counts} {ps : List Part} {k a b p next : ℕ} → Reached e s (at-second c ps k a) p
       → StandsAt e s p b next → b < c .terminals → ¬ (a ≡ b) → Reached e s (at-name c ps k a b) next
-  wire-fine : {c : Counts} {ps : List Part} {a b p : ℕ} → Reached e s (at-name c ps 0 a b) p
+  wire-fine : {c : Counts} {ps : List Part} {a b p : ℕ} → Reached e s (at-name c ps wireKind a b) p
       → Reached e s (at-part c (ps ++ (record { a = a; b = b; kind = Wire } ∷ []))) p
   button-fine : {c : Counts} {ps : List Part} {a b v p next : ℕ} → Reached e s (at-name c ps buttonKind a b) p
       → StandsAt e s p v next → v < c .buttons
       → Reached e s (at-part c (ps ++ (record { a = a; b = b; kind = Button v } ∷ []))) next
-  relay-fine : {c : Counts} {ps : List Part} {k a b v p next : ℕ} → Reached e s (at-name c ps k a b) p → ¬ (k ≡ 0)
+  relay-fine : {c : Counts} {ps : List Part} {k a b v p next : ℕ} → Reached e s (at-name c ps k a b) p → ¬ (k ≡ wireKind)
       → ¬ (k ≡ buttonKind) → StandsAt e s p v next → v < c .relays → ¬ Taken v ps k
       → Reached e s (at-part c (ps ++ (record { a = a; b = b; kind = kindOf k v } ∷ []))) next
 

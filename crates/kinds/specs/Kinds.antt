@@ -1,22 +1,34 @@
--- What a kind of part is. Rule book, "Parts of a board": the table of kinds.
---     buttonKind        the number of the kind that carries a button
---     regularKind       the number of a regular relay's winding
---     drawingKind       the number of a steel-core relay's drawing winding
---     droppingKind      the number of a steel-core relay's dropping winding
---     lastKind          the highest kind number
---     kindNumber k      the number of a kind in the rule book's table
---     nameOf k          the relay or button that a kind carries; 0 for a wire, which carries none
---     kindOf k n        the kind of number k that carries n; above the last kind there is none (4), and it is taken for
---                       a dropping winding
---     KindOf k n r      promise: `Kind::of` the number k and the name n answers r
---     KindNumber k r    promise: `number` of kind k answers r
---     KindName k r      promise: `name` of kind k answers r
-use Prim.Native.Nat.{ℕ}
+-- What a kind of part is. Rule book, "Parts of a board": the table of kinds. Whatever goes by a kind's number, its
+-- fields or the relay or button among them goes by these.
+--     wireKind              the number of a wire, the kind that carries no relay or button
+--     buttonKind            the number of the kind that carries a button
+--     regularKind           the number of a regular relay's winding
+--     drawingKind           the number of a steel-core relay's drawing winding
+--     droppingKind          the number of a steel-core relay's dropping winding
+--     lastKind              the highest kind number
+--     kindNumber k          the number of a kind in the rule book's table
+--     nameOf k              the relay or button that a kind carries; 0 for a wire, which carries none
+--     kindOf k n            the kind of number k that carries n; above the last kind there is none (4), and it is taken
+--                           for a dropping winding
+--     fields k a b          the fields that the table gives a part of kind k on the terminals a and b, in its order
+--     mostFields            the most fields that a part has
+--     inPlaces vs           numbers in the first of as many places, the unused ones 0
+--     KindOf k n r          promise: `Kind::of` the number k and the name n answers r
+--     KindNumber k r        promise: `number` of kind k answers r
+--     KindName k r          promise: `name` of kind k answers r
+--     KindFields k a b r    promise: `fields` of kind k on the terminals a and b answers r
+use Prim.Native.Nat.{ℕ, _-_}
 use mathlib.Core.Path.{_≡_}
 use mathlib.Core.Bool.{cond}
+use mathlib.Core.List.{List, [], _∷_, _++_}
 use lib.Dec.{eqb}
+use lib.ListN.{length, replicate}
 use Rattle.kinds.specs.declared.Kind.{Kind}
+use Rattle.kinds.specs.declared.Fields.{Fields}
 use Rattle.kinds.specs.declared.Kind.the-variants.{Wire, Upper, Lower, Button, Regular, Drawing, Dropping}
+
+abbrev pub wireKind : ℕ
+wireKind = 0
 
 abbrev pub buttonKind : ℕ
 buttonKind = 3
@@ -34,7 +46,7 @@ abbrev pub lastKind : ℕ
 lastKind = droppingKind
 
 abbrev pub kindNumber : Kind → ℕ
-kindNumber Wire = 0
+kindNumber Wire = wireKind
 kindNumber (Upper r) = 1
 kindNumber (Lower r) = 2
 kindNumber (Button b) = buttonKind
@@ -53,13 +65,28 @@ nameOf (Dropping r) = r
 
 unfoldable pub kindOf : ℕ → ℕ → Kind
 kindOf k n =
-    cond (eqb k 0) Wire
+    cond (eqb k wireKind) Wire
     (cond (eqb k 1) (Upper n)
     (cond (eqb k 2) (Lower n)
     (cond (eqb k buttonKind) (Button n)
     (cond (eqb k regularKind) (Regular n)
     (cond (eqb k drawingKind) (Drawing n)
     (Dropping n))))))
+
+abbrev pub fields : Kind → ℕ → ℕ → List ℕ
+fields Wire a b = a ∷ b ∷ []
+fields (Upper r) a b = a ∷ b ∷ r ∷ []
+fields (Lower r) a b = a ∷ b ∷ r ∷ []
+fields (Button n) a b = a ∷ b ∷ n ∷ []
+fields (Regular r) a b = a ∷ b ∷ r ∷ []
+fields (Drawing r) a b = a ∷ b ∷ r ∷ []
+fields (Dropping r) a b = a ∷ b ∷ r ∷ []
+
+abbrev pub mostFields : ℕ
+mostFields = 3
+
+abbrev pub inPlaces : List ℕ → Fields
+inPlaces vs = record { count = length vs; numbers = vs ++ replicate (mostFields - length vs) 0 }
 
 abbrev pub KindOf : ℕ → ℕ → Kind → Type 0
 KindOf k n r = r ≡ kindOf k n
@@ -69,3 +96,6 @@ KindNumber k r = r ≡ kindNumber k
 
 abbrev pub KindName : Kind → ℕ → Type 0
 KindName k r = r ≡ nameOf k
+
+abbrev pub KindFields : Kind → ℕ → ℕ → Fields → Type 0
+KindFields k a b r = r ≡ inPlaces (fields k a b)

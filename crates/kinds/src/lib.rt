@@ -1,5 +1,7 @@
-// What a kind of part is, with its number and the relay or button that it carries.
-ghost use Rattle.kinds.specs.Kinds.{KindOf, KindNumber, KindName};
+// The rule book's table of kinds: what a kind of part is, its number, the relay or button that it carries, and its fields.
+ghost use mathlib.Core.Path.{_≡_};
+ghost use mathlib.Core.List.{[], _∷_};
+ghost use Rattle.kinds.specs.Kinds.{inPlaces, KindOf, KindNumber, KindName, KindFields};
 
 // The kinds of part in the order of the rule book's table, each with its relay or button.
 pub enum Kind {
@@ -12,7 +14,10 @@ pub enum Kind {
     Dropping(u8),
 }
 
-// The numbers of the kinds that rules speak of, and the highest kind number.
+// The numbers of the kinds that rules speak of, a wire's among them, which carries no relay or button; and the highest
+// kind number.
+pub const WIRE_KIND: u32 = 0;
+
 pub const BUTTON_KIND: u32 = 3;
 
 pub const REGULAR_KIND: u32 = 4;
@@ -22,6 +27,34 @@ pub const DRAWING_KIND: u32 = 5;
 pub const DROPPING_KIND: u32 = 6;
 
 pub const LAST_KIND: u32 = 6;
+
+// A part's fields in the table's order: the first `count` of the numbers. The unused places are 0.
+pub struct Fields {
+    pub count: usize,
+    pub numbers: [u8; 3],
+}
+
+impl Fields {
+    // Two fields.
+    fn two(a: u8, b: u8) -> Self
+        ensures { λ r. ⌜ r ≡ inPlaces (a ∷ b ∷ []) ⌝ }
+    {
+        Fields {
+            count: 2,
+            numbers: [a, b, 0],
+        }
+    }
+
+    // Three fields.
+    fn three(a: u8, b: u8, name: u8) -> Self
+        ensures { λ r. ⌜ r ≡ inPlaces (a ∷ b ∷ name ∷ []) ⌝ }
+    {
+        Fields {
+            count: 3,
+            numbers: [a, b, name],
+        }
+    }
+}
 
 impl Kind {
     // The kind of this number, up to 6, that carries a relay or button.
@@ -44,7 +77,7 @@ impl Kind {
         ensures { λ r. ⌜ KindNumber self r ⌝ }
     {
         match self {
-            Kind::Wire => 0,
+            Kind::Wire => WIRE_KIND,
             Kind::Upper(_) => 1,
             Kind::Lower(_) => 2,
             Kind::Button(_) => BUTTON_KIND,
@@ -66,6 +99,20 @@ impl Kind {
             Kind::Regular(relay) => relay,
             Kind::Drawing(relay) => relay,
             Kind::Dropping(relay) => relay,
+        }
+    }
+    // The fields that the table gives a part of this kind on the terminals a and b.
+    pub fn fields(self, a: u8, b: u8) -> Fields
+        ensures { λ r. ⌜ KindFields self a b r ⌝ }
+    {
+        match self {
+            Kind::Wire => Fields::two(a, b),
+            Kind::Upper(relay) => Fields::three(a, b, relay),
+            Kind::Lower(relay) => Fields::three(a, b, relay),
+            Kind::Button(button) => Fields::three(a, b, button),
+            Kind::Regular(relay) => Fields::three(a, b, relay),
+            Kind::Drawing(relay) => Fields::three(a, b, relay),
+            Kind::Dropping(relay) => Fields::three(a, b, relay),
         }
     }
 }

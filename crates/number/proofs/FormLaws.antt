@@ -220,12 +220,3 @@ encode-short (suc j) (suc k) v h =
     by-less v 128
     (λ l. rw (encode-last k v l) (omega arith))
     (λ m. rw (encode-more k v m) (omega (arith, encode-short j k (v / 128) (omega arith))))
-
--- a value that j groups do not hold is written in more than j bytes
-pub encode-long : (j k v : ℕ) → j < k → 128 ^ j ≤ v → j < length (encode k v)
-encode-long j zero v l h = absurd (omega arith)
-encode-long zero (suc k) v l h = encode-some (suc k) v l
-encode-long (suc j) (suc k) v l h =
-    let m : 128 ≤ v = omega (arith, one-le-pow j 128 (omega arith)) in
-    rw (encode-more k v m)
-    (omega (arith, encode-long j k (v / 128) (omega arith) (omega arith)))

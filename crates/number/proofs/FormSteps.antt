@@ -87,6 +87,23 @@ form-bounds most left at s h l f r v n is =
       within = omega (arith, w, length-drop at s);
     }
 
+-- ---- counting groups
+
+pub count-none : (left v : ℕ) → left ≡ 0 → 0 ≡ length (encode left v)
+unfolding encode
+count-none zero v none = refl
+count-none (suc k) v none = absurd (omega arith)
+
+pub count-last : (left v : ℕ) → (left ≡ 0 → ⊥) → v / 128 ≡ 0 → 1 ≡ length (encode left v)
+count-last zero v some last = absurd (some refl)
+count-last (suc k) v some last = rw (encode-last k v (omega arith))
+
+pub count-more : (left v n : ℕ) → (left ≡ 0 → ⊥) → (v / 128 ≡ 0 → ⊥) → n ≡ length (encode (left - 1) (v / 128))
+    → 1 + n ≡ length (encode left v)
+count-more zero v n some more rest = absurd (some refl)
+count-more (suc k) v n some more rest =
+    rw (encode-more k v (omega (arith, more))) (omega (arith, rw (suc-sub-suc, sub-zero) at rest))
+
 -- ---- writing
 
 pub encode-one : (left v : ℕ) (l : List ℕ) (at : ℕ) → 0 < left → v < 128 → set l at v ≡ sets l at (encode left v)

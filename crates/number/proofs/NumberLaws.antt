@@ -34,7 +34,7 @@ use Rattle.refusals.proofs.Told.{Told, answerOf, given-or-refused}
 use Rattle.number.proofs.FormLaws.{FormRead, Bytes-slice, Bytes-drop, form-written, form-read, form-within}
 use Rattle.number.proofs.FormLaws.{form-no-further}
 use Rattle.number.proofs.Buffers.{take-drop}
-use Rattle.number.proofs.FormLaws.{encode-last, encode-some, encode-few, encode-short, encode-long}
+use Rattle.number.proofs.FormLaws.{encode-last, encode-some, encode-few, encode-short}
 
 -- ---- outcomes
 
@@ -216,20 +216,6 @@ number-bytes-one v h = encode-last _ v h
 pub number-bytes-length-two : (v : ℕ) → v < 16384 → length (numberBytes v) ≤ 2
 unfolding numberBytes
 number-bytes-length-two v h = encode-short 1 (currentWidth .longest) v h
-
--- the length, by the limits that it steps at
-pub number-length-one : (v : ℕ) → v < 128 → 1 ≡ length (numberBytes v)
-number-length-one v h = sym (ap length (number-bytes-one v h))
-
-pub number-length-two : (v : ℕ) → 128 ≤ v → v < 16384 → 2 ≡ length (numberBytes v)
-unfolding numberBytes
-number-length-two v h l =
-    omega (arith, encode-long 1 (currentWidth .longest) v (omega arith) h, encode-short 1 (currentWidth .longest) v l)
-
-pub number-length-three : (v : ℕ) → 16384 ≤ v → 3 ≡ length (numberBytes v)
-unfolding numberBytes
-number-length-three v h =
-    omega (arith, encode-long 2 (currentWidth .longest) v (omega arith) h, encode-few (currentWidth .longest) v)
 
 -- ---- what writing a number does to a buffer
 

@@ -23,15 +23,15 @@ pub enum NumberWritten {
     Refused(Refusal),
 }
 
-// What some bytes are as a number: its value and how many bytes it takes; cut; or no number. The value has room for
-// every group that a number's bytes can have, though not each of them is a number.
+// What some bytes are as a number: what they are worth, with room for five groups of seven bits, and how many they are;
+// cut; or no number.
 enum Form {
     Got(u64, usize),
     Ends,
     Bad,
 }
 
-// The longest form, in bytes, and the largest value.
+// The current width: the longest form, in bytes, and the largest value.
 const LONGEST: usize = 3;
 
 const LARGEST: u32 = 2_097_151;
@@ -78,17 +78,26 @@ pub fn read_number(s: &[u8], at: usize) -> Number
     }
 }
 
-// How many bytes a number's shortest form has. What is above the largest number has none, and 3 is answered.
+// How many bytes a value's groups have, of which at most `left` are left.
+fn count_groups(value: u32, left: usize) -> usize
+    requires { ⌜ left ≤ currentWidth .longest ⌝ }
+    ensures { λ r. ⌜ r ≡ length (encode left value) ⌝ }
+{
+    if left == 0 {
+        return 0;
+    }
+    let more = value / 128;
+    if more == 0 {
+        return 1;
+    }
+    1 + count_groups(more, left - 1)
+}
+
+// How many bytes a number's shortest form has. What is above the largest number has none, and the longest is answered.
 pub fn number_length(value: u32) -> usize
     ensures { λ r. ⌜ NumberLength value r ⌝ }
 {
-    if value < 128 {
-        1
-    } else if value < 16_384 {
-        2
-    } else {
-        3
-    }
+    count_groups(value, LONGEST)
 }
 
 // Writes a value's groups, of which at most `left` are left, at a place where they have room.

@@ -1,28 +1,43 @@
--- `board::check` meets its contract: the counts first, and within their ranges the parts.
+-- `board::check` meets its contract: the counts first, within their ranges the parts, and after the last part 9.
 use borrow.Author.Needs.{needs}
 use Rattle.board.proofs.check.Statement.{statement}
 use Rattle.board.proofs.check.Tie as tie
-use mathlib.Core.Path.{sym, _∙_}
+use mathlib.Core.Path.{_≡_, sym, ap, _∙_}
+use mathlib.Core.Bool.{true}
 use borrow.Author.Tests.{not-true, not-false}
-use Rattle.board.specs.Rules.{boardFine}
+use Rattle.board.specs.Rules.{countsFine, toldRow}
 use Rattle.board.proofs.RuleLaws.{counts-in-range}
+use Rattle.board.proofs.FineLaws.{check-counts, check-row, check-whole}
 
-parts-fine-requires : tie.Need-parts-fine-requires
-parts-fine-requires c κs =
-    counts-in-range _ (sym (c .before .before .counts-fine .ensures) ∙ not-false _ (c .before .if1 .left)) .most-parts
+-- past the first test the counts are in range
+in-range : (e : tie.Else1) → countsFine (e .before .before .before .args .board .counts) ≡ true
+in-range e = sym (e .before .counts-fine .ensures) ∙ not-false _ (e .if1 .left)
 
 returns-2 : tie.Need-returns-2
-unfolding boardFine
 returns-2 c =
-    let at-if1 = c .before .before in
-    simp (c .parts-fine .ensures, sym (at-if1 .before .counts-fine .ensures) ∙ not-false _ (at-if1 .if1 .left))
+    let called = c .before .before in
+    let none = called .before in
+    check-row _ (in-range (none .before .before)) (none .none .ensures)
+    (sym (ap toldRow (c .enum-told .given .1)) ∙ called .parts-fine .ensures)
+
+returns-3 : tie.Need-returns-3
+returns-3 c =
+    let row = c .before .before in
+    let called = row .before .before in
+    let none = called .before in
+    c .complete .ensures
+    ∙ check-whole _ (in-range (none .before .before)) (none .none .ensures)
+    (sym (ap toldRow (row .row .given .1)) ∙ called .parts-fine .ensures)
 
 pub check-spec : {M : Type 1} → statement M
-unfolding boardFine
 check-spec =
     tie.close
     (tie.spec
     (λ c κs. search needs)
-    (λ c. simp (sym (c .before .counts-fine .ensures) ∙ not-true _ (c .if1 .taken)))
-    parts-fine-requires
-    returns-2)
+    (λ c. check-counts _ (sym (c .before .counts-fine .ensures) ∙ not-true _ (c .if1 .taken)))
+    (λ c κs. search needs)
+    (λ c κs. counts-in-range _ (in-range (c .before .before)) .most-parts)
+    (λ c. search needs) (λ c. search needs)
+    returns-2
+    (λ c κs. search needs)
+    returns-3)

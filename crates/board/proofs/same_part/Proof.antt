@@ -1,42 +1,33 @@
--- `board::same_part` meets its contract: its tests are those of `samePart`, in that order.
+-- `board::same_part` meets its contract: the kinds' numbers first, and then the fields decide.
 use borrow.Author.Needs.{needs}
 use Rattle.board.proofs.same_part.Statement.{statement}
 use Rattle.board.proofs.same_part.Tie as tie
 use mathlib.Core.Path.{sym, _∙_}
-use borrow.Author.Tests.{eq-eqb, ne-eqb}
-use Rattle.board.specs.Same.{samePart, sameKind}
+use Rattle.board.proofs.SameLaws.{kinds-differ, fields-decide, fields-room}
 
-returns-3 : tie.Need-returns-3
-unfolding samePart sameKind
-returns-3 c =
-    let at-if2 = c .before .before .before in
-    simp (
-      eq-eqb _ _ (at-if2 .before .before .before .if1 .left),
-      eq-eqb _ _ (at-if2 .if2 .left),
-      ne-eqb _ _ (λ e. c .if3 .taken (c .before .before .number .ensures ∙ e ∙ sym (c .before .number2 .ensures))),
-    )
+returns : tie.Need-returns
+returns c =
+    kinds-differ _ _ (λ e. c .if1 .taken (c .before .before .number .ensures ∙ e ∙ sym (c .before .number2 .ensures)))
 
-returns-4 : tie.Need-returns-4
-unfolding samePart sameKind
-returns-4 c =
-    let at-if3 = c .before .before in
-    let at-if2 = at-if3 .before .before .before in
-    simp (
-      c .before .name .ensures,
-      c .name2 .ensures,
-      eq-eqb _ _ (at-if2 .before .before .before .if1 .left),
-      eq-eqb _ _ (at-if2 .if2 .left),
-      eq-eqb _ _ (sym (at-if3 .before .before .number .ensures) ∙ at-if3 .if3 .left ∙ at-if3 .before .number2 .ensures),
-    )
+returns-2 : tie.Need-returns-2
+returns-2 c =
+    let at-if1 = c .before .before .before in
+    c .same-fields .ensures
+    ∙ fields-decide _ _
+    (sym (at-if1 .before .before .number .ensures) ∙ at-if1 .if1 .left ∙ at-if1 .before .number2 .ensures)
+    (c .before .before .fields .ensures) (c .before .fields2 .ensures)
+
+same-fields-requires : tie.Need-same-fields-requires
+same-fields-requires c κs =
+    let entry = c .before .before .before .before .before in
+    (fields-room (entry .args .x) (c .before .fields .ensures), fields-room (entry .args .y) (c .fields2 .ensures))
 
 pub same-part-spec : {M : Type 1} → statement M
-unfolding samePart
 same-part-spec =
     tie.close
     (tie.spec
-    (λ c. simp (ne-eqb _ _ (c .if1 .taken)))
-    (λ c. simp (eq-eqb _ _ (c .before .before .before .if1 .left), ne-eqb _ _ (c .if2 .taken)))
     (λ c κs. search needs) (λ c κs. search needs)
-    returns-3
+    returns
     (λ c κs. search needs) (λ c κs. search needs)
-    returns-4)
+    same-fields-requires
+    returns-2)

@@ -7,8 +7,8 @@ use Prim.Native.Nat.{_≤_, _-_}
 use mathlib.Core.Path.{_≡_, refl, sym, _∙_}
 use borrow.Author.Tests.{not-true, not-false}
 use lib.ListN.{length, take, drop}
-use Rattle.board.specs.Parts.{mostParts}
-use Rattle.board.specs.Same.{sameParts}
+use Rattle.board.specs.Parts.{mostParts, blank}
+use Rattle.board.specs.Same.{samePart, sameParts}
 use Rattle.board.proofs.SameLaws.{same-walk-off, same-walk-on, same-walk-end}
 
 abbrev Inv-loop : tie.InvT-loop
@@ -21,7 +21,7 @@ abbrev μ-loop : tie.MeasureT-loop
 
 returns : tie.Need-returns Inv-loop μ-loop
 returns c =
-    same-walk-off _ _ _ _ _ (omega arith) (omega arith) (c .before .before .before .before .before .loop .inv .4)
+    same-walk-off samePart blank _ _ _ _ _ (omega arith) (omega arith) (c .before .before .before .before .before .loop .inv .4)
     (c .before .before .before .before .loop-test .taken)
     (sym (c .before .same-part .ensures) ∙ not-true _ (c .if1 .taken))
 
@@ -32,7 +32,7 @@ loop-again c =
       at-loop .loop .inv .1,
       at-loop .loop .inv .2,
       omega arith,
-      same-walk-on _ _ _ _ _
+      same-walk-on samePart blank _ _ _ _ _
           (omega arith) (omega arith) (at-loop .loop .inv .4) (c .before .before .before .before .loop-test .taken)
           (sym (c .before .same-part .ensures) ∙ not-false _ (c .if1 .left)),
     )
@@ -48,4 +48,4 @@ same-parts-spec =
     returns
     (λ c. omega arith) (λ c. omega arith)
     loop-again
-    (λ c. same-walk-end _ _ _ _ _ (omega arith) (omega arith) (c .before .loop .inv .4) (c .loop-test .left)))
+    (λ c. same-walk-end samePart blank _ _ _ _ _ (omega arith) (omega arith) (c .before .loop .inv .4) (c .loop-test .left)))

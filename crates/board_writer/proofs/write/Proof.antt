@@ -7,7 +7,8 @@ use mathlib.Core.Bool.{true}
 use mathlib.Core.Path.{_≡_, sym, _∙_}
 use borrow.Author.Tests.{not-true, not-false}
 use Rattle.board.specs.Rules.{boardFine}
-use Rattle.board_writer.proofs.WriteLaws.{board-in-range, writing-broken, writing-short, counts-room, parts-room}
+use Rattle.board.proofs.FineLaws.{fine-range}
+use Rattle.board_writer.proofs.WriteLaws.{writing-broken, writing-short, counts-room, parts-room}
 use Rattle.board_writer.proofs.WriteLaws.{writing-whole}
 
 -- past the first test the board breaks no rule
@@ -23,10 +24,10 @@ returns c =
     (c .refuse .ensures)
 
 counts-length-requires : tie.Need-counts-length-requires
-counts-length-requires c κs = board-in-range _ (fine (c .before .before)) .most-parts
+counts-length-requires c κs = fine-range _ (fine (c .before .before)) .most-parts
 
 parts-length-requires : tie.Need-parts-length-requires
-parts-length-requires c κs = board-in-range _ (fine (c .before .before .before)) .most-parts
+parts-length-requires c κs = fine-range _ (fine (c .before .before .before)) .most-parts
 
 returns-2 : tie.Need-returns-2
 returns-2 c =

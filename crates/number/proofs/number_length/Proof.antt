@@ -1,13 +1,12 @@
--- `number_length` steps at the limits at which a number's bytes become more.
+-- `number_length` counts the groups of a number of the longest form.
 use native.Mathlib.Omega.{arith}
-use Rattle.number.proofs.NumberLaws.{number-length-one, number-length-two, number-length-three}
+use Rattle.number.specs.Numbers.{numberBytes}
 use Rattle.number.proofs.number_length.Statement.{statement}
 use Rattle.number.proofs.number_length.Tie as tie
 
+returns : tie.Need-returns
+unfolding numberBytes
+returns c = c .count-groups .ensures
+
 pub number-length-spec : {M : Type 1} → statement M
-number-length-spec =
-    tie.close
-    (tie.spec
-    (λ c. number-length-one (c .before .args .value) (omega arith))
-    (λ c. number-length-two (c .before .before .args .value) (omega arith) (omega arith))
-    (λ c. number-length-three (c .before .before .args .value) (omega arith)))
+number-length-spec = tie.close (tie.spec (λ c κs. omega arith) returns)

@@ -5,10 +5,10 @@ use mathlib.Core.Path.{_≡_}
 use Prim.Native.Nat.{_-_, _≤_}
 use native.Mathlib.Omega.{arith}
 use lib.ListN.{length, take, drop}
-use Rattle.board.specs.Parts.{mostParts}
-use Rattle.board_writer.specs.File.{partsBytes}
+use Rattle.board.specs.Parts.{mostParts, blank}
+use Rattle.board_writer.specs.File.{partBytes, partsBytes}
 use Rattle.board_writer.proofs.PieceLaws.{ToCome, to-come-all, to-come-length}
-use Rattle.board_writer.proofs.WriteLaws.{part-room, part-put, parts-done}
+use Rattle.board_writer.proofs.WriteLaws.{row-room, row-put, row-written}
 
 abbrev Inv-loop : tie.InvT-loop
 Inv-loop count out₀ start parts at₀ i₀ out at i =
@@ -25,7 +25,7 @@ write-part-requires : tie.Need-write-part-requires Inv-loop μ-loop
 write-part-requires c κs =
     let at-loop = c .before .before .before in
     let entry = at-loop .before .before in
-    part-room (entry .args .t1) (entry .args .count) (at-loop .loop .i) (omega arith) (at-loop .loop .inv .3)
+    row-room partBytes blank (entry .args .t1) (entry .args .count) (at-loop .loop .i) (omega arith) (at-loop .loop .inv .3)
     (c .before .before .loop-test .taken)
 
 loop-again : tie.Need-loop-again Inv-loop μ-loop
@@ -35,7 +35,7 @@ loop-again c =
       at-loop .loop .inv .0,
       at-loop .loop .inv .1,
       omega arith,
-      part-put (entry .args .t1) (entry .args .count)
+      row-put partBytes blank (entry .args .t1) (entry .args .count)
           (at-loop .loop .i) (omega arith) (at-loop .loop .inv .3)
           (c .before .before .before .before .before .loop-test .taken) (c .before .before .write-part .ensures),
     )
@@ -46,8 +46,8 @@ same-length c = to-come-length (c .before .loop .inv .3)
 returns : tie.Need-returns Inv-loop μ-loop
 returns c =
     let entry = c .before .before .before in
-    parts-done (entry .args .t1) (entry .args .count) (c .before .loop .i) (omega arith) (c .before .loop .inv .3)
-    (c .loop-test .left)
+    row-written partBytes blank (entry .args .t1) (entry .args .count) (c .before .loop .i) (omega arith)
+    (c .before .loop .inv .3) (c .loop-test .left) .1
 
 pub write-parts-spec : {M : Type 1} → statement M
 write-parts-spec =

@@ -1,5 +1,5 @@
 -- `board_writer::lengths::parts_length` meets its contract. The invariant: the total and the bytes of the parts from i
--- on are all the bytes, and the total is at most 12 for each part passed.
+-- on are all the bytes, and the total is at most the longest part's for each part passed.
 use Rattle.board_writer.proofs.lengths.parts_length.Statement.{statement}
 use Rattle.board_writer.proofs.lengths.parts_length.Tie as tie
 use mathlib.Core.Path.{_≡_}
@@ -7,13 +7,13 @@ use Prim.Native.Nat.{_+_, _*_, _-_, _≤_}
 use native.Mathlib.Omega.{arith}
 use borrow.Author.Needs.{needs}
 use lib.ListN.{length, take, drop}
-use Rattle.board.specs.Parts.{mostParts}
-use Rattle.board_writer.specs.File.{partsBytes}
-use Rattle.board_writer.proofs.LengthLaws.{parts-length-on, parts-length-end}
+use Rattle.board.specs.Parts.{mostParts, blank}
+use Rattle.board_writer.specs.File.{partBytes, partsBytes, longestPart}
+use Rattle.board_writer.proofs.LengthLaws.{row-length-on, row-length-end}
 
 abbrev Inv-loop : tie.InvT-loop
 Inv-loop count parts total₀ i₀ total i =
-    (count ≤ mostParts) × (length parts ≡ mostParts) × (i ≤ count) × (total ≤ 12 * i)
+    (count ≤ mostParts) × (length parts ≡ mostParts) × (i ≤ count) × (total ≤ i * longestPart)
     × (total + length (partsBytes (drop i (take count parts))) ≡ length (partsBytes (take count parts)))
 
 abbrev μ-loop : tie.MeasureT-loop
@@ -30,7 +30,7 @@ loop-again c =
       at-loop .loop .inv .1,
       omega arith,
       omega arith,
-      parts-length-on (entry .args .t1)
+      row-length-on partBytes blank (entry .args .t1)
           (entry .args .count) (at-loop .loop .i) (omega arith) (at-loop .loop .total) (at-loop .loop .inv .4)
           (c .before .before .loop-test .taken) (c .part-length .ensures .0),
     )
@@ -38,7 +38,7 @@ loop-again c =
 returns : tie.Need-returns Inv-loop μ-loop
 returns c =
     let entry = c .before .before in (
-      parts-length-end (entry .args .t1) (entry .args .count) (c .before .loop .i) (omega arith)
+      row-length-end partBytes blank (entry .args .t1) (entry .args .count) (c .before .loop .i) (omega arith)
           (c .before .loop .total) (c .before .loop .inv .4) (c .loop-test .left),
       omega arith,
     )
