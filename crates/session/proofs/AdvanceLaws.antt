@@ -42,13 +42,15 @@ module _ (n : ℕ) (s : List ℕ) (at : ℕ) (x : Number) (read : ReadsNumber s 
       → refused noSuchName at ≡ eventAt currentEdition n s at
   unfolding eventAt
   event-at-no-name v next is beyond =
-      rw (wanted-fails currentEdition _ noSuchName s at v next (told-found _ x v next is read) (le-ltb (v / 2) n beyond))
+      let number = told-found _ x v next is read in
+      rw (wanted-fails currentEdition _ noSuchName s at v next number (le-ltb (v / 2) n beyond))
 
   pub event-at-found : (v next : ℕ) → x ≡ number-was.Read v next → v / 2 < n
       → found (eventOf v) next ≡ eventAt currentEdition n s at
   unfolding eventAt
   event-at-found v next is below =
-      rw (wanted-passes currentEdition _ noSuchName s at v next (told-found _ x v next is read) (lt-ltb (v / 2) n below))
+      let number = told-found _ x v next is read in
+      rw (wanted-passes currentEdition _ noSuchName s at v next number (lt-ltb (v / 2) n below))
 
 -- ---- the number of the next event
 

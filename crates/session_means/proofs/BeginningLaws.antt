@@ -31,7 +31,8 @@ begun-still (refused n p) s = refl
 pub beginning-still : (s : List ℕ) (z : Session) → Begins s z → stillIn z s ≡ sessionLines currentEdition s
 unfolding beginning sessionLines
 beginning-still s z begun =
-    ap (λ (x : carried.Session). still currentEdition (headOf x) (x .ahead) s) begun ∙ begun-still (headAt currentEdition s) s
+    ap (λ (x : carried.Session). still currentEdition (headOf x) (x .ahead) s) begun
+    ∙ begun-still (headAt currentEdition s) s
 
 long-refused : (s : List ℕ) → longestInput < length s → reading currentEdition s .1 ≡ refused inputTooLong 0
 unfolding answered
