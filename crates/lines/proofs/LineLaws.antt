@@ -15,7 +15,6 @@ use Rattle.refusals.specs.declared.Refusal.{Refusal}
 use Rattle.refusals.specs.Outcomes.{Outcome, given, refused}
 use Rattle.refusals.specs.Refusals.{bufferTooShort}
 use Rattle.refusals.specs.Order.{firstNo}
-use Rattle.refusals.proofs.OrderLaws.{StandsAgainst, answering-stands}
 use Rattle.number.proofs.Buffers.{sets-at-zero}
 use Rattle.runs.specs.declared.Ending as code-ending
 use Rattle.runs.specs.declared.Ending.the-variants.{Idle, Spent, Undecided, Conflict, Refused}
@@ -72,15 +71,6 @@ pub line-refused : (l : Line) (out : List ℕ) → length out < longestLine
     → _≡_ {A = Outcome ℕ × List ℕ} (lineWriting l out) (refused bufferTooShort 0, out)
 unfolding lineWriting
 line-refused l out short = rw (line-short out short)
-
--- what stands against writing a line; where it is refused, the buffer stays as it was
-pub line-writing-stands : (l : Line) (out : List ℕ)
-    → StandsAgainst (λ (x : Outcome ℕ × List ℕ). x .0) (λ x. x .1 ≡ out) (firstNo (lineLines out)) (lineWriting l out)
-unfolding lineWriting
-line-writing-stands l out =
-    answering-stands (λ (x : Outcome ℕ × List ℕ). x .0) (λ x. x .1 ≡ out) (λ n p. (refused n p, out))
-    (λ u. (given (length (lineText l)), lineText l ++ drop (length (lineText l)) out)) (λ n p. (refl, refl)) refl
-    (firstNo (lineLines out))
 
 -- a line that was put at the start is a line written
 pub line-put : (l : Line) (out : List ℕ) {r : ℕ} {out′ : List ℕ} → longestLine ≤ length out

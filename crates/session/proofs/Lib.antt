@@ -8,5 +8,4 @@ pub mod CallLaws
 pub mod FitLaws
 pub mod FillLaws
 pub mod FilledCalls
-pub mod HandedStands
 pub mod ToldLaws
