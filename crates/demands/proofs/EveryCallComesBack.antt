@@ -1,47 +1,71 @@
 -- Demand 1: what stands against each call, and what a refused call leaves.
 use Prim.Native.Nat.{ℕ}
-use mathlib.Core.Path.{_≡_, sym, ap, _∙_}
+use mathlib.Core.Path.{_≡_, sym, ap, subst, _∙_}
 use mathlib.Core.List.{List}
-use Rattle.refusals.specs.Outcomes.{Outcome, given, refused, _>>_}
+use Rattle.refusals.specs.Outcomes.{Outcome, refused}
+use Rattle.refusals.specs.Order.{against}
+use Rattle.refusals.proofs.OrderLaws.{StandsAgainst}
+use Rattle.refusals.proofs.Told.{told-injective}
 use Rattle.number.proofs.FormExactly.{form-exactly}
 use Rattle.board.specs.declared.Board.{Board}
-use Rattle.state.specs.declared.State.{State}
-use Rattle.state.specs.States.{isPushed}
 use Rattle.board.proofs.BreaksNoRule.{fifteen-exactly}
 use Rattle.state.proofs.Fourteen.{fourteen-exactly}
-use Rattle.presses.specs.Presses.{pressable, pushing, releasing}
-use Rattle.presses.proofs.PressLaws.{push-refused, release-refused}
+use Rattle.state.specs.declared.State.{State}
 use Rattle.board_reader.proofs.ReadLaws.{reading-refused}
-use Rattle.board_writer.proofs.FileLaws.{writing-refused}
-use Rattle.search.specs.Verdicts.{Verdict}
-use Rattle.judge.specs.Judging.{windingFor, judging}
-use Rattle.moves.specs.Steps.{Move, made, stepOf}
-use Rattle.moves.specs.Moving.{movable, moving}
-use Rattle.runs.specs.Running.{Ran, runnable, running}
+use Rattle.search.specs.Verdicts.{Finding, Verdict}
+use Rattle.moves.specs.Steps.{Move}
+use Rattle.runs.specs.Looks.{Ending}
+use Rattle.runs.specs.Running.{Ran}
 use Rattle.file_means.proofs.FileRefusals.{file-refused}
 use Rattle.judge_means.proofs.Eleven.{eleven-exactly}
 use Rattle.moves_means.proofs.SingleMoves.{move-eleven-exactly}
 use Rattle.lines.specs.Lines.{toldLine}
 use Rattle.events.specs.Events.{Shown}
 use Rattle.session.specs.Carried.{toldSession}
-use Rattle.session.specs.declared.Session.{Session}
+use Rattle.session.specs.HandingOut.{HandOut, Handed}
+use Rattle.session.specs.declared.Session as code-session
 use Rattle.session.specs.declared.Handed as code-handed
-use Rattle.session.specs.HandingOut.{Handed, toldHandOut, toldHanded}
-use Rattle.refusals.proofs.Told.{told-injective}
 use Rattle.session.proofs.ToldLaws.{session-told}
-use Rattle.demands.specs.EveryCallComesBack.{against, InOrder, AsLent, EveryCallComesBack}
-use Rattle.demands.specs.EveryCallComesBack.{wordOf}
-use Rattle.demands.proofs.FirstNoLaws.{runnable-first, movable-first, pressable-first, release-first}
-use Rattle.demands.proofs.FirstNoLaws.{winding-for-first, writing-stands, number-writing-stands}
-use Rattle.demands.proofs.FirstNoLaws.{line-text-stands}
-use Rattle.demands.proofs.RefusedLaws.{left-outcome, left-refused, against-then, nothing-written}
-use Rattle.demands.proofs.RefusedLaws.{verdict-against, verdict-refused, ran-against, ran-refused}
-use Rattle.demands.proofs.RefusedLaws.{next-line-stands, next-lines-stand}
+use Rattle.demands.specs.EveryCallComesBack.{InOrder, AsLent, EveryCallComesBack, wordOf}
+use Rattle.demands.proofs.StandsLaws.{writing-stands, number-writing-stands, line-writing-stands, nothing-written}
+use Rattle.demands.proofs.StandsLaws.{against-itself, push-stands, release-stands, move-stands, judge-stands}
+use Rattle.demands.proofs.StandsLaws.{run-stands, next-line-stands, next-lines-stand}
 use Rattle.demands.proofs.EventLineLaws.{ran-line-stands, event-line-stands, shown-untouched}
 use Rattle.demands.proofs.OneAnswer.{one-answer}
 
+-- what is told of an answer is x, and x is what stands against the call: so is it of the answer
+module _ {A R : Type 0} (word : R → Outcome A) {So : R → Type 0} {o : Outcome (Unit {0})} {x y : R} (told : y ≡ x)
+    (stands : StandsAgainst word So o x) where
+  told-first : against (word y) ≡ o
+  told-first = ap (λ (z : R). against (word z)) told ∙ stands .first
+
+  told-left : (n p : ℕ) → word y ≡ refused n p → So y
+  told-left n p is = subst So (sym told) (stands .left n p (sym (ap word told) ∙ is))
+
+-- ---- the two lines of the table for each call
+
+abbrev written : Outcome ℕ × List ℕ → Outcome ℕ
+written x = x .0
+
+abbrev pressed : State × Outcome (Unit {0}) → Outcome (Unit {0})
+pressed x = x .1
+
+abbrev moved : State × Outcome Move → Outcome Move
+moved x = x .1
+
+abbrev judged : Verdict → Outcome Finding
+judged v = v .finding
+
+abbrev ran : Ran → Outcome Ending
+ran x = x .word
+
+abbrev shown : Shown → Outcome Ending
+shown x = wordOf (x .0)
+
+abbrev handed : Handed → Outcome HandOut
+handed x = x .answer
+
 pub in-order : InOrder
-unfolding pushing releasing judging moving running
 in-order = record {
   reads = file-refused;
   forms = form-exactly;
@@ -49,100 +73,49 @@ in-order = record {
   eleven-moved = move-eleven-exactly;
   fourteen = fourteen-exactly;
   fifteen = fifteen-exactly;
-  writes-number =
-      λ v out out′ at x wrote. ap (λ (y : Outcome ℕ × List ℕ). against (y .0)) wrote
-      ∙ number-writing-stands v out at .first;
-  writes-line =
-      λ l out out′ x wrote. ap (λ (y : Outcome ℕ × List ℕ). against (y .0)) wrote
-      ∙ line-text-stands (toldLine l) out .first;
-  writes = λ b out out′ w wrote. ap (λ (x : Outcome ℕ × List ℕ). against (x .0)) wrote ∙ writing-stands b out .first;
-  pushes =
-      λ b s n x pressed. ap (λ (y : State × Outcome (Unit {0})). y .1) pressed
-      ∙ left-outcome s _ (pressable b s n (isPushed s n)) ∙ pressable-first b s n (isPushed s n);
-  releases =
-      λ b s n x pressed. ap (λ (y : State × Outcome (Unit {0})). y .1) pressed ∙ left-outcome s _ _
-      ∙ release-first b s n;
-  judges =
-      λ b s r k w v judged. ap (λ (j : Verdict). against (j .finding)) judged
-      ∙ verdict-against b s w (windingFor b s r k) ∙ winding-for-first b s r k;
-  moves =
-      λ b s r w a moved. ap (λ (y : State × Outcome Move). against (y .1)) moved
-      ∙ ap against (left-outcome s (made s r) (movable b s r >> given (stepOf b s r w)))
-      ∙ against-then (movable b s r) (stepOf b s r w) ∙ movable-first b s r;
-  runs =
-      λ b s w log log′ a ran. ap (λ (t : Ran). against (t .word)) ran ∙ ran-against b s w log (runnable b s log)
-      ∙ runnable-first b s log;
-  tells-run =
-      λ b e s w x told. ap (λ (y : Shown). against (wordOf (y .0))) told ∙ ran-line-stands b e w s .first;
-  tells-event =
-      λ b e s v w x told. ap (λ (y : Shown). against (wordOf (y .0))) told ∙ event-line-stands b s e w v .first;
-  hands =
-      λ z s out out′ r called. ap (λ (h : Handed). against (h .answer)) called
-      ∙ next-line-stands (toldSession z) out s .first;
-  hands-lines =
-      λ z s out out′ r called. ap (λ (h : Handed). against (h .answer)) called
-      ∙ next-lines-stand (toldSession z) out s .first;
+  writes-number = λ v out out′ at x wrote. told-first written wrote (number-writing-stands v out at);
+  writes-line = λ l out out′ x wrote. told-first written wrote (line-writing-stands (toldLine l) out);
+  writes = λ b out out′ w wrote. told-first written wrote (writing-stands b out);
+  pushes = λ b s n x press. sym (against-itself _) ∙ told-first pressed press (push-stands b s n);
+  releases = λ b s n x press. sym (against-itself _) ∙ told-first pressed press (release-stands b s n);
+  judges = λ b s r k w v told. told-first judged told (judge-stands b s r k w);
+  moves = λ b s r w a told. told-first moved told (move-stands b s r w);
+  runs = λ b s w log log′ a told. told-first ran told (run-stands b s log w);
+  tells-run = λ b e s w x told. told-first shown told (ran-line-stands b e w s);
+  tells-event = λ b e s v w x told. told-first shown told (event-line-stands b s e w v);
+  hands = λ z s out out′ r told. told-first handed told (next-line-stands (toldSession z) s out);
+  hands-lines = λ z s out out′ r told. told-first handed told (next-lines-stand (toldSession z) s out);
 }
 
--- a call that comes to h, and where h is refused leaves the session and the buffer as they were
-handed-as-lent : (z : Session) (out out′ : List ℕ) (r : code-handed.Handed) (n p : ℕ) (h : Handed)
-    → toldHanded r out′ ≡ h
-    → toldHandOut (r .answer) ≡ refused n p
-    → (h .answer ≡ refused n p → (h .session ≡ toldSession z) × (h .out ≡ out))
-    → (r .session ≡ z) × (out′ ≡ out)
-handed-as-lent z out out′ r n p h called told left =
-    let kept = left (sym (ap (λ (x : Handed). x .answer) called) ∙ told) in (
-      told-injective toldSession session-told (r .session) z (ap (λ (x : Handed). x .session) called ∙ kept .0),
-      ap (λ (x : Handed). x .out) called ∙ kept .1,
-    )
+-- a session that is told as z is z
+kept : (z : code-session.Session) (r : code-handed.Handed) (out out′ : List ℕ)
+    → (toldSession (r .session) ≡ toldSession z) × (out′ ≡ out) → (r .session ≡ z) × (out′ ≡ out)
+kept z r out out′ left = (told-injective toldSession session-told (r .session) z (left .0), left .1)
 
 pub as-lent : AsLent
-unfolding judging moving running
 as-lent = record {
   reads =
-      λ s r n p read told. reading-refused s (r .board) n p
+      λ s r n p read told. reading-refused _ s (r .board) n p
       (sym read ∙ ap {B = Board × Outcome ℕ} (λ o. (r .board, o)) told);
-  writes-number =
-      λ v out out′ at x n p wrote told. ap (λ (y : Outcome ℕ × List ℕ). y .1) wrote
-      ∙ number-writing-stands v out at .left n p (sym (ap (λ (y : Outcome ℕ × List ℕ). y .0) wrote) ∙ told);
-  writes-line =
-      λ l out out′ x n p wrote told. ap (λ (y : Outcome ℕ × List ℕ). y .1) wrote
-      ∙ line-text-stands (toldLine l) out .left n p
-      (sym (ap (λ (y : Outcome ℕ × List ℕ). y .0) wrote) ∙ told);
-  writes =
-      λ b out out′ w n p wrote told. (
-        writing-refused b out n p out′ (sym wrote ∙ ap {B = Outcome ℕ × List ℕ} (λ o. (o, out′)) told) .0,
-        nothing-written w n p told,
-      );
-  pushes =
-      λ b s k x n p pressed told. push-refused b s (x .state) k n p
-      (sym pressed ∙ ap {B = State × Outcome (Unit {0})} (λ o. (x .state, o)) told) .0;
-  releases =
-      λ b s k x n p pressed told. release-refused b s (x .state) k n p
-      (sym pressed ∙ ap {B = State × Outcome (Unit {0})} (λ o. (x .state, o)) told) .0;
-  judges = λ b s r k w v n p judged told.
-      let none =
-      judged ∙ verdict-refused b s w (windingFor b s r k) n p
-      (sym (ap (λ (j : Verdict). j .finding) judged) ∙ told) in (
-        ap (λ (j : Verdict). j .effort) none,
-        (ap (λ (j : Verdict). j .length) none, ap (λ (j : Verdict). j .places) none),
-      );
-  moves =
-      λ b s r w a n p moved told. ap (λ (y : State × Outcome Move). y .0) moved ∙ left-refused s (made s r) _ n p
-      (sym (ap (λ (y : State × Outcome Move). y .1) moved) ∙ told);
-  runs = λ b s w log log′ a n p ran told.
-      let none = ran ∙ ran-refused b s w log (runnable b s log) n p (sym (ap (λ (t : Ran). t .word) ran) ∙ told) in (
-        ap (λ (t : Ran). t .state) none,
-        (ap (λ (t : Ran). t .moves) none, (ap (λ (t : Ran). t .relay) none, ap (λ (t : Ran). t .log) none)),
-      );
-  tells-run = λ b e s w x n p shown word.
-      shown-untouched e s _ _ n p shown word (ran-line-stands b e w s .left n p);
-  tells-event = λ b e s v w x n p shown word.
-      shown-untouched e s _ _ n p shown word (event-line-stands b s e w v .left n p);
-  hands = λ z s out out′ r n p called told. handed-as-lent z out out′ r n p _ called told
-      (next-line-stands (toldSession z) out s .left n p);
-  hands-lines = λ z s out out′ r n p called told. handed-as-lent z out out′ r n p _ called told
-      (next-lines-stand (toldSession z) out s .left n p);
+  writes-number = λ v out out′ at x n p wrote is. told-left written wrote (number-writing-stands v out at) n p is;
+  writes-line = λ l out out′ x n p wrote is. told-left written wrote (line-writing-stands (toldLine l) out) n p is;
+  writes = λ b out out′ w n p wrote is. (
+    told-left written wrote (writing-stands b out) n p is,
+    nothing-written w n p is,
+  );
+  pushes = λ b s k x n p press is. told-left pressed press (push-stands b s k) n p is;
+  releases = λ b s k x n p press is. told-left pressed press (release-stands b s k) n p is;
+  judges = λ b s r k w v n p told is. told-left judged told (judge-stands b s r k w) n p is;
+  moves = λ b s r w a n p told is. told-left moved told (move-stands b s r w) n p is;
+  runs = λ b s w log log′ a n p told is. told-left ran told (run-stands b s log w) n p is;
+  tells-run = λ b e s w x n p told is.
+      shown-untouched e s _ n p (told-left shown told (ran-line-stands b e w s) n p is) is;
+  tells-event = λ b e s v w x n p told is.
+      shown-untouched e s _ n p (told-left shown told (event-line-stands b s e w v) n p is) is;
+  hands = λ z s out out′ r n p told is.
+      kept z r out out′ (told-left handed told (next-line-stands (toldSession z) s out) n p is);
+  hands-lines = λ z s out out′ r n p told is.
+      kept z r out out′ (told-left handed told (next-lines-stand (toldSession z) s out) n p is);
 }
 
 pub every-call-comes-back : EveryCallComesBack

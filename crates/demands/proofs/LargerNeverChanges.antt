@@ -3,13 +3,14 @@
 use Prim.Native.Nat.{_≤_}
 use mathlib.Core.Path.{refl}
 use mathlib.Core.List.{[], _∷_}
+use Rattle.refusals.specs.Order.{firstNo}
 use Rattle.bits.specs.Sets.{member, including, excluding, within}
 use Rattle.windings.specs.Windings.{every, complete}
 use Rattle.board.specs.Parts.{padded}
-use Rattle.board.specs.Rules.{inRange, countsFine, nameFine, partFits, partFine, partsFine, boardFine}
+use Rattle.board.specs.Rules.{inRange, countsFine, nameFine, partFits, partFine, gainedAll, partsFine, boardFine}
 use Rattle.board.specs.Sorts.{carries}
-use Rattle.state.specs.States.{freshState, stateFine, usable}
-use Rattle.neighbours.specs.Neighbours.{gathered, neighbours}
+use Rattle.state.specs.States.{freshState, stateFine}
+use Rattle.neighbours.specs.Neighbours.{setAt, tableFrom, setsAt, neighbours}
 use Rattle.chains.specs.ChainList.{isIn, canFollow, tries, beyond, chains, crosses, someCrosses, beside, shows}
 use Rattle.search.specs.declared.Winding.{Winding}
 use Rattle.search.specs.declared.Finding.{Finding}
@@ -17,7 +18,7 @@ use Rattle.search.specs.declared.Verdict.{Verdict}
 use Rattle.search.specs.Verdicts.{firstShown, effort, places, weighed, verdictBy, inSets}
 use Rattle.judge.specs.declared.Which.the-variants.{First}
 use Rattle.judge.specs.RelayWindings.{windingOf}
-use Rattle.judge.specs.Judging.{windingFor, judging, Judges}
+use Rattle.judge.specs.Judging.{judgedBy, windingFor, judging, Judges}
 use Rattle.judge_means.specs.Exactness.{Judge, Keeps, AcceptedWinding, IsLive, effortOf}
 use Rattle.judge_means.proofs.Exactness.{liveVerdict, deadVerdict, the-chains, effort-numbers, judges-keep}
 use Rattle.judge_means.proofs.Exactness.{live-exactly, dead-exactly, undecided-exactly, live-shows, dead-counts}
@@ -53,9 +54,10 @@ record H1 : Type 0 where
   fresh : Judges h1 freshState 0 First 100 (deadVerdict 1)
 
 h1-judged : H1
-unfolding member including excluding within every complete padded inRange countsFine nameFine partFits partFine
-    partsFine boardFine carries stateFine usable gathered neighbours isIn canFollow tries beyond chains crosses
-    someCrosses beside shows firstShown effort places weighed verdictBy inSets windingOf windingFor judging
+unfolding firstNo member including excluding within every complete padded inRange countsFine nameFine partFits
+    partFine gainedAll partsFine boardFine carries stateFine setAt tableFrom setsAt neighbours isIn canFollow tries
+    beyond chains crosses someCrosses beside shows firstShown effort places weighed verdictBy inSets windingOf
+    judgedBy windingFor judging
 h1-judged = record { pushed-taken = refl; fresh-taken = refl; pushed = refl; fresh = refl }
 
 pushed-live : IsLive h1 pushed0 ends × (effortOf h1 pushed0 ends ≤ 100)

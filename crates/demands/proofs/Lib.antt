@@ -1,6 +1,5 @@
 -- The theorems of the front page, each in a file of its statement's name, and the laws behind the first of them.
-pub mod FirstNoLaws
-pub mod RefusedLaws
+pub mod StandsLaws
 pub mod EventLineLaws
 pub mod EveryCallComesBack
 pub mod AsTheModelSays

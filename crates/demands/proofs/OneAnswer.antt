@@ -6,12 +6,13 @@ use mathlib.Core.Path.{_≡_, refl, sym, ap, _∙_}
 use mathlib.Core.List.{List}
 use Rattle.refusals.specs.Outcomes.{Outcome}
 use Rattle.refusals.proofs.Told.{Told, told-injective, ToldLent, told-lent-injective}
+use Rattle.refusals.proofs.OrderLaws.{against-told}
 use Rattle.number.proofs.NumberLaws.{number-told, number-written-told}
 use Rattle.presses.proofs.PressLaws.{pressed-told}
 use Rattle.board_reader.proofs.ToldLaws.{board-read-told}
 use Rattle.board_writer.proofs.FileLaws.{written-told}
 use Rattle.search.proofs.VerdictLaws.{verdict-told}
-use Rattle.judge.proofs.SoughtLaws.{sought-told}
+use Rattle.judge.proofs.SoughtLaws.{windings-told}
 use Rattle.moves.proofs.MovingLaws.{move-told, moved-told}
 use Rattle.runs.proofs.RunningLaws.{ran-told}
 use Rattle.lines.proofs.ToldLaws.{line-written-told}
@@ -62,6 +63,7 @@ one-answer = record {
   bits-lowest-from = λ s n. one-itself _;
   bits-all-below = λ s n. one-itself _;
   bits-wide = λ x byte. record { answer = x; allowed = (refl, byte); only = λ p q e f. e .0 ∙ sym (f .0) };
+  refusals-unless = λ a t n. one-told _ against-told _;
   number-read-number = λ s at. one-told _ number-told _;
   number-number-length = λ v. one-itself _;
   number-write-number = λ v out at. one-written _ number-written-told _;
@@ -83,7 +85,10 @@ one-answer = record {
   state-drop = λ s r. one-itself _;
   state-push = λ s n. one-itself _;
   state-release = λ s n. one-itself _;
+  state-is-drawn = λ s r. one-itself _;
+  state-is-pushed = λ s n. one-itself _;
   state-fits = λ s c. one-itself _;
+  state-usable = λ b s. one-told _ against-told _;
   presses-push = λ b s n. one-told _ pressed-told _;
   presses-release = λ b s n. one-told _ pressed-told _;
   board-reader-read = λ s. one-told _ board-read-told _;
@@ -91,9 +96,11 @@ one-answer = record {
   neighbours-conducts = λ k s. one-itself _;
   neighbours-neighbours = λ b s. one-itself _;
   search-search = λ near t v w. one-told _ verdict-told _;
-  judge-winding = λ b r k. one-told _ sought-told _;
+  judge-find-windings = λ b r. one-told _ windings-told _;
+  judge-judge-by = λ k t v w. one-told _ verdict-told _;
   judge-judge = λ b s r k w. one-told _ verdict-told _;
-  moves-step = λ near b s r w. one-told _ move-told _;
+  moves-decide = λ d f. one-told _ move-told _;
+  moves-step = λ k b s r w. one-told _ move-told _;
   moves-after = λ s r m. one-itself _;
   moves-move-relay = λ b s r w. one-told _ moved-told _;
   runs-run = λ b s log w. one-lent _ ran-told _;

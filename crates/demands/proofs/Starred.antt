@@ -1,26 +1,27 @@
 -- The table of specs/Starred.antt holds: what each call's promise says is computed from the definitions, and so is what
 -- a session prints.
 use mathlib.Core.Path.{refl}
+use Rattle.refusals.specs.Order.{firstNo}
 use Rattle.number.specs.Numbers.{below, form, placed, numberAt}
 use Rattle.kinds.specs.Kinds.{kindOf}
 use Rattle.bits.specs.Sets.{member, including, excluding, within}
 use Rattle.windings.specs.Windings.{every, complete}
 use Rattle.board.specs.Parts.{padded}
-use Rattle.board.specs.Rules.{inRange, countsFine, nameFine, partFits, partFine, partsFine, boardFine}
+use Rattle.board.specs.Rules.{inRange, countsFine, nameFine, partFits, partFine, gainedAll, partsFine, boardFine}
 use Rattle.board.specs.Sorts.{carries}
-use Rattle.state.specs.States.{stateFine, usable, left}
-use Rattle.presses.specs.Presses.{pressable, pushing, releasing}
+use Rattle.state.specs.States.{stateFine, left}
+use Rattle.presses.specs.Presses.{pushing, releasing}
 use Rattle.board_reader.specs.Reading.{wanted, countsAt, nameAt, partAt, partsAt, boardFrom, boardAt, answered, reading}
-use Rattle.neighbours.specs.Neighbours.{gathered, neighbours}
+use Rattle.neighbours.specs.Neighbours.{setAt, tableFrom, setsAt, neighbours}
 use Rattle.chains.specs.ChainList.{isIn, canFollow, tries, beyond, chains, crosses, someCrosses, beside, shows}
 use Rattle.search.specs.Verdicts.{firstShown, effort, places, weighed, verdictBy, inSets}
-use Rattle.judge.specs.RelayWindings.{windingOf}
-use Rattle.judge.specs.Judging.{windingFor, judging}
-use Rattle.moves.specs.Steps.{regularMove, steelMove, moveBy, findingOn, stepBy, stepOf}
+use Rattle.judge.specs.RelayWindings.{windingOf, windingsAt}
+use Rattle.judge.specs.Judging.{judgedBy, windingFor, judging}
+use Rattle.moves.specs.Steps.{regularMove, steelMove, decide, findingsOn, stepBy, stepOf}
 use Rattle.moves.specs.Moving.{movable, moving}
 use Rattle.runs.specs.Looks.{lookFrom}
 use Rattle.runs.specs.Runs.{runOf}
-use Rattle.runs.specs.Running.{runnable, ran, running}
+use Rattle.runs.specs.Running.{ran, running}
 use Rattle.lines.specs.Texts.{digitsOf, decimal}
 use Rattle.lines.specs.Lines.{lineText}
 use Rattle.events.specs.Events.{eventAt, pressing, ranLine, pressedLine, eventLine}
@@ -34,13 +35,13 @@ _&_ : {A B : Type 0} → A → B → A × B
 a & b = (a, b)
 
 pub starred-boards : Starred
-unfolding kindOf below form placed numberAt member including excluding within every complete padded inRange
-    countsFine nameFine partFits partFine partsFine boardFine carries stateFine usable left pressable pushing releasing
-    wanted countsAt nameAt partAt partsAt boardFrom boardAt answered reading gathered neighbours isIn canFollow
-    tries beyond chains crosses someCrosses beside shows firstShown effort places weighed verdictBy inSets windingOf
-    windingFor judging regularMove steelMove moveBy findingOn stepBy stepOf movable moving lookFrom runOf runnable
-    ran running digitsOf decimal lineText eventAt pressing ranLine pressedLine eventLine withAllowance headAt
-    linesFrom headLines sessionLines lineTexts printed sessionText
+unfolding firstNo kindOf below form placed numberAt member including excluding within every complete padded inRange
+    countsFine nameFine partFits partFine gainedAll partsFine boardFine carries stateFine left pushing releasing
+    wanted countsAt nameAt partAt partsAt boardFrom boardAt answered reading setAt tableFrom setsAt neighbours isIn
+    canFollow tries beyond chains crosses someCrosses beside shows firstShown effort places weighed verdictBy inSets
+    windingOf windingsAt judgedBy windingFor judging regularMove steelMove decide findingsOn stepBy stepOf movable
+    moving lookFrom runOf ran running digitsOf decimal lineText eventAt pressing ranLine pressedLine eventLine
+    withAllowance headAt linesFrom headLines sessionLines lineTexts printed sessionText
 starred-boards =
     (λ x told. told) & (λ a k told. told) & (λ v told. told) & (λ v told. told) & (λ v told. told)
     & (λ a k told. told) & (λ a k told. told) & (λ v told. told) & (λ v told. told) & (λ v told. told)

@@ -10,13 +10,10 @@
 --     "with the state as given and no byte of a lent log or output buffer written."
 --         `as-lent`
 -- The words:
---     against o                   what stands against a call that came to o: its refusal, or nothing
---     firstNo ls                  the first of these lines whose test fails, by its number at place 0, or nothing
---     isThere o                   whether o is something, and not none
---     numberLines .. lineLines    "Calls: 15, 14, 13, 11, 7, 12, 16, those that apply": the lines of each call in that
---                                 order, each a test that must hold and the number for no; `usableLines` are the two
---                                 that every call on a board and a state has first
---     pressLines b s v            those of the event v, which pushes or releases its button
+--     `numberLines` and the like  "Calls: 15, 14, 13, 11, 7, 12, 16, those that apply": each call is defined by its
+--                                 lines in that order, each a test that must hold and the number for no; `usableLines`
+--                                 are the two that every call on a board and a state has first. `firstNo` of them is
+--                                 the first whose test fails, by its number at place 0, or nothing
 --     wordOf l                    the word of the run that a line tells of, or what refused it
 --     InOrder                     what stands against each call is the first of its lines whose test fails; a file is
 --                                 refused exactly by the first line of the table that holds, from left to right, and
@@ -27,101 +24,51 @@
 --                                 refused run also 0 moves and relay 255, a refused judgement no verdict, effort 0 and
 --                                 length 0, a refused write 0 bytes written. Log and output buffer stay as lent."
 --     EveryCallComesBack          the demand
-use Prim.Native.Nat.{ℕ, _+_}
+use Prim.Native.Nat.{ℕ}
 use mathlib.Core.Path.{_≡_}
-use mathlib.Core.Bool.{Bool, true, false, not, cond}
-use mathlib.Core.List.{List, [], _∷_}
-use mathlib.Core.Option.{Option, none, some}
-use lib.Dec.{ltb, leb}
-use lib.ListN.{length}
-use Rattle.refusals.specs.Outcomes.{Outcome, given, refused}
-use Rattle.refusals.specs.Refusals.{badForm, noSuchName, noSuchWinding, alreadySo, logTooLong, stateBeyondBoard}
-use Rattle.refusals.specs.Refusals.{brokenBoard, bufferTooShort}
+use mathlib.Core.List.{List, []}
+use Rattle.refusals.specs.Outcomes.{Outcome, refused}
+use Rattle.refusals.specs.Order.{firstNo, against}
 use Rattle.number.specs.declared.NumberWritten.{NumberWritten}
-use Rattle.number.specs.Numbers.{largest, numberBytes, toldNumberWritten, WritesNumber}
+use Rattle.number.specs.Numbers.{numberLines, toldNumberWritten, WritesNumber}
 use Rattle.number.specs.FormExactly.{FormExactly}
 use Rattle.board.specs.declared.Board.{Board}
-use Rattle.board.specs.Parts.{partsOf, emptyBoard}
-use Rattle.board.specs.Rules.{boardFine}
+use Rattle.board.specs.Parts.{emptyBoard}
 use Rattle.board.specs.BreaksNoRule.{FifteenExactly}
 use Rattle.state.specs.declared.State.{State}
-use Rattle.state.specs.States.{isPushed, stateFine}
+use Rattle.state.specs.States.{usableLines}
 use Rattle.state.specs.Fourteen.{FourteenExactly}
 use Rattle.presses.specs.declared.Pressed.{Pressed}
-use Rattle.presses.specs.Presses.{toldPress, Pushes, Releases}
+use Rattle.presses.specs.Presses.{pushLines, releaseLines, toldPress, Pushes, Releases}
 use Rattle.board_reader.specs.declared.BoardRead.{BoardRead}
 use Rattle.board_reader.specs.Reading.{toldReadAnswer, Reads}
 use Rattle.board_writer.specs.declared.Written.{Written}
-use Rattle.board_writer.specs.File.{boardBytes}
-use Rattle.board_writer.specs.Writing.{toldWritten, bytesWritten, Writes}
+use Rattle.board_writer.specs.Writing.{writeLines, toldWritten, bytesWritten, Writes}
 use Rattle.file_means.specs.FileRefusals.{FileRefused}
 use Rattle.search.specs.declared.Verdict.{Verdict}
 use Rattle.search.specs.Verdicts.{places, toldFinding}
 use Rattle.judge.specs.declared.Which.{Which}
-use Rattle.judge.specs.RelayWindings.{windingOf}
-use Rattle.judge.specs.Judging.{Judges}
+use Rattle.judge.specs.Judging.{judgeLines, Judges}
 use Rattle.judge_means.specs.Eleven.{ElevenExactly}
 use Rattle.moves.specs.declared.Moved.{Moved}
-use Rattle.moves.specs.Moving.{toldMoveAnswer, Moves}
+use Rattle.moves.specs.Moving.{moveLines, toldMoveAnswer, Moves}
 use Rattle.moves_means.specs.SingleMoves.{MoveElevenExactly}
 use Rattle.runs.specs.declared.Ran.{Ran}
 use Rattle.runs.specs.Runs.{noRelay}
-use Rattle.runs.specs.Running.{longestLog, toldEnding, Runs}
+use Rattle.runs.specs.Running.{runLines, toldEnding, Runs}
 use Rattle.runs.specs.Looks.{Ending}
 use Rattle.lines.specs.declared.Line.{Line}
 use Rattle.lines.specs.declared.LineWritten.{LineWritten}
 use Rattle.lines.specs.Lines as told
-use Rattle.lines.specs.Lines.{event, closing, longestLine, toldLine, toldLineWritten, WritesLine}
+use Rattle.lines.specs.Lines.{event, closing, lineLines, toldLine, toldLineWritten, WritesLine}
+use Rattle.events.specs.declared.Event.{Event}
 use Rattle.events.specs.declared.Shown.{Shown}
-use Rattle.events.specs.Events.{buttonOf, pushes, RunLine, EventLine}
+use Rattle.events.specs.Events.{madeLines, RunLine, EventLine}
 use Rattle.session.specs.declared.Session.{Session}
 use Rattle.session.specs.declared.Handed.{Handed}
 use Rattle.session.specs.HandingOut.{toldHandOut, NextLine}
 use Rattle.session.specs.Filling.{NextLines}
 use Rattle.demands.specs.OneAnswer.{OneAnswer}
-
-abbrev pub against : {A : Type 0} → Outcome A → Outcome (Unit {0})
-against (given a) = given tt
-against (refused n p) = refused n p
-
-unfoldable pub firstNo : List (Bool × ℕ) → Outcome (Unit {0})
-firstNo [] = given tt
-firstNo ((t, n) ∷ ls) = cond t (firstNo ls) (refused n 0)
-
-abbrev pub isThere : {A : Type 0} → Option A → Bool
-isThere (some a) = true
-isThere none = false
-
--- a number too large to write is too long for a file
-abbrev pub numberLines : ℕ → List ℕ → ℕ → List (Bool × ℕ)
-numberLines v out at = (leb v largest, badForm) ∷ (leb (at + length (numberBytes v)) (length out), bufferTooShort) ∷ []
-
-abbrev pub writeLines : Board → List ℕ → List (Bool × ℕ)
-writeLines b out = (boardFine b, brokenBoard) ∷ (leb (length (boardBytes b)) (length out), bufferTooShort) ∷ []
-
-abbrev pub usableLines : Board → State → List (Bool × ℕ) → List (Bool × ℕ)
-usableLines b s ls = (boardFine b, brokenBoard) ∷ (stateFine (b .counts) s, stateBeyondBoard) ∷ ls
-
-abbrev pub runLines : Board → State → List ℕ → List (Bool × ℕ)
-runLines b s log = usableLines b s ((leb (length log) longestLog, logTooLong) ∷ [])
-
-abbrev pub judgeLines : Board → State → ℕ → Which → List (Bool × ℕ)
-judgeLines b s r k = usableLines b s ((isThere (windingOf k r (partsOf b)), noSuchWinding) ∷ [])
-
-abbrev pub moveLines : Board → State → ℕ → List (Bool × ℕ)
-moveLines b s r = usableLines b s ((ltb r (b .counts .relays), noSuchWinding) ∷ [])
-
-abbrev pub pushLines : Board → State → ℕ → List (Bool × ℕ)
-pushLines b s n = usableLines b s ((ltb n (b .counts .buttons), noSuchName) ∷ (not (isPushed s n), alreadySo) ∷ [])
-
-abbrev pub releaseLines : Board → State → ℕ → List (Bool × ℕ)
-releaseLines b s n = usableLines b s ((ltb n (b .counts .buttons), noSuchName) ∷ (isPushed s n, alreadySo) ∷ [])
-
-abbrev pub pressLines : Board → State → ℕ → List (Bool × ℕ)
-pressLines b s v = cond (pushes v) (pushLines b s (buttonOf v)) (releaseLines b s (buttonOf v))
-
-abbrev pub lineLines : List ℕ → List (Bool × ℕ)
-lineLines out = (leb longestLine (length out), bufferTooShort) ∷ []
 
 abbrev pub wordOf : told.Line → Outcome Ending
 wordOf (event e o m d) = o
@@ -161,10 +108,10 @@ pub record InOrder : Type 0 where
   -- a session's log of 4,096 is never too long (13), and the run after a push or release is never refused
   pub tells-run : (b : Board) (e : ℕ) (s : State) (w : ℕ) (x : Shown)
       → RunLine b e s w x
-      → against (wordOf (toldLine (x .line))) ≡ firstNo (usableLines b s [])
-  pub tells-event : (b : Board) (e : ℕ) (s : State) (v w : ℕ) (x : Shown)
+      → against (wordOf (toldLine (x .line))) ≡ firstNo (usableLines b s)
+  pub tells-event : (b : Board) (e : ℕ) (s : State) (v : Event) (w : ℕ) (x : Shown)
       → EventLine b e s v w x
-      → against (wordOf (toldLine (x .line))) ≡ firstNo (pressLines b s v)
+      → against (wordOf (toldLine (x .line))) ≡ firstNo (madeLines b s v)
   pub hands : (z : Session) (s out out′ : List ℕ) (r : Handed)
       → NextLine z s out r out′
       → against (toldHandOut (r .answer)) ≡ firstNo (lineLines out)
@@ -213,7 +160,7 @@ pub record AsLent : Type 0 where
       → RunLine b e s w x
       → wordOf (toldLine (x .line)) ≡ refused n p
       → (toldLine (x .line) ≡ event e (refused n p) 0 (s .drawn)) × (x .state ≡ s)
-  pub tells-event : (b : Board) (e : ℕ) (s : State) (v w : ℕ) (x : Shown) (n p : ℕ)
+  pub tells-event : (b : Board) (e : ℕ) (s : State) (v : Event) (w : ℕ) (x : Shown) (n p : ℕ)
       → EventLine b e s v w x
       → wordOf (toldLine (x .line)) ≡ refused n p
       → (toldLine (x .line) ≡ event e (refused n p) 0 (s .drawn)) × (x .state ≡ s)

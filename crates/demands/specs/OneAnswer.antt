@@ -7,8 +7,11 @@
 --     OneAnswer    the list; an argument of `wide` is a byte
 use Prim.Native.Nat.{ℕ, _<_}
 use mathlib.Core.Path.{_≡_}
+use mathlib.Core.Bool.{Bool}
 use mathlib.Core.List.{List}
 use Rattle.bits.specs.Sets.{SetHas, SetWith, SetWithout, SetRemaining, SetLowestFrom, SetAllBelow, WideByte}
+use Rattle.refusals.specs.declared.Against.{Against}
+use Rattle.refusals.specs.Order.{AsksNext}
 use Rattle.number.specs.Numbers.{ReadsNumber, NumberLength, WritesNumber}
 use Rattle.kinds.specs.declared.Kind.{Kind}
 use Rattle.kinds.specs.Kinds.{KindOf, KindNumber, KindName, KindFields}
@@ -20,23 +23,27 @@ use Rattle.board.specs.Parts.{BlankPart, EmptyBoard}
 use Rattle.board.specs.Rules.{NameLimit, Checks}
 use Rattle.board.specs.Same.{SameBoards}
 use Rattle.state.specs.declared.State.{State}
-use Rattle.state.specs.States.{StateFresh, StateDraws, StateDrops, StatePushes, StateReleases, StateFits}
+use Rattle.state.specs.States.{StateFresh, StateDraws, StateDrops, StatePushes, StateReleases, StateIsDrawn}
+use Rattle.state.specs.States.{StateIsPushed, StateFits, Usable}
 use Rattle.presses.specs.Presses.{Pushes, Releases}
 use Rattle.board_reader.specs.Reading.{Reads}
 use Rattle.board_writer.specs.Writing.{Writes}
 use Rattle.neighbours.specs.Conduction.{Conducts}
+use Rattle.neighbours.specs.declared.Sets.{Sets}
 use Rattle.neighbours.specs.Neighbours.{Neighbours}
 use Rattle.search.specs.declared.Winding.{Winding}
 use Rattle.search.specs.Verdicts.{Searches}
 use Rattle.judge.specs.declared.Which.{Which}
-use Rattle.judge.specs.RelayWindings.{SeeksWinding}
-use Rattle.judge.specs.Judging.{Judges}
+use Rattle.judge.specs.RelayWindings.{FindsWindings}
+use Rattle.judge.specs.Judging.{JudgesBy, Judges}
+use Rattle.moves.specs.declared.Findings.{Findings}
 use Rattle.moves.specs.declared.Move.{Move}
-use Rattle.moves.specs.Steps.{StepsRelay, AfterMove}
+use Rattle.moves.specs.Steps.{Decides, StepsRelay, AfterMove}
 use Rattle.moves.specs.Moving.{Moves}
 use Rattle.runs.specs.Running.{Runs}
 use Rattle.lines.specs.declared.Line.{Line}
 use Rattle.lines.specs.Lines.{WritesLine}
+use Rattle.events.specs.declared.Event.{Event}
 use Rattle.events.specs.Events.{RunLine, EventLine}
 use Rattle.session.specs.declared.Session.{Session}
 use Rattle.session.specs.Carried.{Begins}
@@ -62,6 +69,7 @@ pub record OneAnswer : Type 0 where
   pub bits-lowest-from : (s n : ℕ) → One (SetLowestFrom s n)
   pub bits-all-below : (s n : ℕ) → One (SetAllBelow s n)
   pub bits-wide : (x : ℕ) → x < 256 → One (WideByte x)
+  pub refusals-unless : (a : Against) (t : Bool) (n : ℕ) → One (AsksNext a t n)
   pub number-read-number : (s : List ℕ) (at : ℕ) → One (ReadsNumber s at)
   pub number-number-length : (v : ℕ) → One (NumberLength v)
   pub number-write-number : (v : ℕ) (out : List ℕ) (at : ℕ) → OneLent (WritesNumber v out at)
@@ -83,7 +91,10 @@ pub record OneAnswer : Type 0 where
   pub state-drop : (s : State) (r : ℕ) → One (StateDrops s r)
   pub state-push : (s : State) (n : ℕ) → One (StatePushes s n)
   pub state-release : (s : State) (n : ℕ) → One (StateReleases s n)
+  pub state-is-drawn : (s : State) (r : ℕ) → One (StateIsDrawn s r)
+  pub state-is-pushed : (s : State) (n : ℕ) → One (StateIsPushed s n)
   pub state-fits : (s : State) (c : Counts) → One (StateFits s c)
+  pub state-usable : (b : Board) (s : State) → One (Usable b s)
   pub presses-push : (b : Board) (s : State) (n : ℕ) → One (Pushes b s n)
   pub presses-release : (b : Board) (s : State) (n : ℕ) → One (Releases b s n)
   pub board-reader-read : (s : List ℕ) → One (Reads s)
@@ -91,15 +102,17 @@ pub record OneAnswer : Type 0 where
   pub neighbours-conducts : (k : Kind) (s : State) → One (Conducts k s)
   pub neighbours-neighbours : (b : Board) (s : State) → One (Neighbours b s)
   pub search-search : (near : List ℕ) (t : ℕ) (v : Winding) (w : ℕ) → One (Searches near t v w)
-  pub judge-winding : (b : Board) (r : ℕ) (k : Which) → One (SeeksWinding b r k)
+  pub judge-find-windings : (b : Board) (r : ℕ) → One (FindsWindings b r)
+  pub judge-judge-by : (k : Sets) (t : ℕ) (v : Winding) (w : ℕ) → One (JudgesBy k t v w)
   pub judge-judge : (b : Board) (s : State) (r : ℕ) (k : Which) (w : ℕ) → One (Judges b s r k w)
-  pub moves-step : (near : List ℕ) (b : Board) (s : State) (r w : ℕ) → One (StepsRelay near b s r w)
+  pub moves-decide : (d : Bool) (f : Findings) → One (Decides d f)
+  pub moves-step : (k : Sets) (b : Board) (s : State) (r w : ℕ) → One (StepsRelay k b s r w)
   pub moves-after : (s : State) (r : ℕ) (m : Move) → One (AfterMove s r m)
   pub moves-move-relay : (b : Board) (s : State) (r w : ℕ) → One (Moves b s r w)
   pub runs-run : (b : Board) (s : State) (log : List ℕ) (w : ℕ) → OneLent (Runs b s log w)
   pub lines-write-line : (l : Line) (out : List ℕ) → OneLent (WritesLine l out)
   pub events-run-line : (b : Board) (e : ℕ) (s : State) (w : ℕ) → One (RunLine b e s w)
-  pub events-event-line : (b : Board) (e : ℕ) (s : State) (v w : ℕ) → One (EventLine b e s v w)
+  pub events-event-line : (b : Board) (e : ℕ) (s : State) (v : Event) (w : ℕ) → One (EventLine b e s v w)
   pub session-begin : (s : List ℕ) → One (Begins s)
   pub session-next-line : (z : Session) (s out : List ℕ) → OneLent (NextLine z s out)
   pub session-next-lines : (z : Session) (s out : List ℕ) → OneLent (NextLines z s out)

@@ -38,6 +38,7 @@ use Rattle.board.specs.Parts.{padded, emptyBoard}
 use Rattle.state.specs.declared.State.{State}
 use Rattle.state.specs.States.{freshState, withDrawn, withPushed, withReleased}
 use Rattle.board_reader.specs.declared.BoardRead.{BoardRead}
+use Rattle.board_reader.specs.Editions.{currentEdition}
 use Rattle.board_reader.specs.Reading.{toldBoardRead, Reads}
 use Rattle.search.specs.declared.Verdict as code-verdict
 use Rattle.search.specs.Verdicts.{Verdict, settled, unsettled, toldVerdict}
@@ -143,7 +144,7 @@ RowHolds (runs b s log w e m t r l) =
     (a : Ran) (k : List ℕ)
     → Runs b s log w a k
     → toldRan a k ≡ record { word = given e; moves = m; state = t; relay = r; log = l }
-RowHolds (prints s x) = sessionText s ≡ x
+RowHolds (prints s x) = sessionText currentEdition s ≡ x
 
 -- H0 .. H6 and the number `80 00`, in the rule book's order
 abbrev pub starred : List Row

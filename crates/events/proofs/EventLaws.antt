@@ -1,8 +1,8 @@
 -- Laws of one event: each way out of the functions that make it and tell of it, as the definition has it.
-use Prim.Native.Nat.{ℕ, _/_, _%_}
+use Prim.Native.Nat.{ℕ}
 use mathlib.Core.Path.{_≡_, ap}
 use mathlib.Core.List.{List}
-use borrow.Author.Tests.{eq-eqb, ne-eqb}
+use mathlib.Core.Bool.{true, false}
 use Rattle.refusals.specs.declared.Refusal.{Refusal}
 use Rattle.refusals.specs.Outcomes.{Outcome, refused}
 use Rattle.board.specs.declared.Board.{Board}
@@ -13,16 +13,17 @@ use Rattle.presses.specs.Presses.{pushing, releasing, toldPressed}
 use Rattle.runs.specs.declared.Ran.{Ran}
 use Rattle.runs.specs.Running.{toldRan, Runs}
 use Rattle.lines.specs.Lines.{event}
+use Rattle.events.specs.declared.Event.{Event}
 use Rattle.events.specs.Events.{Shown, pressing, sessionLog, tells, ranLine, pressedLine, eventLine}
 
-module _ (b : Board) (t : State) (v : ℕ) where
-  pub pressing-push : v % 2 ≡ 1 → pushing b t (v / 2) ≡ pressing b t v
+module _ (b : Board) (t : State) (v : Event) where
+  pub pressing-push : v .push ≡ true → pushing b t (v .button) ≡ pressing b t v
   unfolding pressing
-  pressing-push odd = rw (eq-eqb (v % 2) 1 odd)
+  pressing-push is = rw is
 
-  pub pressing-release : (v % 2 ≡ 1 → ⊥) → releasing b t (v / 2) ≡ pressing b t v
+  pub pressing-release : v .push ≡ false → releasing b t (v .button) ≡ pressing b t v
   unfolding pressing
-  pressing-release even = rw (ne-eqb (v % 2) 1 even)
+  pressing-release is = rw is
 
 module _ (b : Board) (w e : ℕ) where
   -- a run is told by its word, its moves and its drawn relays, whatever its log holds
@@ -42,7 +43,7 @@ module _ (b : Board) (w e : ℕ) where
     unfolding pressedLine
     pressed-done done = rw done
 
-  pub event-told : (t : State) (v : ℕ) (x : Pressed) → toldPressed x ≡ pressing b t v
+  pub event-told : (t : State) (v : Event) (x : Pressed) → toldPressed x ≡ pressing b t v
       → pressedLine b e (toldPressed x) w ≡ eventLine b e t v w
   unfolding eventLine
   event-told t v x pressed = ap (λ (y : State × Outcome (Unit {0})). pressedLine b e y w) pressed

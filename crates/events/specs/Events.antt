@@ -1,9 +1,11 @@
 -- One event of a session. Rule book: "then events to the end: 2 x button + 1 pushes, 2 x button releases"; "One line
 -- for the first run (event 0), then one for each event"; "An event refused by 12 prints its number, `refused` and 12;
 -- nothing is run"; "After spent, undecided or conflict the next event acts on the state left."
---     buttonOf v, pushes v     the button of the event v, and whether it pushes it
---     eventAt b s at           the event at a place of the input: a number (1, 2) that names a button of the board (7)
+--     eventOf v                the event of the number v: its button, and whether it pushes or releases it
+--     eventAt ed n s at        the event at a place of the input, by the edition ed: a number (1, 2) that names one of
+--                              n buttons (7)
 --     pressing b t v           the event v pushes or releases its button in state t
+--     madeLines b t v          the lines of that: those of its push or of its release
 --     sessionLog               "a log of 4,096"
 --     Shown                    a line, and the state after what it tells
 --     tells e r                event e tells what a run answers: its word, its moves and the drawn relays
@@ -16,32 +18,36 @@
 --     EventLine b e t v w r    promise: `event_line` of event e, which is v, likewise
 use Prim.Native.Nat.{ℕ, _/_, _%_}
 use mathlib.Core.Path.{_≡_}
-use mathlib.Core.Bool.{Bool, cond}
+use mathlib.Core.Bool.{cond}
 use mathlib.Core.List.{List}
 use lib.Dec.{ltb, eqb}
 use lib.ListN.{replicate}
-use Rattle.refusals.specs.Outcomes.{Outcome, given, refused, Found}
+use Rattle.refusals.specs.Outcomes.{Outcome, given, refused, Found, found, _>>=_}
 use Rattle.refusals.specs.Refusals.{noSuchName}
+use Rattle.refusals.specs.Order.{Order}
 use Rattle.board.specs.declared.Board.{Board}
 use Rattle.state.specs.declared.State.{State}
-use Rattle.presses.specs.Presses.{pushing, releasing}
-use Rattle.board_reader.specs.Editions.{currentEdition}
+use Rattle.presses.specs.Presses.{pushLines, releaseLines, pushing, releasing}
+use Rattle.board_reader.specs.Editions.{Edition}
 use Rattle.board_reader.specs.Reading.{wanted}
 use Rattle.runs.specs.Running.{Ran, running}
 use Rattle.lines.specs.Lines.{Line, event, toldLine}
+use Rattle.events.specs.declared.Event.{Event}
 use Rattle.events.specs.declared.Shown as code
 
-abbrev pub buttonOf : ℕ → ℕ
-buttonOf v = v / 2
+abbrev pub eventOf : ℕ → Event
+eventOf v = record { button = v / 2; push = eqb (v % 2) 1 }
 
-abbrev pub pushes : ℕ → Bool
-pushes v = eqb (v % 2) 1
+unfoldable pub eventAt : Edition → ℕ → List ℕ → ℕ → Outcome (Found Event)
+eventAt ed n s at = do
+  v ← wanted ed (λ v. ltb (eventOf v .button) n) noSuchName s at
+  found (eventOf (v .value)) (v .next)
 
-unfoldable pub eventAt : Board → List ℕ → ℕ → Outcome (Found ℕ)
-eventAt b s at = wanted currentEdition (λ v. ltb (buttonOf v) (b .counts .buttons)) noSuchName s at
+unfoldable pub pressing : Board → State → Event → State × Outcome (Unit {0})
+pressing b t v = cond (v .push) (pushing b t (v .button)) (releasing b t (v .button))
 
-unfoldable pub pressing : Board → State → ℕ → State × Outcome (Unit {0})
-pressing b t v = cond (pushes v) (pushing b t (buttonOf v)) (releasing b t (buttonOf v))
+abbrev pub madeLines : Board → State → Event → Order
+madeLines b t v = cond (v .push) (pushLines b t (v .button)) (releaseLines b t (v .button))
 
 abbrev pub sessionLog : List ℕ
 sessionLog = replicate 4096 0
@@ -59,7 +65,7 @@ unfoldable pub pressedLine : Board → ℕ → State × Outcome (Unit {0}) → �
 pressedLine b e (t, given u) w = ranLine b e t w
 pressedLine b e (t, refused n p) w = (event e (refused n p) 0 (t .drawn), t)
 
-unfoldable pub eventLine : Board → ℕ → State → ℕ → ℕ → Shown
+unfoldable pub eventLine : Board → ℕ → State → Event → ℕ → Shown
 eventLine b e t v w = pressedLine b e (pressing b t v) w
 
 abbrev pub toldShown : code.Shown → Shown
@@ -68,5 +74,5 @@ toldShown r = (toldLine (r .line), r .state)
 abbrev pub RunLine : Board → ℕ → State → ℕ → code.Shown → Type 0
 RunLine b e t w r = toldShown r ≡ ranLine b e t w
 
-abbrev pub EventLine : Board → ℕ → State → ℕ → ℕ → code.Shown → Type 0
+abbrev pub EventLine : Board → ℕ → State → Event → ℕ → code.Shown → Type 0
 EventLine b e t v w r = toldShown r ≡ eventLine b e t v w

@@ -8,7 +8,7 @@ ghost use lib.Signed.{nonNeg};
 ghost use Rattle.io.specs.Counts.{Counts, clamped};
 ghost use Rattle.board_reader.specs.Reading.{longestInput};
 ghost use Rattle.lines.specs.Lines.{longestLine};
-ghost use Rattle.session.specs.Carried.{no-line, nextOf, toldSession};
+ghost use Rattle.session.specs.Carried.{no-line, nextIn};
 use board_reader::LONGEST_INPUT;
 use libc::STDERR_FILENO;
 use libc::STDIN_FILENO;
@@ -91,7 +91,7 @@ fn write_out(lines: &[u8], used: usize) -> bool
 // left to come.
 fn print_lines(input: &[u8], lines: &mut [u8]) -> Printed
     requires { ⌜ longestLine ≤ length (now lines) ⌝ }
-    ensures { λ r. ⌜ (r .written ≡ true → nextOf (toldSession (r .session)) (now (input .entry)) .1 ≡ no-line) ⌝ }
+    ensures { λ r. ⌜ (r .written ≡ true → nextIn (r .session) (now (input .entry)) .1 ≡ no-line) ⌝ }
 {
     let mut session = session::begin(input);
     loop {
@@ -117,8 +117,8 @@ fn print_session(buffer: &[u8], read: Input, lines: &mut [u8]) -> Printed
     requires { ⌜ read .failed ≡ false ⌝ }
     requires { ⌜ read .length ≤ length (now buffer) ⌝ }
     requires { ⌜ longestLine ≤ length (now lines) ⌝ }
-    ensures { λ r. ⌜ (r .written ≡ true → nextOf (toldSession (r .session))
-        (take (read .length) (now (buffer .entry))) .1 ≡ no-line) ⌝ }
+    ensures { λ r. ⌜ (r .written ≡ true
+        → nextIn (r .session) (take (read .length) (now (buffer .entry))) .1 ≡ no-line) ⌝ }
 {
     print_lines(&buffer[..read.length], lines)
 }

@@ -1,9 +1,9 @@
--- Laws of a kind that carries a relay, and of a relay's winding among the parts: what the walk along a board's first C
--- parts needs, one law for each way out of `winding`.
+-- Laws of a kind that carries a relay, and of a relay's windings among the parts: what the scan of a board's first C
+-- parts needs.
 use Prim.Native.Nat.{ℕ, _+_, _≤_, _<_}
 use mathlib.Core.Path.{_≡_, refl, sym, ap, _∙_}
 use mathlib.Core.Logic.{_⊎_, ⊎-elim}
-use mathlib.Core.Bool.{true, false}
+use mathlib.Core.Bool.{Bool, true, false, cond}
 use mathlib.Core.List.{List, [], _∷_}
 use mathlib.Core.Option.{Option, none, some}
 use lib.Dec.{eqb}
@@ -21,9 +21,11 @@ use Rattle.board.specs.Sorts.{carries}
 use Rattle.lists.proofs.FirstLaws.{taken-from, taken-past, taken-full}
 use Rattle.search.specs.declared.Winding.{Winding}
 use Rattle.judge.specs.declared.Which.{Which}
-use Rattle.judge.specs.declared.Sought.{Sought}
-use Rattle.judge.specs.declared.Sought.the-variants.{Between, Nowhere}
-use Rattle.judge.specs.RelayWindings.{isWinding, windingOf, orNoSuchWinding, toldSought}
+use Rattle.judge.specs.declared.Which.the-variants.{First, Second}
+use Rattle.judge.specs.declared.Windings.{Windings}
+use Rattle.judge.specs.declared.Windings.the-variants.{Regular, Steel, Absent}
+use Rattle.judge.specs.RelayWindings.{isWinding, endsOf, windingOf, OfRelay, regular, steel, absent, ofRelay}
+use Rattle.judge.specs.RelayWindings.{windingsAt, windingNamed, orNoSuchWinding, toldWindings, seenWith}
 
 -- ---- a kind that carries a relay, by its number n and its name m
 
@@ -36,9 +38,6 @@ unfolding carries
 carries-other j r k n number d = rw (ne-eqb (kindNumber k) j (λ e. d (number ∙ e))) refl
 
 -- ---- the winding among the parts
-
-abbrev pub endsOf : Part → Winding
-endsOf p = record { a = p .a; b = p .b }
 
 pub winding-here : (w : Which) (r : ℕ) (p : Part) (ps : List Part) → isWinding w r (p .kind) ≡ true
     → windingOf w r (p ∷ ps) ≡ some (endsOf p)
@@ -63,45 +62,73 @@ pub asked-refused : (o : Option Winding) (k p : ℕ) → orNoSuchWinding o ≡ r
 asked-refused (some v) k p is = absurd (refused-never k p v (sym is))
 asked-refused none k p is = refl
 
--- at place i of the first n parts of l, `all` is the winding among the parts from there on
-module _ (w : Which) (r : ℕ) (l : List Part) (n i : ℕ) (all : Option Winding)
-    (here : all ≡ windingOf w r (drop i (take n l))) where
-  pub sought-here : i < n → i < length l → isWinding w r (getD l i blank .kind) ≡ true
-      → some (endsOf (getD l i blank)) ≡ all
-  sought-here below there e =
-      sym (here ∙ ap (windingOf w r) (taken-from blank l n i below there) ∙ winding-here w r (getD l i blank)
-      (drop (i + 1) (take n l)) e)
+-- no winding of a relay that is absent is there
+pub asked-absent : (n : Which) (x : Windings) → x ≡ Absent
+    → refused noSuchWinding 0 ≡ orNoSuchWinding (windingNamed n (toldWindings x))
+asked-absent First x is = simp is
+asked-absent Second x is = simp is
 
-  pub sought-on : i < n → i < length l → isWinding w r (getD l i blank .kind) ≡ false
-      → all ≡ windingOf w r (drop (i + 1) (take n l))
-  sought-on below there e =
-      here ∙ ap (windingOf w r) (taken-from blank l n i below there) ∙ winding-past w r (getD l i blank)
-      (drop (i + 1) (take n l)) e
+-- ---- the scan: after `seen` among the parts before, the winding among all is that, or else the one from here on
 
-  pub sought-end : (n ≤ i) ⊎ (length l ≤ i) → none ≡ all
-  sought-end past =
-      sym (here ∙ ap (windingOf w r) (⊎-elim (taken-past blank l n i) (taken-full blank l n i) past) ∙ winding-none w r)
+abbrev pub orElse : Option Winding → Option Winding → Option Winding
+orElse (some v) o = some v
+orElse none o = o
+
+-- one part more, which is the winding if t
+seen-on : (t : Bool) (o : Option Winding) (p : Part) (rest : Option Winding)
+    → orElse o (cond t (some (endsOf p)) rest) ≡ orElse (seenWith o p t) rest
+seen-on t (some v) p rest = refl
+seen-on true none p rest = refl
+seen-on false none p rest = refl
+
+pub seen-all : (o : Option Winding) → orElse o none ≡ o
+seen-all (some v) = refl
+seen-all none = refl
+
+-- at place i of the first k parts of l
+module _ (n : Which) (r : ℕ) (l : List Part) (k i : ℕ) (all seen : Option Winding)
+    (here : all ≡ orElse seen (windingOf n r (drop i (take k l)))) where
+  pub scan-on : (next : Option Winding) (t : Bool) → i < k → i < length l → t ≡ isWinding n r (getD l i blank .kind)
+      → next ≡ seenWith seen (getD l i blank) t → all ≡ orElse next (windingOf n r (drop (i + 1) (take k l)))
+  unfolding windingOf
+  scan-on next t below there is more =
+      here ∙ ap (λ (ps : List Part). orElse seen (windingOf n r ps)) (taken-from blank l k i below there)
+      ∙ seen-on (isWinding n r (getD l i blank .kind)) seen (getD l i blank) (windingOf n r (drop (i + 1) (take k l)))
+      ∙ ap (λ (o : Option Winding). orElse o (windingOf n r (drop (i + 1) (take k l))))
+      (sym (more ∙ ap (seenWith seen (getD l i blank)) is))
+
+  -- all the parts that count, or all the places of the array, have been passed
+  scan-end : (k ≤ i) ⊎ (length l ≤ i) → all ≡ seen
+  scan-end past =
+      here ∙ ap (λ (ps : List Part). orElse seen (windingOf n r ps))
+      (⊎-elim (taken-past blank l k i) (taken-full blank l k i) past)
+      ∙ ap (orElse seen) (winding-none n r) ∙ seen-all seen
+
+-- then what was seen of both windings is what the relay has
+pub scan-windings : (r : ℕ) (l : List Part) (k i : ℕ) (o q : Option Winding) (x : OfRelay Winding)
+    → windingOf First r (take k l) ≡ orElse o (windingOf First r (drop i (take k l)))
+    → windingOf Second r (take k l) ≡ orElse q (windingOf Second r (drop i (take k l)))
+    → (k ≤ i) ⊎ (length l ≤ i) → x ≡ ofRelay o q → x ≡ windingsAt r (take k l)
+unfolding windingsAt
+scan-windings r l k i o q x first second past is =
+    rw (scan-end First r l k i _ o first past, scan-end Second r l k i _ q second past) is
 
 -- ---- answers and what they tell
 
-pub sought-told : Told toldSought
-sought-told = record { untold = untold; back = back; onto = onto }
+pub windings-told : Told toldWindings
+windings-told = record { untold = untold; back = back; onto = onto }
   where
-    untold : Option Winding → Sought
-    untold (some v) = Between v
-    untold none = Nowhere
+    untold : OfRelay Winding → Windings
+    untold (regular v) = Regular v
+    untold (steel v u) = Steel v u
+    untold absent = Absent
 
-    back : (x : Sought) → untold (toldSought x) ≡ x
-    back (Between v) = refl
-    back Nowhere = refl
+    back : (x : Windings) → untold (toldWindings x) ≡ x
+    back (Regular v) = refl
+    back (Steel v u) = refl
+    back Absent = refl
 
-    onto : (y : Option Winding) → toldSought (untold y) ≡ y
-    onto (some v) = refl
-    onto none = refl
-
--- what an answer says of the winding
-pub told-between : (x : Sought) (v : Winding) (o : Option Winding) → x ≡ Between v → toldSought x ≡ o → o ≡ some v
-told-between x v o e told = sym told ∙ ap toldSought e
-
-pub told-nowhere : (x : Sought) (o : Option Winding) → x ≡ Nowhere → toldSought x ≡ o → o ≡ none
-told-nowhere x o e told = sym told ∙ ap toldSought e
+    onto : (y : OfRelay Winding) → toldWindings (untold y) ≡ y
+    onto (regular v) = refl
+    onto (steel v u) = refl
+    onto absent = refl

@@ -1,35 +1,51 @@
--- Judging as a call. Rule book, calls: "15, 14, 13, 11, 7, 12, 16, those that apply"; "a refused judgement no verdict,
--- effort 0 and length 0".
---     windingFor b s r n    the winding that is judged: winding n of relay r, after refusals 15, 14, 11
+-- Judging. Rule book, calls: "15, 14, 13, 11, 7, 12, 16, those that apply"; "a refused judgement no verdict, effort 0
+-- and length 0".
+--     judgedBy k t v w      the verdict on winding v within the allowance w, by the sets k of t terminals: the one way
+--                           to judge, which the call, a single move and a run go by
+--     judgeLines b s r n    the lines of judging winding n of relay r of board b in state s: 15, 14, 11
+--     windingFor b s r n    the winding that is judged, after these
 --     verdictOn b s o w     the verdict on it within the allowance w, or the refusal
 --     judging b s r n w     the call
+--     JudgesBy k t v w r    promise: `judge_by` of winding v by the sets k of t terminals, within the allowance w,
+--                           answers r
 --     Judges b s r n w v    promise: `judge` of winding n of relay r of board b in state s, within the allowance w,
 --                           answers v
 use Prim.Native.Nat.{ℕ}
 use mathlib.Core.Path.{_≡_}
-use Rattle.refusals.specs.Outcomes.{Outcome, given, refused, _>>=_, _>>_}
+use mathlib.Core.List.{[], _∷_, _++_}
+use Rattle.refusals.specs.Outcomes.{Outcome, given, refused, _>>_}
+use Rattle.refusals.specs.Refusals.{noSuchWinding}
+use Rattle.refusals.specs.Order.{Order, firstNo}
 use Rattle.board.specs.declared.Board.{Board}
 use Rattle.board.specs.Parts.{partsOf}
 use Rattle.state.specs.declared.State.{State}
-use Rattle.state.specs.States.{usable}
-use Rattle.neighbours.specs.Neighbours.{neighbours}
+use Rattle.state.specs.States.{usableLines}
+use Rattle.neighbours.specs.declared.Sets.{Sets}
+use Rattle.neighbours.specs.Neighbours.{setsOf}
 use Rattle.search.specs.declared.Winding.{Winding}
 use Rattle.search.specs.declared.Verdict as code-verdict
-use Rattle.search.specs.Verdicts.{Verdict, verdictBy, unanswered, toldVerdict}
+use Rattle.search.specs.Verdicts.{Verdict, verdictBy, inSets, unanswered, toldVerdict}
 use Rattle.judge.specs.declared.Which.{Which}
-use Rattle.judge.specs.RelayWindings.{windingOf, orNoSuchWinding}
+use Rattle.judge.specs.RelayWindings.{windingOf, isThere, orNoSuchWinding}
+
+unfoldable pub judgedBy : Sets → ℕ → Winding → ℕ → Verdict
+judgedBy k t v w = verdictBy (k .near) (inSets t) v w
+
+abbrev pub judgeLines : Board → State → ℕ → Which → Order
+judgeLines b s r n = usableLines b s ++ ((isThere (windingOf n r (partsOf b)), noSuchWinding) ∷ [])
 
 unfoldable pub windingFor : Board → State → ℕ → Which → Outcome Winding
-windingFor b s r n = do
-  usable b s
-  orNoSuchWinding (windingOf n r (partsOf b))
+windingFor b s r n = firstNo (judgeLines b s r n) >> orNoSuchWinding (windingOf n r (partsOf b))
 
 abbrev pub verdictOn : Board → State → Outcome Winding → ℕ → Verdict
-verdictOn b s (given v) w = verdictBy (neighbours b s) (b .counts .terminals) v w
+verdictOn b s (given v) w = judgedBy (setsOf b s) (b .counts .terminals) v w
 verdictOn b s (refused n p) w = unanswered n p
 
 unfoldable pub judging : Board → State → ℕ → Which → ℕ → Verdict
 judging b s r n w = verdictOn b s (windingFor b s r n) w
+
+abbrev pub JudgesBy : Sets → ℕ → Winding → ℕ → code-verdict.Verdict → Type 0
+JudgesBy k t v w r = toldVerdict r ≡ judgedBy k t v w
 
 abbrev pub Judges : Board → State → ℕ → Which → ℕ → code-verdict.Verdict → Type 0
 Judges b s r n w v = toldVerdict v ≡ judging b s r n w

@@ -1,19 +1,22 @@
-// Judging a winding of a relay, on any board and state handed in: refusals 15, 14 and 11, then the search.
+// A relay's windings, found in one scan of the parts, and judging: a winding by the sets of neighbours, and as a call
+// on any board and state handed in, with refusals 15, 14 and 11.
 ghost use mathlib.Core.Path.{_≡_};
 ghost use Rattle.board.specs.Sorts.{carries};
 ghost use Rattle.search.specs.Verdicts.{unanswered, toldVerdict};
-ghost use Rattle.judge.specs.RelayWindings.{isFirst, isWinding, SeeksWinding};
-ghost use Rattle.judge.specs.Judging.{Judges};
+ghost use Rattle.judge.specs.RelayWindings.{isFirst, ofRelay, windingNamed, orNoSuchWinding, toldWindings};
+ghost use Rattle.judge.specs.RelayWindings.{toldSeen, seenWith, toldAsked, FindsWindings};
+ghost use Rattle.judge.specs.Judging.{windingFor, JudgesBy, Judges};
 use board::Board;
 use board::MOST_PARTS;
+use board::Part;
 use kinds::DRAWING_KIND;
 use kinds::DROPPING_KIND;
 use kinds::Kind;
 use kinds::REGULAR_KIND;
-use refusals::BROKEN_BOARD;
+use neighbours::Sets;
+use refusals::Against;
 use refusals::NO_SUCH_WINDING;
 use refusals::Refusal;
-use refusals::STATE_BEYOND_BOARD;
 use search::Finding;
 use search::Verdict;
 use search::Winding;
@@ -25,10 +28,24 @@ pub enum Which {
     Second,
 }
 
-// Where a relay's winding is, or that it has no such winding.
-pub enum Sought {
+// A relay's windings: the one of a regular relay, the drawing and the dropping one of a steel-core relay; absent where
+// there is no first.
+pub enum Windings {
+    Regular(Winding),
+    Steel(Winding, Winding),
+    Absent,
+}
+
+// What a scan of the parts has seen of a winding.
+enum Seen {
     Between(Winding),
-    Nowhere,
+    NotYet,
+}
+
+// What a call that asks for a winding comes to: the winding, or the refusal.
+enum Asked {
+    Given(Winding),
+    Refused(Refusal),
 }
 
 // Whether a kind has this number and carries this relay.
@@ -53,47 +70,107 @@ fn is_first(kind: Kind, relay: u32) -> bool
     }
 }
 
-// Whether a kind is that winding of this relay.
-fn is_winding(kind: Kind, relay: u32, which: Which) -> bool
-    ensures { λ r. ⌜ r ≡ isWinding which relay kind ⌝ }
+// What is seen of a winding with this part besides, which is that winding if it is here: the first that is seen stays.
+fn seen_with(seen: Seen, part: Part, here: bool) -> Seen
+    ensures { λ r. ⌜ toldSeen r ≡ seenWith (toldSeen seen) part here ⌝ }
 {
-    match which {
-        Which::First => is_first(kind, relay),
-        Which::Second => carries(kind, DROPPING_KIND, relay),
+    match seen {
+        Seen::Between(_) => seen,
+        Seen::NotYet => {
+            if here {
+                Seen::Between(Winding {
+                    a: part.a,
+                    b: part.b,
+                })
+            } else {
+                seen
+            }
+        }
     }
 }
 
-// The ends of that winding of this relay, or that there is none.
-pub fn winding(board: Board, relay: u32, which: Which) -> Sought
-    ensures { λ r. ⌜ SeeksWinding board relay which r ⌝ }
+// A relay's windings by what was seen of its first and of its second.
+fn of_relay(first: Seen, second: Seen) -> Windings
+    ensures { λ r. ⌜ toldWindings r ≡ ofRelay (toldSeen first) (toldSeen second) ⌝ }
+{
+    match first {
+        Seen::NotYet => Windings::Absent,
+        Seen::Between(winding) => match second {
+            Seen::NotYet => Windings::Regular(winding),
+            Seen::Between(dropping) => Windings::Steel(winding, dropping),
+        },
+    }
+}
+
+// The windings of this relay, found in one scan of the parts.
+pub fn find_windings(board: Board, relay: u32) -> Windings
+    ensures { λ r. ⌜ FindsWindings board relay r ⌝ }
 {
     let parts = board.parts;
     let count = board.counts.parts;
+    let mut first = Seen::NotYet;
+    let mut second = Seen::NotYet;
     let mut i = 0;
     while i < count {
         if MOST_PARTS <= i {
-            return Sought::Nowhere;
+            return of_relay(first, second);
         }
         let part = parts[i];
         let kind = part.kind;
-        if is_winding(kind, relay, which) {
-            return Sought::Between(Winding {
-                a: part.a,
-                b: part.b,
-            });
-        }
+        first = seen_with(first, part, is_first(kind, relay));
+        second = seen_with(second, part, carries(kind, DROPPING_KIND, relay));
         i += 1;
     }
-    Sought::Nowhere
+    of_relay(first, second)
 }
 
-// A refused judgement: no verdict, effort 0 and length 0. A call's place is 0.
-fn refuse(number: u32) -> Verdict
-    ensures { λ r. ⌜ toldVerdict r ≡ unanswered number 0 ⌝ }
+// That one of a relay's windings; refused by 11 where the relay lacks it. A call's place is 0.
+fn asked_of(windings: Windings, which: Which) -> Asked
+    ensures { λ r. ⌜ toldAsked r ≡ orNoSuchWinding (windingNamed which (toldWindings windings)) ⌝ }
+{
+    let lacking = Asked::Refused(Refusal {
+        number: NO_SUCH_WINDING,
+        place: 0,
+    });
+    match windings {
+        Windings::Absent => lacking,
+        Windings::Regular(winding) => match which {
+            Which::First => Asked::Given(winding),
+            Which::Second => lacking,
+        },
+        Windings::Steel(drawing, dropping) => match which {
+            Which::First => Asked::Given(drawing),
+            Which::Second => Asked::Given(dropping),
+        },
+    }
+}
+
+// The winding that a call judges, after 15, 14 and 11.
+fn winding_for(board: Board, state: State, relay: u32, which: Which) -> Asked
+    ensures { λ r. ⌜ toldAsked r ≡ windingFor board state relay which ⌝ }
+{
+    let usable = state::usable(board, state);
+    match usable {
+        Against::Nothing => asked_of(find_windings(board, relay), which),
+        Against::Refused(refusal) => Asked::Refused(refusal),
+    }
+}
+
+// Judges a winding by the sets of neighbours of so many terminals, within the allowance.
+pub fn judge_by(sets: Sets, terminals: u8, winding: Winding, allowance: u32) -> Verdict
+    ensures { λ r. ⌜ JudgesBy sets terminals winding allowance r ⌝ }
+{
+    search::search(&sets.near, terminals, winding, allowance)
+}
+
+// A refused judgement: no verdict, effort 0 and length 0.
+fn refuse(refusal: Refusal) -> Verdict
+    ensures { λ r. ⌜ toldVerdict r ≡ unanswered (refusal .number) (refusal .place) ⌝ }
 {
     let terminals = [0u8; 64];
+    let finding = Finding::Refused(refusal);
     Verdict {
-        finding: Finding::Refused(Refusal { number, place: 0 }),
+        finding,
         effort: 0,
         length: 0,
         terminals,
@@ -104,17 +181,12 @@ fn refuse(number: u32) -> Verdict
 pub fn judge(board: Board, state: State, relay: u32, which: Which, allowance: u32) -> Verdict
     ensures { λ r. ⌜ Judges board state relay which allowance r ⌝ }
 {
-    if !board::check(board) {
-        return refuse(BROKEN_BOARD);
+    let asked = winding_for(board, state, relay, which);
+    match asked {
+        Asked::Given(winding) => {
+            let sets = neighbours::neighbours(board, state);
+            judge_by(sets, board.counts.terminals, winding, allowance)
+        }
+        Asked::Refused(refusal) => refuse(refusal),
     }
-    let counts = board.counts;
-    if !state.fits(counts) {
-        return refuse(STATE_BEYOND_BOARD);
-    }
-    let sought = winding(board, relay, which);
-    let Sought::Between(ends) = sought else {
-        return refuse(NO_SUCH_WINDING);
-    };
-    let near = neighbours::neighbours(board, state);
-    search::search(&near, counts.terminals, ends, allowance)
 }

@@ -1,6 +1,6 @@
--- Our chains and the published model's paths agree: of a board that breaks no rule, the chains that end at minus are
--- exactly the available paths from pos to neg, and so a winding is live exactly if one of its connections is current
--- carrying.
+-- Our chains and the published model's paths agree: of a board whose counts and parts fit, the chains that end at minus
+-- are exactly the available paths from pos to neg, and so a winding is live exactly if one of its connections is
+-- current carrying.
 use Prim.Native.Nat.{ℕ, _+_, _-_, _≤_, _<_}
 use native.Mathlib.Omega.{arith}
 use mathlib.Core.Path.{_≡_, refl, sym, ap, _∙_}
@@ -12,7 +12,7 @@ use Rattle.lists.specs.Members.{_∈_, All}
 use Rattle.lists.proofs.MemberLaws.{all-map}
 use Rattle.board.specs.declared.Part.{Part}
 use Rattle.board.specs.declared.Board.{Board}
-use Rattle.board.specs.Rules.{boardFine}
+use Rattle.board.specs.BreaksNoRule.{BoardFits}
 use Rattle.state.specs.declared.State.{State}
 use Rattle.neighbours.specs.Conduction.{conducts}
 use Rattle.neighbours.specs.Neighbours.{EndsAt, Joined}
@@ -68,13 +68,13 @@ module _ (b : Board) (s : State) where
   -- ---- paths and chains
 
   -- the terminals of a path lie inside the board, because each is joined to another
-  linked-inside : (p : List ℕ) → boardFine b ≡ true → 2 ≤ length p → Linked (Joined b s) p
+  linked-inside : (p : List ℕ) → BoardFits b → 2 ≤ length p → Linked (Joined b s) p
       → All (λ (x : ℕ). x < b .counts .terminals) p
-  linked-inside p fine long linked =
+  linked-inside p fits long linked =
       let T = b .counts .terminals in
       steps-members (λ (x : ℕ). x < T) p long
       (all-map (λ (k : ℕ × ℕ). Joined b s (k .0) (k .1)) (λ (k : ℕ × ℕ). (k .0 < T) × (k .1 < T))
-      (λ k j. joined-inside b s (k .0) (k .1) fine (part-joined b s (k .0) (k .1) fine j)) (steps p) linked)
+      (λ k j. joined-inside b s (k .0) (k .1) fits (part-joined b s (k .0) (k .1) fits j)) (steps p) linked)
 
   path-linked : (p : List ℕ) → Available b s p → Linked (Joined b s) p
   path-linked p path =
@@ -87,12 +87,12 @@ module _ (b : Board) (s : State) where
       (λ i h e. path .available .no-repetition i (length p - 1) (omega arith)
       (omega (arith, path .available .long)) (omega arith) (e ∙ sym (path .ends)))
 
-  path-chain : (p : List ℕ) → boardFine b ≡ true → AvailablePath b s pos neg p
+  path-chain : (p : List ℕ) → BoardFits b → AvailablePath b s pos neg p
       → IsChain (Joined b s) (b .counts .terminals) p × (ending p ≡ minus)
-  path-chain p fine path = (
+  path-chain p fits path = (
     record {
       begins = place-begins p (path .available .long) (path .starts);
-      inside = linked-inside p fine (path .available .long) (path-linked p (path .available));
+      inside = linked-inside p fits (path .available .long) (path-linked p (path .available));
       once = places-once p (path .available .no-repetition);
       linked = path-linked p (path .available);
       stops = path-stops p path;
@@ -116,10 +116,10 @@ module _ (b : Board) (s : State) where
 
 -- ---- live and current carrying
 
-carrying-live : (b : Board) (s : State) (x y : ℕ) → boardFine b ≡ true → CurrentCarrying b s x y
+carrying-live : (b : Board) (s : State) (x y : ℕ) → BoardFits b → CurrentCarrying b s x y
     → Live (Joined b s) (b .counts .terminals) x y
-carrying-live b s x y fine carries =
-    let chain = path-chain b s (carries .path) fine (carries .from-pos-to-neg) in
+carrying-live b s x y fits carries =
+    let chain = path-chain b s (carries .path) fits (carries .from-pos-to-neg) in
     record {
       chain = carries .path;
       is-chain = chain .0;
@@ -148,16 +148,16 @@ live-carries b s x y live = ⊎-map (carried x y) (carried y x) (live .showing .
           contains = step-contains (live .chain) u v m;
         }
 
-carries-live : (b : Board) (s : State) (x y : ℕ) → boardFine b ≡ true → WindingCarries b s x y
+carries-live : (b : Board) (s : State) (x y : ℕ) → BoardFits b → WindingCarries b s x y
     → Live (Joined b s) (b .counts .terminals) x y
-carries-live b s x y fine (inl carries) = carrying-live b s x y fine carries
-carries-live b s x y fine (inr carries) =
-    live-turned (Joined b s) (b .counts .terminals) y x (carrying-live b s y x fine carries)
+carries-live b s x y fits (inl carries) = carrying-live b s x y fits carries
+carries-live b s x y fits (inr carries) =
+    live-turned (Joined b s) (b .counts .terminals) y x (carrying-live b s y x fits carries)
 
 -- ---- the theorems
 
 pub paths-are-chains : PathsAreChains
-paths-are-chains b s p fine = (path-chain b s p fine, λ h. chain-path b s p (h .0) (h .1))
+paths-are-chains b s p fits = (path-chain b s p fits, λ h. chain-path b s p (h .0) (h .1))
 
 pub live-is-carrying : LiveIsCarrying
-live-is-carrying b s x y fine = (live-carries b s x y, carries-live b s x y fine)
+live-is-carrying b s x y fits = (live-carries b s x y, carries-live b s x y fits)

@@ -1,30 +1,28 @@
 -- The theorems of specs/Eleven.antt, by how many parts are that winding: 1 or 0. Where it is 1, the winding is found,
 -- and it is the relay's, of the kind that the relay's sort asks for.
-use Prim.Native.Nat.{ℕ, _+_, _<_, _≤_}
+use Prim.Native.Nat.{ℕ, _≤_}
 use native.Mathlib.Omega.{arith}
 use mathlib.Core.Path.{_≡_, refl, sym, ap, ap₂, _∙_}
-use mathlib.Core.Logic.{_⊎_, _↔_, inl, inr, ⊎-map, ⊎-elim}
-use mathlib.Core.Bool.{Bool, true, false}
-use mathlib.Core.List.{List, [], _∷_}
+use mathlib.Core.Logic.{_⊎_, _↔_, inl, inr, ⊎-elim}
+use mathlib.Core.Bool.{Bool, true}
+use mathlib.Core.List.{List}
 use mathlib.Core.Option.{none, some, Option·none-ne-some, Option·some-injective}
 use lib.Dec.{eqb, ltb}
-use borrow.Author.Tests.{eqb-true, ne-eqb, ltb-true, ltb-false}
+use borrow.Author.Tests.{eqb-true, ltb-true, ltb-false}
 use Rattle.lists.specs.Members.{_∈_}
-use Rattle.bits.proofs.BoolLaws.{both-true, either-true, by-test, by-less}
+use Rattle.bits.proofs.BoolLaws.{both-true, either-true, by-test}
 use Rattle.refusals.specs.Outcomes.{Outcome, given, refused}
 use Rattle.refusals.specs.Refusals.{noSuchWinding}
 use Rattle.refusals.proofs.OutcomeLaws.{refused-never}
 use Rattle.kinds.specs.declared.Kind.{Kind}
 use Rattle.kinds.specs.declared.Kind.the-variants.{Regular, Drawing, Dropping}
-use Rattle.kinds.specs.Kinds.{kindNumber, nameOf, kindOf, buttonKind, regularKind, drawingKind, droppingKind}
+use Rattle.kinds.specs.Kinds.{kindNumber, nameOf, kindOf, regularKind, drawingKind, droppingKind}
 use Rattle.kinds.proofs.KindLaws.{kind-of-parts}
 use Rattle.board.specs.declared.Part.{Part}
-use Rattle.board.specs.declared.Counts.{Counts}
 use Rattle.board.specs.declared.Board.{Board}
 use Rattle.board.specs.Parts.{partsOf}
-use Rattle.board.specs.Rules.{nameFine, partFits, boardFine}
+use Rattle.board.specs.Rules.{boardFine}
 use Rattle.board.specs.Sorts.{carries, windingsOf, isRegular, isSteel}
-use Rattle.board.proofs.WindingLaws.{partsFit, part-named}
 use Rattle.board.proofs.FineLaws.{fine-parts-fit, fine-relays-wound}
 use Rattle.state.specs.declared.State.{State}
 use Rattle.search.specs.declared.Winding.{Winding}
@@ -34,150 +32,40 @@ use Rattle.search.specs.declared.Finding.the-variants as said
 use Rattle.search.specs.Verdicts as verdict
 use Rattle.judge.specs.declared.Which.{Which}
 use Rattle.judge.specs.declared.Which.the-variants.{First, Second}
-use Rattle.judge.specs.RelayWindings.{isFirst, isWinding, windingOf}
+use Rattle.judge.specs.RelayWindings.{endsOf, windingOf}
 use Rattle.judge.specs.Judging.{windingFor, Judges}
-use Rattle.judge.proofs.SoughtLaws.{endsOf, winding-here, winding-past, winding-none}
+use Rattle.judge.proofs.WoundLaws.{its, these, first-sum, second-sum, windings-counted, sorted-most, sorted-none}
+use Rattle.judge.proofs.WoundLaws.{regular-second, beyond-none, Found, sought, missing-counted, counted-missing}
+use Rattle.judge.proofs.WoundLaws.{some-found}
 use Rattle.judge.proofs.JudgeLaws.{winding-for-sought, winding-for-given, winding-for-eleven, judging-by}
 use Rattle.judge_means.specs.Eleven.{LineEleven, ElevenExactly, ItsWinding, TheWinding, RegularWound, SteelWound}
 use Rattle.judge_means.specs.Eleven.{EveryRelayWound}
 use Rattle.judge_means.proofs.Exactness.{FindingBy, live-by, dead-by, undecided-by, verdict-finding}
-use Rattle.lists.proofs.CountedLaws.{worth, counted, member-counted, counted-only}
+use Rattle.lists.proofs.CountedLaws.{member-counted, counted-only}
 
--- ---- how many parts are winding n of relay r
---     its n r p       part p is it
---     these n r ps    how many of the parts ps are
+-- ---- a winding of which there is at most one
 
-abbrev its : Which → ℕ → Part → Bool
-its n r p = isWinding n r (p .kind)
-
-abbrev these : Which → ℕ → List Part → ℕ
-these n r ps = counted (its n r) ps
-
--- a kind has one number, so no part is two of a relay's windings
-carries-exclusive : (i j r : ℕ) (k : Kind) → ¬ (i ≡ j) → carries i r k ≡ true → carries j r k ≡ false
-unfolding carries
-carries-exclusive i j r k differ on =
-    let number = eqb-true (kindNumber k) i (both-true (eqb (kindNumber k) i) _ on .0) in
-    rw (ne-eqb (kindNumber k) j (λ e. differ (sym number ∙ e))) refl
-
-first-worth : (r : ℕ) (k : Kind)
-    → worth (isFirst r k) ≡ worth (carries regularKind r k) + worth (carries drawingKind r k)
-first-worth r k =
-    by-test (carries regularKind r k)
-    (λ on. rw (on, carries-exclusive regularKind drawingKind r k (λ e. omega (arith, e)) on) refl)
-    (λ off. rw off (omega arith))
-
-first-sum : (r : ℕ) (ps : List Part) → these First r ps ≡ windingsOf regularKind r ps + windingsOf drawingKind r ps
-unfolding windingsOf
-first-sum r [] = refl
-first-sum r (p ∷ ps) = omega (arith, first-worth r (p .kind), first-sum r ps)
-
-windings-counted : (j r : ℕ) (ps : List Part) → counted (λ (p : Part). carries j r (p .kind)) ps ≡ windingsOf j r ps
-unfolding windingsOf
-windings-counted j r [] = refl
-windings-counted j r (p ∷ ps) = omega (arith, windings-counted j r ps)
-
-second-sum : (r : ℕ) (ps : List Part) → these Second r ps ≡ windingsOf droppingKind r ps
-second-sum r ps = windings-counted droppingKind r ps
-
-module _ (r : ℕ) (ps : List Part) where
-  -- of a relay of one sort each winding is there at most once
-  sorted-most : (n : Which) → isRegular r ps ⊎ isSteel r ps → these n r ps ≤ 1
-  sorted-most First (inl (x, y, z)) = omega (arith, first-sum r ps)
-  sorted-most First (inr (x, y, z)) = omega (arith, first-sum r ps)
-  sorted-most Second (inl (x, y, z)) = omega (arith, second-sum r ps)
-  sorted-most Second (inr (x, y, z)) = omega (arith, second-sum r ps)
-
-  -- of the windings of a relay of one sort only the second of a regular one is missing
-  sorted-none : (n : Which) → isRegular r ps ⊎ isSteel r ps → these n r ps ≡ 0 → (n ≡ Second) × isRegular r ps
-  sorted-none First (inl (x, y, z)) no-part = absurd (omega (arith, first-sum r ps))
-  sorted-none First (inr (x, y, z)) no-part = absurd (omega (arith, first-sum r ps))
-  sorted-none Second (inl regular) no-part = (refl, regular)
-  sorted-none Second (inr (x, y, z)) no-part = absurd (omega (arith, second-sum r ps))
-
-  regular-second : (n : Which) → (n ≡ Second) × isRegular r ps → these n r ps ≡ 0
-  regular-second n (second, regular) = ap (λ (m : Which). these m r ps) second ∙ second-sum r ps ∙ regular .2
-
--- ---- a relay that the board has not
-
--- j is the number of a kind that carries a relay
-module _ (c : Counts) (r j : ℕ) (some : eqb j 0 ≡ false) (relay : eqb j buttonKind ≡ false) where
-  carried-below : (k : Kind) → nameFine c k ≡ true → carries j r k ≡ true → r < c .relays
-  unfolding nameFine carries
-  carried-below k named on =
-      let both = both-true (eqb (kindNumber k) j) (eqb (nameOf k) r) on in
-      ltb-true r (c .relays) (rw (eqb-true (kindNumber k) j (both .0), eqb-true (nameOf k) r (both .1), some, relay)
-      at named)
-
-  past-free : (k : Kind) → nameFine c k ≡ true → c .relays ≤ r → carries j r k ≡ false
-  past-free k named past =
-      by-test (carries j r k) (λ on. absurd (omega (arith, past, carried-below k named on))) (λ off. off)
-
-  past-none : (ps : List Part) → partsFit c ps ≡ true → c .relays ≤ r → windingsOf j r ps ≡ 0
-  unfolding windingsOf partsFit
-  past-none [] fit past = refl
-  past-none (p ∷ ps) fit past =
-      let both = both-true (partFits c p) (partsFit c ps) fit in
-      omega (arith, ap worth (past-free (p .kind) (part-named c p (both .0)) past), past-none ps (both .1) past)
-
-beyond-none : (c : Counts) (n : Which) (r : ℕ) (ps : List Part) → partsFit c ps ≡ true → c .relays ≤ r
-    → these n r ps ≡ 0
-beyond-none c First r ps fit past =
-    omega (
-      arith,
-      first-sum r ps,
-      past-none c r regularKind refl refl ps fit past,
-      past-none c r drawingKind refl refl ps fit past,
-    )
-beyond-none c Second r ps fit past = second-sum r ps ∙ past-none c r droppingKind refl refl ps fit past
-
--- ---- the winding found
-
-module _ (n : Which) (r : ℕ) where
-  record Found (ps : List Part) : Type 0 where
-    part : Part
-    among : part ∈ ps
-    is-winding : its n r part ≡ true
-    found : windingOf n r ps ≡ some (endsOf part)
-
-  record Missing (ps : List Part) : Type 0 where
-    missing : windingOf n r ps ≡ none
-    no-part : these n r ps ≡ 0
-
-  -- among the parts the winding is found, or there is none
-  sought : (ps : List Part) → Found ps ⊎ Missing ps
-  sought [] = inr (record { missing = winding-none n r; no-part = refl })
-  sought (p ∷ ps) =
-      by-test (its n r p)
-      (λ on. inl (record { part = p; among = inl refl; is-winding = on; found = winding-here n r p ps on }))
-      (λ off. ⊎-map
-      (λ (f : Found ps). record {
+module _ (b : Board) (r : ℕ) (n : Which) (most : these n r (partsOf b) ≤ 1) where
+  -- the winding found is the relay's, and the only one
+  found-its : (e : Winding) → windingOf n r (partsOf b) ≡ some e → ItsWinding b r n e
+  found-its e answer =
+      let f = some-found n r (partsOf b) e answer in
+      let same = Option·some-injective (endsOf (f .part)) e (sym (f .found) ∙ answer) in
+      record {
         part = f .part;
-        among = inr (f .among);
+        on-board = f .among;
         is-winding = f .is-winding;
-        found =
-            winding-past n r p ps off ∙ f .found;
-      })
-      (λ (m : Missing ps). record {
-        missing = winding-past n r p ps off ∙ m .missing;
-        no-part =
-            omega (arith, ap worth off, m .no-part);
-      })
-      (sought ps))
+        ends = (ap (λ (w : Winding). w .a) same, ap (λ (w : Winding). w .b) same);
+        only =
+            λ p among on. counted-only (its n r) (partsOf b) most p (f .part) among (f .among) on
+            (f .is-winding);
+      }
 
-  missing-counted : (ps : List Part) → windingOf n r ps ≡ none → these n r ps ≡ 0
-  missing-counted ps missing =
-      ⊎-elim (λ f. absurd (Option·none-ne-some (endsOf (f .part)) (sym missing ∙ f .found))) (λ m. m .no-part)
-      (sought ps)
-
-  counted-missing : (ps : List Part) → these n r ps ≡ 0 → windingOf n r ps ≡ none
-  counted-missing ps no-part =
-      ⊎-elim (λ f. absurd (omega (arith, no-part, member-counted (its n r) ps (f .part) (f .among) (f .is-winding))))
-      (λ m. m .missing) (sought ps)
-
-  some-found : (ps : List Part) (e : Winding) → windingOf n r ps ≡ some e → Found ps
-  some-found ps e answer =
-      ⊎-elim (λ f. f) (λ m. absurd (Option·none-ne-some e (sym (m .missing) ∙ answer))) (sought ps)
+  -- where some part is that winding, the relay has it
+  counted-its : 1 ≤ these n r (partsOf b) → (e : Winding) × ItsWinding b r n e
+  counted-its here =
+      ⊎-elim (λ f. (endsOf (f .part), found-its (endsOf (f .part)) (f .found)))
+      (λ m. absurd (omega (arith, here, m .no-part))) (sought n r (partsOf b))
 
 -- ---- of a board that breaks no rule
 
@@ -206,46 +94,18 @@ module _ (b : Board) (r : ℕ) (n : Which) (fine : boardFine b ≡ true) where
   line-none (inr regular) = regular-second r (partsOf b) n regular
 
   -- the winding is missing exactly if the line of 11 holds
-  pub missing-exactly : windingOf n r (partsOf b) ≡ none ↔ LineEleven b r n
+  missing-exactly : windingOf n r (partsOf b) ≡ none ↔ LineEleven b r n
   missing-exactly = (
     λ missing. none-line (missing-counted n r (partsOf b) missing),
     λ line. counted-missing n r (partsOf b) (line-none line),
   )
-
-  -- ---- its winding
-
-  -- the winding found is the relay's, and the only one
-  found-its : (e : Winding) → windingOf n r (partsOf b) ≡ some e → ItsWinding b r n e
-  found-its e answer =
-      let f = some-found n r (partsOf b) e answer in
-      let same = Option·some-injective (endsOf (f .part)) e (sym (f .found) ∙ answer) in
-      record {
-        part = f .part;
-        on-board = f .among;
-        is-winding = f .is-winding;
-        ends = (ap (λ (w : Winding). w .a) same, ap (λ (w : Winding). w .b) same);
-        only =
-            λ p among on. counted-only (its n r) (partsOf b) fine-most p (f .part) among (f .among) on
-            (f .is-winding);
-      }
-
-  -- where some part is that winding, the relay has it
-  counted-its : 1 ≤ these n r (partsOf b) → (e : Winding) × ItsWinding b r n e
-  counted-its here =
-      ⊎-elim (λ f. (endsOf (f .part), found-its (endsOf (f .part)) (f .found)))
-      (λ m. absurd (omega (arith, here, m .no-part))) (sought n r (partsOf b))
-
-  -- where the line of 11 does not hold, the relay has that winding
-  pub its-there : ¬ (LineEleven b r n) → (e : Winding) × ItsWinding b r n e
-  its-there no-line =
-      by-less (these n r (partsOf b)) 1 (λ few. absurd (no-line (none-line (omega (arith, few))))) counted-its
 
 module _ (b : Board) (r : ℕ) (n : Which) where
   its-counted : (e : Winding) → ItsWinding b r n e → 1 ≤ these n r (partsOf b)
   its-counted e i = member-counted (its n r) (partsOf b) (i .part) (i .on-board) (i .is-winding)
 
   -- the relay's winding is found
-  its-found : (e : Winding) → ItsWinding b r n e → windingOf n r (partsOf b) ≡ some e
+  pub its-found : (e : Winding) → ItsWinding b r n e → windingOf n r (partsOf b) ≡ some e
   its-found e i =
       ⊎-elim (λ f. f .found ∙ ap some (same-ends f (i .only (f .part) (f .among) (f .is-winding))))
       (λ m. absurd (omega (arith, m .no-part, its-counted e i))) (sought n r (partsOf b))
@@ -259,9 +119,6 @@ module _ (b : Board) (r : ℕ) (n : Which) where
 
   pub its-winding-unique : (e f : Winding) → ItsWinding b r n e → ItsWinding b r n f → e ≡ f
   its-winding-unique e f i j = Option·some-injective e f (sym (its-found e i) ∙ its-found f j)
-
-  pub its-no-line : boardFine b ≡ true → (e : Winding) → ItsWinding b r n e → ¬ (LineEleven b r n)
-  its-no-line fine e i line = omega (arith, line-none b r n fine line, its-counted e i)
 
 -- ---- the kind of a relay's winding, by the relay's sort
 
@@ -307,20 +164,23 @@ module _ (b : Board) (r : ℕ) where
   dropping-kind e i = carries-kind droppingKind r (i .part .kind) (i .is-winding)
 
   -- a regular relay has one winding, a steel-core relay two
-  regular-wound : boardFine b ≡ true → isRegular r (partsOf b) → RegularWound b r
-  regular-wound fine regular =
-      let there = counted-its b r First fine (omega (arith, first-sum r (partsOf b), regular .0)) in
+  pub regular-wound : isRegular r (partsOf b) → RegularWound b r
+  regular-wound regular =
+      let most = sorted-most r (partsOf b) First (inl regular) in
+      let there = counted-its b r First most (omega (arith, first-sum r (partsOf b), regular .0)) in
       record {
         winding = there .0;
         first = there .1;
         kind = regular-kind regular (there .0) (there .1);
-        no-second = λ e i. its-no-line b r Second fine e i (inr (refl, regular));
+        no-second =
+            λ e i. omega (arith, regular-second r (partsOf b) Second (refl, regular), its-counted b r Second e i);
       }
 
-  steel-wound : boardFine b ≡ true → isSteel r (partsOf b) → SteelWound b r
-  steel-wound fine steel =
-      let draws = counted-its b r First fine (omega (arith, first-sum r (partsOf b), steel .1)) in
-      let drops = counted-its b r Second fine (omega (arith, second-sum r (partsOf b), steel .2)) in
+  pub steel-wound : isSteel r (partsOf b) → SteelWound b r
+  steel-wound steel =
+      let most : (n : Which) → these n r (partsOf b) ≤ 1 = λ n. sorted-most r (partsOf b) n (inr steel) in
+      let draws = counted-its b r First (most First) (omega (arith, first-sum r (partsOf b), steel .1)) in
+      let drops = counted-its b r Second (most Second) (omega (arith, second-sum r (partsOf b), steel .2)) in
       record {
         drawing = draws .0;
         first = draws .1;
@@ -370,9 +230,9 @@ pub the-winding : TheWinding
 the-winding b s r n e = (
   λ accepted.
       let answer = winding-for-given b s r n e accepted in
-      (answer .0, answer .1, found-its b r n (answer .0) e (answer .2)),
+      (answer .0, answer .1, found-its b r n (fine-most b r n (answer .0)) e (answer .2)),
   λ (fine, fits, i). winding-for-sought b s r n (some e) fine fits (its-found b r n e i),
 )
 
 pub every-relay-wound : EveryRelayWound
-every-relay-wound b r fine = (regular-wound b r fine, steel-wound b r fine)
+every-relay-wound b r fine = (regular-wound b r, steel-wound b r)

@@ -13,10 +13,9 @@ use borrow.Author.Tests.{leb-true, leb-false}
 use Rattle.bits.proofs.BoolLaws.{by-test}
 use Rattle.lists.specs.Members.{_∈_, All}
 use Rattle.lists.proofs.MemberLaws.{append-member, all-member, all-map}
-use Rattle.refusals.specs.Outcomes.{given}
 use Rattle.board.specs.declared.Board.{Board}
-use Rattle.board.specs.Rules.{boardFine}
-use Rattle.board.proofs.FineLaws.{fine-range}
+use Rattle.board.specs.BreaksNoRule.{BoardFits}
+use Rattle.board.proofs.BreaksNoRule.{fine-fits}
 use Rattle.state.specs.declared.State.{State}
 use Rattle.neighbours.specs.Neighbours.{Joined, joined, neighbours}
 use Rattle.neighbours.proofs.JoinedLaws.{joined-part, part-joined}
@@ -37,7 +36,7 @@ use Rattle.search.proofs.VerdictLaws.{weighed-within, weighed-short, FirstAt, f
 use Rattle.search.proofs.VerdictLaws.{first-shown-none, effort-none, told-verdict-injective}
 use Rattle.judge.specs.declared.Which.{Which}
 use Rattle.judge.specs.Judging.{Judges}
-use Rattle.judge.proofs.JudgeLaws.{winding-for-given, judging-by}
+use Rattle.judge.proofs.JudgeLaws.{winding-for-given, judging-verdict}
 use Rattle.judge_means.specs.Circuits.{WindingCarries}
 use Rattle.judge_means.specs.Exactness.{Judge, Keeps, AcceptedWinding, chainsOf, ChainOf, IsLive}
 use Rattle.judge_means.specs.Exactness.{effortOf, TheChains, FirstShowing, EffortNumbers, OfEveryVerdict}
@@ -46,22 +45,22 @@ use Rattle.judge_means.specs.Exactness.{ShowsNone, DeadCounts, Undecided
 
 -- ---- the list holds exactly the chains
 
-pub chain-listed : (b : Board) (s : State) (c : List ℕ) → boardFine b ≡ true → ChainOf b s c → c ∈ chainsOf b s
-chain-listed b s c fine h =
+pub chain-listed : (b : Board) (s : State) (c : List ℕ) → BoardFits b → ChainOf b s c → c ∈ chainsOf b s
+chain-listed b s c fits h =
     chains-complete (joined (neighbours b s)) (b .counts .terminals) c
-    (chain-related (Joined b s) (Tested (joined (neighbours b s))) (λ x y j. part-joined b s x y fine j)
+    (chain-related (Joined b s) (Tested (joined (neighbours b s))) (λ x y j. part-joined b s x y fits j)
     (b .counts .terminals) c h)
 
-pub listed-chain : (b : Board) (s : State) (c : List ℕ) → boardFine b ≡ true → c ∈ chainsOf b s → ChainOf b s c
-listed-chain b s c fine m =
+pub listed-chain : (b : Board) (s : State) (c : List ℕ) → BoardFits b → c ∈ chainsOf b s → ChainOf b s c
+listed-chain b s c fits m =
     chain-related (Tested (joined (neighbours b s))) (Joined b s) (λ x y j. joined-part b s x y j)
     (b .counts .terminals) c
     (chains-correct (joined (neighbours b s)) (b .counts .terminals) c
-    (omega (arith, fine-range b fine .least-terminals)) m)
+    (omega (arith, fits .counts .least-terminals)) m)
 
 pub the-chains : TheChains
-the-chains b s fine = record {
-  exactly = λ c. (listed-chain b s c fine, chain-listed b s c fine);
+the-chains b s fits = record {
+  exactly = λ c. (listed-chain b s c fits, chain-listed b s c fits);
   ordered = chains-sorted (joined (neighbours b s)) (b .counts .terminals);
   once = chains-once (joined (neighbours b s)) (b .counts .terminals);
 }
@@ -111,27 +110,27 @@ pub verdict-finding : (b : Board) (s : State) (r : ℕ) (n : Which) (w : ℕ) (e
     → Judges b s r n w v → AcceptedWinding b s r n e
     → FindingBy (shows (e .a) (e .b)) (chainsOf b s) w v (v .finding)
 unfolding verdictBy
-verdict-finding b s r n w e v told taken = weighed-finding _ _ w v (told ∙ sym (judging-by b s r n w (given e) taken))
+verdict-finding b s r n w e v told taken = weighed-finding _ _ w v (told ∙ sym (judging-verdict b s r n w e taken))
 
 -- ---- live and listed are one, and the effort is a number in the list
 
-module _ (b : Board) (s : State) (e : Winding) (fine : boardFine b ≡ true) where
+module _ (b : Board) (s : State) (e : Winding) (fits : BoardFits b) where
   abbrev test : List ℕ → Bool
   test = shows (e .a) (e .b)
 
-  listed-live : (c : List ℕ) → firstShown test (chainsOf b s) ≡ some c → IsLive b s e
+  pub listed-live : (c : List ℕ) → firstShown test (chainsOf b s) ≡ some c → IsLive b s e
   listed-live c first =
       let shown = first-shown-some test (chainsOf b s) c first in
       record {
         chain = c;
-        is-chain = listed-chain b s c fine (shown .0);
+        is-chain = listed-chain b s c fits (shown .0);
         showing = shows-true (e .a) (e .b) c (shown .1);
       }
 
-  unlisted-dead : firstShown test (chainsOf b s) ≡ none → ¬ (IsLive b s e)
+  pub unlisted-dead : firstShown test (chainsOf b s) ≡ none → ¬ (IsLive b s e)
   unlisted-dead first live =
       false≢true
-      (sym (first-shown-none test (chainsOf b s) first (live .chain) (chain-listed b s (live .chain) fine
+      (sym (first-shown-none test (chainsOf b s) first (live .chain) (chain-listed b s (live .chain) fits
       (live .is-chain))) ∙ true-shows (e .a) (e .b) (live .chain) (live .showing))
 
   first-numbered : (c : List ℕ) (k : ℕ) → k ≡ effortOf b s e → FirstAt test (chainsOf b s) c → FirstShowing b s e k
@@ -159,7 +158,7 @@ module _ (b : Board) (s : State) (e : Winding) (fine : boardFine b ≡ true) whe
       (λ live. absurd (unlisted-dead first live), λ dead. effort-none test (chainsOf b s) first)
 
 pub effort-numbers : EffortNumbers
-effort-numbers b s e fine = effort-numbered b s e fine (firstShown _ _) refl
+effort-numbers b s e fits = effort-numbered b s e fits (firstShown _ _) refl
 
 -- ---- what stands after a chain in the list comes after it
 
@@ -171,8 +170,8 @@ sorted-after (d ∷ k) c l h = sorted-after k c l (h .1)
 
 module _ (b : Board) (s : State) (r : ℕ) (n : Which) (w : ℕ) (e : Winding) (v : Verdict) (told : Judges b s r n w v)
     (taken : AcceptedWinding b s r n e) where
-  fine : boardFine b ≡ true
-  fine = winding-for-given b s r n e taken .0
+  fits : BoardFits b
+  fits = fine-fits b (winding-for-given b s r n e taken .0)
 
   abbrev ComesTo : Finding → Type 0
   ComesTo f = FindingBy (shows (e .a) (e .b)) (chainsOf b s) w v f
@@ -187,21 +186,21 @@ module _ (b : Board) (s : State) (r : ℕ) (n : Which) (w : ℕ) (e : Winding) (
   its-live = (λ h. there (comes-to-this said.Live h), back (v .finding) comes-to)
     where
       there : ComesTo said.Live → IsLive b s e × (effortOf b s e ≤ w)
-      there (live-by c within first is) = (listed-live b s e fine c first, within)
+      there (live-by c within first is) = (listed-live b s e fits c first, within)
 
       back : (f : Finding) → ComesTo f → IsLive b s e × (effortOf b s e ≤ w) → f ≡ said.Live
       back said.Live (live-by c within first is) h = refl
-      back said.Dead (dead-by within first is) h = absurd (unlisted-dead b s e fine first (h .0))
+      back said.Dead (dead-by within first is) h = absurd (unlisted-dead b s e fits first (h .0))
       back said.Undecided (undecided-by short is) h = absurd (omega (arith, short, h .1))
 
   its-dead : v .finding ≡ said.Dead ↔ ¬ (IsLive b s e) × (effortOf b s e ≤ w)
   its-dead = (λ h. there (comes-to-this said.Dead h), back (v .finding) comes-to)
     where
       there : ComesTo said.Dead → ¬ (IsLive b s e) × (effortOf b s e ≤ w)
-      there (dead-by within first is) = (unlisted-dead b s e fine first, within)
+      there (dead-by within first is) = (unlisted-dead b s e fits first, within)
 
       back : (f : Finding) → ComesTo f → ¬ (IsLive b s e) × (effortOf b s e ≤ w) → f ≡ said.Dead
-      back said.Live (live-by c within first is) h = absurd (h .0 (listed-live b s e fine c first))
+      back said.Live (live-by c within first is) h = absurd (h .0 (listed-live b s e fits c first))
       back said.Dead (dead-by within first is) h = refl
       back said.Undecided (undecided-by short is) h = absurd (omega (arith, short, h .1))
 
@@ -222,7 +221,7 @@ module _ (b : Board) (s : State) (r : ℕ) (n : Which) (w : ℕ) (e : Winding) (
   shown-later c d at is shows-it =
       place
       (append-member d (at .early) (c ∷ at .late)
-      (subst (λ (l : List (List ℕ)). d ∈ l) (at .split) (chain-listed b s d fine is)))
+      (subst (λ (l : List (List ℕ)). d ∈ l) (at .split) (chain-listed b s d fits is)))
     where
       place : (d ∈ at .early) ⊎ (d ∈ (c ∷ at .late)) → (d ≡ c) ⊎ Before c d
       place (inl early) =
@@ -245,11 +244,11 @@ module _ (b : Board) (s : State) (r : ℕ) (n : Which) (w : ℕ) (e : Winding) (
       shown-by (live-by c within first is) =
           let at = first-shown-at (shows (e .a) (e .b)) (chainsOf b s) c first in
           record {
-            numbered = first-numbered b s e fine c (v .effort) (ap (λ (u : Verdict). u .effort) is) at;
+            numbered = first-numbered b s e fits c (v .effort) (ap (λ (u : Verdict). u .effort) is) at;
             its-length = ap (λ (u : Verdict). u .length) is;
             its-places = ap (λ (u : Verdict). u .terminals) is;
             is-chain =
-                listed-chain b s c fine (first-shown-some (shows (e .a) (e .b)) (chainsOf b s) c first .0);
+                listed-chain b s c fits (first-shown-some (shows (e .a) (e .b)) (chainsOf b s) c first .0);
             first = λ d chain shown. shown-later c d at chain shown;
           }
 
@@ -275,7 +274,7 @@ module _ (b : Board) (s : State) (r : ℕ) (n : Which) (w : ℕ) (e : Winding) (
   its-current : (v .finding ≡ said.Live ↔ WindingCarries b s (e .a) (e .b) × (effortOf b s e ≤ w))
       × (v .finding ≡ said.Dead ↔ ¬ (WindingCarries b s (e .a) (e .b)) × (effortOf b s e ≤ w))
   its-current =
-      let agree = live-is-carrying b s (e .a) (e .b) fine in (
+      let agree = live-is-carrying b s (e .a) (e .b) fits in (
         (
           λ live. let so = its-live .0 live in (agree .0 (so .0), so .1),
           λ so. its-live .1 (agree .1 (so .0), so .1),

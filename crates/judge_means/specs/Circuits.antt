@@ -14,7 +14,7 @@
 --     PathContainsConnection p x y    "(∃ i : Nat • i ∈ {1 .. len p - 1} ∧ (p(i), p(i+1)) = (c1, c2))"
 --     CurrentCarrying b s x y         "(∃ p : Path • p ∈ availablePaths(pos, neg, n) ∧ PathContainsConnection(p, con))"
 --     WindingCarries b s x y          one of the connections of a winding between x and y is current carrying
--- Agreement, of a board that breaks no rule (`proofs/Circuits.antt`):
+-- Agreement, of a board whose counts and parts fit (`proofs/Circuits.antt`):
 --     PathsAreChains    the available paths from pos to neg are exactly our chains that end at 1
 --     LiveIsCarrying    a winding is live, by our chains, exactly if one of its connections is current carrying
 use Prim.Native.Nat.{ℕ, _+_, _-_, _<_, _≤_}
@@ -27,7 +27,7 @@ use Rattle.lists.specs.Members.{_∈_}
 use Rattle.board.specs.declared.Part.{Part}
 use Rattle.board.specs.declared.Board.{Board}
 use Rattle.board.specs.Parts.{partsOf}
-use Rattle.board.specs.Rules.{boardFine}
+use Rattle.board.specs.BreaksNoRule.{BoardFits}
 use Rattle.state.specs.declared.State.{State}
 use Rattle.neighbours.specs.Conduction.{conducts}
 use Rattle.neighbours.specs.Neighbours.{Joined}
@@ -77,11 +77,11 @@ WindingCarries b s x y = CurrentCarrying b s x y ⊎ CurrentCarrying b s y x
 abbrev pub PathsAreChains : Type 0
 PathsAreChains =
     (b : Board) (s : State) (p : List ℕ)
-    → boardFine b ≡ true
+    → BoardFits b
     → AvailablePath b s pos neg p ↔ IsChain (Joined b s) (b .counts .terminals) p × (ending p ≡ minus)
 
 abbrev pub LiveIsCarrying : Type 0
 LiveIsCarrying =
     (b : Board) (s : State) (x y : ℕ)
-    → boardFine b ≡ true
+    → BoardFits b
     → Live (Joined b s) (b .counts .terminals) x y ↔ WindingCarries b s x y

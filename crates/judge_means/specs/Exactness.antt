@@ -10,7 +10,7 @@
 --     chainsOf b s                 the list of all chains of board b in state s
 --     ChainOf b s c                c is a chain of board b in state s
 --     AllChains b s                that list holds exactly the rule book's chains, in dictionary order, each once
---     TheChains                    so it is of every board that breaks no rule
+--     TheChains                    so it is of every board whose counts and parts fit
 --     IsLive b s e                 "A winding between a and b is live if some chain ends at 1 and has a and b side by
 --                                  side, in either order"
 --     effortOf b s e               its effort
@@ -39,7 +39,7 @@ use lib.ListN.{length}
 use Rattle.lists.specs.Members.{_∈_, All, Once}
 use Rattle.refusals.specs.Outcomes.{given}
 use Rattle.board.specs.declared.Board.{Board}
-use Rattle.board.specs.Rules.{boardFine}
+use Rattle.board.specs.BreaksNoRule.{BoardFits}
 use Rattle.state.specs.declared.State.{State}
 use Rattle.neighbours.specs.Neighbours.{Joined, joined, neighbours}
 use Rattle.chains.specs.Chains.{IsChain, Before, Sorted, Shows, Live}
@@ -79,7 +79,7 @@ pub record AllChains (b : Board) (s : State) : Type 0 where
   pub once : Once (chainsOf b s)
 
 abbrev pub TheChains : Type 0
-TheChains = (b : Board) (s : State) → boardFine b ≡ true → AllChains b s
+TheChains = (b : Board) (s : State) → BoardFits b → AllChains b s
 
 pub record FirstShowing (b : Board) (s : State) (e : Winding) (k : ℕ) : Type 0 where
   pub early : List (List ℕ)
@@ -93,7 +93,7 @@ pub record FirstShowing (b : Board) (s : State) (e : Winding) (k : ℕ) : Type 0
 abbrev pub EffortNumbers : Type 0
 EffortNumbers =
     (b : Board) (s : State) (e : Winding)
-    → boardFine b ≡ true
+    → BoardFits b
     → (IsLive b s e → FirstShowing b s e (effortOf b s e))
     × (¬ (IsLive b s e) → effortOf b s e ≡ length (chainsOf b s))
 

@@ -14,6 +14,8 @@ use lib.ListN.{length, drop, length-append}
 use Rattle.refusals.specs.declared.Refusal.{Refusal}
 use Rattle.refusals.specs.Outcomes.{Outcome, given, refused}
 use Rattle.refusals.specs.Refusals.{bufferTooShort}
+use Rattle.refusals.specs.Order.{firstNo}
+use Rattle.refusals.proofs.OrderLaws.{StandsAgainst, answering-stands}
 use Rattle.number.proofs.Buffers.{sets-at-zero}
 use Rattle.runs.specs.declared.Ending as code-ending
 use Rattle.runs.specs.declared.Ending.the-variants.{Idle, Spent, Undecided, Conflict, Refused}
@@ -21,7 +23,7 @@ use Rattle.runs.specs.Looks.{Ending, idle, spent, undecided, conflict}
 use Rattle.runs.specs.Running.{toldEnding}
 use Rattle.runs.proofs.Ending.{the-type}
 use Rattle.lines.specs.Texts.{space, decimal, spaced, ended, refusedText, wordText, mostDigits}
-use Rattle.lines.specs.Lines.{Line, event, closing, lineText, longestLine, lineWriting}
+use Rattle.lines.specs.Lines.{Line, event, closing, lineText, longestLine, lineLines, lineWriting}
 use Rattle.lines.specs.Pieces.{Put, endedBy}
 use Rattle.lines.proofs.DecimalLaws.{decimal-few}
 use Rattle.lines.proofs.PieceLaws.{put-room, put-piece-next}
@@ -48,18 +50,37 @@ line-length-some (event e (given w) m d) = simp length-append (omega arith)
 line-length-some (event e (refused n p) m d) = simp length-append (omega arith)
 line-length-some (closing n p) = simp length-append (omega arith)
 
+-- ---- room for a line
+
+pub line-room : (out : List ℕ) → longestLine ≤ length out → firstNo (lineLines out) ≡ given tt
+unfolding firstNo
+line-room out room = rw (le-leb longestLine (length out) room)
+
+pub line-short : (out : List ℕ) → length out < longestLine → firstNo (lineLines out) ≡ refused bufferTooShort 0
+unfolding firstNo
+line-short out short = rw (lt-leb longestLine (length out) short)
+
 -- ---- writing a line
 
 pub line-written : (l : Line) (out : List ℕ) → longestLine ≤ length out
     → _≡_ {A = Outcome ℕ × List ℕ} (lineWriting l out)
     (given (length (lineText l)), lineText l ++ drop (length (lineText l)) out)
 unfolding lineWriting
-line-written l out room = rw (le-leb longestLine (length out) room)
+line-written l out room = rw (line-room out room)
 
 pub line-refused : (l : Line) (out : List ℕ) → length out < longestLine
     → _≡_ {A = Outcome ℕ × List ℕ} (lineWriting l out) (refused bufferTooShort 0, out)
 unfolding lineWriting
-line-refused l out short = rw (lt-leb longestLine (length out) short)
+line-refused l out short = rw (line-short out short)
+
+-- what stands against writing a line; where it is refused, the buffer stays as it was
+pub line-writing-stands : (l : Line) (out : List ℕ)
+    → StandsAgainst (λ (x : Outcome ℕ × List ℕ). x .0) (λ x. x .1 ≡ out) (firstNo (lineLines out)) (lineWriting l out)
+unfolding lineWriting
+line-writing-stands l out =
+    answering-stands (λ (x : Outcome ℕ × List ℕ). x .0) (λ x. x .1 ≡ out) (λ n p. (refused n p, out))
+    (λ u. (given (length (lineText l)), lineText l ++ drop (length (lineText l)) out)) (λ n p. (refl, refl)) refl
+    (firstNo (lineLines out))
 
 -- a line that was put at the start is a line written
 pub line-put : (l : Line) (out : List ℕ) {r : ℕ} {out′ : List ℕ} → longestLine ≤ length out

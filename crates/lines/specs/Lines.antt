@@ -8,6 +8,7 @@
 --       closing n p                the line that ends a session: refused by n at place p
 --     lineText l                   the line l as text, with its line end
 --     longestLine                  the room that a line's buffer must have
+--     lineLines out                the lines of a call that writes a line, or lines, into the buffer `out`: 16
 --     lineWriting l out            what writing the line l into the buffer `out` answers, and the buffer afterwards:
 --                                  "Written bytes begin the buffer; the rest stays"
 --     toldLine, toldLineWritten    a line and an answer in the rule book's words and numbers
@@ -15,12 +16,12 @@
 --                                  buffer out′
 use Prim.Native.Nat.{ℕ}
 use mathlib.Core.Path.{_≡_}
-use mathlib.Core.Bool.{cond}
-use mathlib.Core.List.{List, _++_}
+use mathlib.Core.List.{List, [], _∷_, _++_}
 use lib.Dec.{leb}
 use lib.ListN.{length, drop}
 use Rattle.refusals.specs.Outcomes.{Outcome, given, refused}
 use Rattle.refusals.specs.Refusals.{bufferTooShort}
+use Rattle.refusals.specs.Order.{Order, firstNo, answering}
 use Rattle.runs.specs.Looks.{Ending}
 use Rattle.runs.specs.Running.{toldEnding}
 use Rattle.lines.specs.declared.Line as code
@@ -42,11 +43,14 @@ lineText (closing n p) = spaced refusedText ++ spaced (decimal n) ++ ended (deci
 abbrev pub longestLine : ℕ
 longestLine = 73
 
+abbrev pub lineLines : List ℕ → Order
+lineLines out = (leb longestLine (length out), bufferTooShort) ∷ []
+
 unfoldable pub lineWriting : Line → List ℕ → Outcome ℕ × List ℕ
 lineWriting l out =
-    cond (leb longestLine (length out))
-    (given (length (lineText l)), lineText l ++ drop (length (lineText l)) out)
-    (refused bufferTooShort 0, out)
+    answering (firstNo (lineLines out))
+    (λ n p. (refused n p, out))
+    (λ u. (given (length (lineText l)), lineText l ++ drop (length (lineText l)) out))
 
 abbrev pub toldLine : code.Line → Line
 toldLine (Event e w m d) = event e (toldEnding w) m d

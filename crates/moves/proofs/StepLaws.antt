@@ -1,13 +1,12 @@
--- Laws of a relay's step: its windings are judged as `judge` judges them; a larger allowance changes nothing but
--- undecided; a move changes that relay and nothing else. Runs go by these and by nothing of the definition's text.
+-- Laws of a relay's step: what is found on its windings, as `judge` says, and that it decides; a larger allowance
+-- changes nothing but undecided; a move changes that relay and nothing else. Runs go by these and by nothing of the
+-- definition's text.
 use Prim.Native.Nat.{ℕ, _≤_, _<_}
 use mathlib.Core.Path.{_≡_, refl, sym, ap, _∙_}
 use mathlib.Core.Logic.{_⊎_, inl, inr, ⊎-elim}
 use mathlib.Core.Bool.{Bool, true}
-use mathlib.Core.List.{List}
-use mathlib.Core.Option.{Option, none, some}
-use Rattle.refusals.specs.Outcomes.{Outcome, given, refused}
-use Rattle.refusals.specs.Refusals.{noSuchWinding}
+use mathlib.Core.Option.{some}
+use Rattle.refusals.specs.Outcomes.{Outcome, given}
 use Rattle.board.specs.declared.Counts.{Counts}
 use Rattle.board.specs.declared.Board.{Board}
 use Rattle.board.specs.Parts.{partsOf}
@@ -15,88 +14,113 @@ use Rattle.board.specs.Rules.{boardFine}
 use Rattle.state.specs.declared.State.{State}
 use Rattle.state.specs.States.{isDrawn, isPushed, withDrawn, withDropped, stateFine}
 use Rattle.state.proofs.StateLaws.{drawn-draw-other, drawn-drop-other, state-fits-draw, state-fits-drop}
-use Rattle.neighbours.specs.Neighbours.{neighbours}
+use Rattle.neighbours.specs.declared.Sets.{Sets}
+use Rattle.neighbours.specs.Neighbours.{setsOf}
 use Rattle.search.specs.declared.Winding.{Winding}
 use Rattle.search.specs.Verdicts as verdict
 use Rattle.search.proofs.VerdictLaws.{verdict-by-larger}
 use Rattle.judge.specs.declared.Which.{Which}
 use Rattle.judge.specs.declared.Which.the-variants.{First, Second}
-use Rattle.judge.specs.RelayWindings.{windingOf}
-use Rattle.judge.specs.Judging.{judging}
-use Rattle.judge.proofs.JudgeLaws.{winding-for-sought, judging-by, judging-verdict}
-use Rattle.moves.specs.Steps.{Move, drew, dropped, rests, undecided, conflict, moveBy, findingOn, stepBy, stepOf}
-use Rattle.moves.specs.Steps.{made}
-use Rattle.moves.proofs.MoveLaws.{move-larger}
+use Rattle.judge.specs.declared.Windings.{Windings}
+use Rattle.judge.specs.declared.Windings.the-variants as found
+use Rattle.judge.specs.RelayWindings.{OfRelay, regular, steel, absent, windingOf, windingsAt, windingNamed}
+use Rattle.judge.specs.RelayWindings.{toldWindings, FindsWindings}
+use Rattle.judge.specs.Judging.{judgedBy, judging}
+use Rattle.judge.proofs.WoundLaws.{windings-named}
+use Rattle.judge.proofs.JudgeLaws.{winding-for-sought, judging-given}
+use Rattle.moves.specs.Steps.{Move, drew, dropped, rests, undecided, conflict, decide, findingsBy, findingOn}
+use Rattle.moves.specs.Steps.{findingsOn, stepBy, stepOf, made}
+use Rattle.moves.proofs.MoveLaws.{decide-larger}
 
--- ---- one winding
+-- ---- what is found on the windings of relay r
 
--- the finding on the winding, where it is known which winding that is
-module _ (near : List ℕ) (b : Board) (r : ℕ) (n : Which) (w : ℕ) where
-  pub finding-missing : windingOf n r (partsOf b) ≡ none → findingOn near b r n w ≡ refused noSuchWinding 0
-  unfolding findingOn
-  finding-missing e = rw e refl
+-- where it is known which windings it has
+pub findings-at : (k : Sets) (b : Board) (r w : ℕ) (x : OfRelay Winding) → windingsAt r (partsOf b) ≡ x
+    → findingsBy (findingOn k b w) x ≡ findingsOn k b r w
+unfolding findingsOn
+findings-at k b r w x is = ap (findingsBy (findingOn k b w)) (sym is)
 
-  pub finding-verdict : (v : Winding) → windingOf n r (partsOf b) ≡ some v
-      → findingOn near b r n w ≡ verdict.verdictBy near (verdict.inSets (b .counts .terminals)) v w .finding
-  unfolding findingOn
-  finding-verdict v e = rw e refl
+-- by the answer z on which windings it has, and what was found on each, one law for each way out of `findings_on`
+module _ (k : Sets) (b : Board) (r w : ℕ) (z : Windings) (finds : FindsWindings b r z) where
+  findings-told : (x : OfRelay Winding) → toldWindings z ≡ x → findingsBy (findingOn k b w) x ≡ findingsOn k b r w
+  findings-told x told = findings-at k b r w x (sym finds ∙ told)
 
--- on a board and in a state that are not refused, the finding is that of the call `judge`
-pub finding-judging : (b : Board) (s : State) (r : ℕ) (n : Which) (w : ℕ) → boardFine b ≡ true
-    → stateFine (b .counts) s ≡ true → findingOn (neighbours b s) b r n w ≡ judging b s r n w .finding
-finding-judging b s r n w fine fits = by-sought (windingOf n r (partsOf b)) refl
-  where
-    by-sought : (o : Option Winding) → windingOf n r (partsOf b) ≡ o → findingOn (neighbours b s) b r n w ≡ judging
-        b s r n w .finding
-    by-sought (some v) e =
-        finding-verdict (neighbours b s) b r n w v e ∙ ap (λ (j : verdict.Verdict). j .finding)
-        (judging-verdict b s r n w v (neighbours b s) fine fits e refl)
-    by-sought none e =
-        finding-missing (neighbours b s) b r n w e ∙ ap (λ (j : verdict.Verdict). j .finding)
-        (judging-by b s r n w (refused noSuchWinding 0) (winding-for-sought b s r n none fine fits e))
+  pub findings-regular : (v : Winding) (o : Outcome verdict.Finding) → z ≡ found.Regular v → o ≡ findingOn k b w v
+      → regular o ≡ findingsOn k b r w
+  findings-regular v o is judged = ap regular judged ∙ findings-told (regular v) (ap toldWindings is)
 
--- a larger allowance x changes no finding but undecided
-pub finding-larger : (near : List ℕ) (b : Board) (r : ℕ) (n : Which) (w x : ℕ) → w ≤ x
-    → (findingOn near b r n w ≡ given verdict.undecided) ⊎ (findingOn near b r n x ≡ findingOn near b r n w)
-finding-larger near b r n w x more = by-sought (windingOf n r (partsOf b)) refl
-  where
-    by-sought : (o : Option Winding) → windingOf n r (partsOf b) ≡ o
-        → (findingOn near b r n w ≡ given verdict.undecided) ⊎ (findingOn near b r n x ≡ findingOn near b r n w)
-    by-sought none e = inr (finding-missing near b r n x e ∙ sym (finding-missing near b r n w e))
-    by-sought (some v) e =
-        rw (finding-verdict near b r n w v e, finding-verdict near b r n x v e)
-        (⊎-elim inl (λ same. inr (ap (λ (j : verdict.Verdict). j .finding) same))
-        (verdict-by-larger near _ v w x more))
+  pub findings-steel : (v u : Winding) (o q : Outcome verdict.Finding) → z ≡ found.Steel v u → o ≡ findingOn k b w v
+      → q ≡ findingOn k b w u → steel o q ≡ findingsOn k b r w
+  findings-steel v u o q is judged also =
+      ap (λ (x : Outcome verdict.Finding). steel x q) judged ∙ ap (steel (findingOn k b w v)) also
+      ∙ findings-told (steel v u) (ap toldWindings is)
+
+  pub findings-absent : z ≡ found.Absent → absent ≡ findingsOn k b r w
+  findings-absent is = findings-told absent (ap toldWindings is)
 
 -- ---- the step
 
 -- by the sets that were gathered in the state
-pub step-by : (b : Board) (s : State) (r w : ℕ) (near : List ℕ) (m : Move) → near ≡ neighbours b s
-    → m ≡ stepBy near b (isDrawn s r) r w → m ≡ stepOf b s r w
+pub step-by : (b : Board) (s : State) (r w : ℕ) (k : Sets) (m : Move) → k ≡ setsOf b s
+    → m ≡ stepBy k b (isDrawn s r) r w → m ≡ stepOf b s r w
 unfolding stepOf
-step-by b s r w near m gathered is = rw gathered at is
+step-by b s r w k m gathered is = rw gathered at is
 
--- by the findings on its windings
-pub step-findings : (near : List ℕ) (b : Board) (d k : Bool) (r w : ℕ) (x y : Outcome verdict.Finding) (m : Move)
-    → k ≡ d → x ≡ findingOn near b r First w → y ≡ findingOn near b r Second w → m ≡ moveBy k x y
-    → m ≡ stepBy near b d r w
+-- by what was found, f, of a relay that is drawn if e
+pub step-findings : (k : Sets) (b : Board) (d e : Bool) (r w : ℕ) (f : OfRelay (Outcome verdict.Finding)) (m : Move)
+    → e ≡ d → f ≡ findingsOn k b r w → m ≡ decide e f → m ≡ stepBy k b d r w
 unfolding stepBy
-step-findings near b d k r w x y m drawn e f is = rw (drawn, e, f) at is
+step-findings k b d e r w f m drawn found is = rw (drawn, found) at is
 
--- "its winding is always judged, with W": what a step goes by is what the call `judge` says
-pub step-judging : (b : Board) (w : ℕ) (s : State) (r : ℕ) → boardFine b ≡ true → stateFine (b .counts) s ≡ true
-    → stepOf b s r w ≡ moveBy (isDrawn s r) (judging b s r First w .finding) (judging b s r Second w .finding)
-step-judging b w s r fine fits =
-    sym (step-by b s r w (neighbours b s) _ refl (step-findings (neighbours b s) b (isDrawn s r) (isDrawn s r) r w _ _ _
-    refl (sym (finding-judging b s r First w fine fits)) (sym (finding-judging b s r Second w fine fits)) refl))
+-- "its winding is always judged, with W": where it is known which windings x the relay has, each of them is judged
+pub step-windings : (b : Board) (w : ℕ) (s : State) (r : ℕ) (x : OfRelay Winding) → windingsAt r (partsOf b) ≡ x
+    → stepOf b s r w ≡ decide (isDrawn s r) (findingsBy (findingOn (setsOf b s) b w) x)
+step-windings b w s r x is =
+    sym
+    (step-by b s r w (setsOf b s) _ refl
+    (step-findings (setsOf b s) b (isDrawn s r) (isDrawn s r) r w _ _ refl (findings-at (setsOf b s) b r w x is) refl))
+
+-- so, on a board and in a state that are not refused, a step goes by what the call `judge` says of each winding
+abbrev pub saidOf : Board → State → ℕ → ℕ → OfRelay Winding → OfRelay (Outcome verdict.Finding)
+saidOf b s r w (regular v) = regular (judging b s r First w .finding)
+saidOf b s r w (steel v u) = steel (judging b s r First w .finding) (judging b s r Second w .finding)
+saidOf b s r w absent = absent
+
+module _ (b : Board) (w : ℕ) (s : State) (r : ℕ) (fine : boardFine b ≡ true)
+    (fits : stateFine (b .counts) s ≡ true) where
+  finding-judging : (x : OfRelay Winding) → windingsAt r (partsOf b) ≡ x → (n : Which) (v : Winding)
+      → windingNamed n x ≡ some v → findingOn (setsOf b s) b w v ≡ judging b s r n w .finding
+  finding-judging x has n v is =
+      let its : windingOf n r (partsOf b) ≡ some v = sym (windings-named b r n fine) ∙ ap (windingNamed n) has ∙ is in
+      ap (λ (j : verdict.Verdict). j .finding)
+      (judging-given b s r n w v (setsOf b s) (winding-for-sought b s r n (some v) fine fits its) refl)
+
+  findings-said : (x : OfRelay Winding) → windingsAt r (partsOf b) ≡ x
+      → findingsBy (findingOn (setsOf b s) b w) x ≡ saidOf b s r w x
+  findings-said (regular v) has = ap regular (finding-judging (regular v) has First v refl)
+  findings-said (steel v u) has =
+      rw (finding-judging (steel v u) has First v refl, finding-judging (steel v u) has Second u refl) refl
+  findings-said absent has = refl
+
+  pub step-judging : stepOf b s r w ≡ decide (isDrawn s r) (saidOf b s r w (windingsAt r (partsOf b)))
+  step-judging =
+      step-windings b w s r (windingsAt r (partsOf b)) refl
+      ∙ ap (decide (isDrawn s r)) (findings-said (windingsAt r (partsOf b)) refl)
+
+-- a larger allowance x changes no finding but undecided
+finding-larger : (k : Sets) (b : Board) (w x : ℕ) → w ≤ x → (v : Winding)
+    → (findingOn k b w v ≡ given verdict.undecided) ⊎ (findingOn k b x v ≡ findingOn k b w v)
+unfolding judgedBy
+finding-larger k b w x more v =
+    ⊎-elim inl (λ same. inr (ap (λ (j : verdict.Verdict). j .finding) same))
+    (verdict-by-larger (k .near) _ v w x more)
 
 -- a step that is not undecided is the same at every larger allowance x
 pub step-larger : (b : Board) (w x : ℕ) (s : State) (r : ℕ) → w ≤ x → (stepOf b s r w ≡ undecided)
     ⊎ (stepOf b s r x ≡ stepOf b s r w)
-unfolding stepOf stepBy
+unfolding stepOf stepBy findingsOn
 step-larger b w x s r more =
-    move-larger (isDrawn s r) _ _ _ _ (finding-larger (neighbours b s) b r First w x more)
-    (finding-larger (neighbours b s) b r Second w x more)
+    decide-larger (isDrawn s r) _ _ (finding-larger (setsOf b s) b w x more) (windingsAt r (partsOf b))
 
 -- ---- "A move changes that relay and nothing else"
 

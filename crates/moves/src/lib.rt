@@ -1,20 +1,29 @@
-// Moves of a relay: what it does in a state, and the call that moves a named relay.
+// Moves of a relay: what it does by what was found on its windings, what it does in a state, and the call that moves a
+// named relay.
 ghost use mathlib.Core.Path.{_≡_};
-ghost use mathlib.Core.Bool.{_&&_, _||_, cond};
-ghost use Rattle.refusals.specs.Outcomes.{refused};
+ghost use mathlib.Core.Bool.{cond};
 ghost use Rattle.search.specs.Verdicts.{toldFinding};
-ghost use Rattle.moves.specs.Steps.{drew, dropped, rests, isLive, isUndecided, isMissing, toldMove, regularMove};
-ghost use Rattle.moves.specs.Steps.{steelMove, moveBy, findingOn, StepsRelay, AfterMove};
-ghost use Rattle.moves.specs.Moving.{toldMoved, Moves};
+ghost use Rattle.judge.specs.Judging.{judgedBy};
+ghost use Rattle.moves.specs.Steps.{drew, dropped, rests, isLive, isUndecided, anyUndecided, toldFindings};
+ghost use Rattle.moves.specs.Steps.{toldMove, regularMove, steelMove, findingsOn, Decides, StepsRelay, AfterMove};
+ghost use Rattle.moves.specs.Moving.{Moves};
 use board::Board;
-use judge::Sought;
-use judge::Which;
-use refusals::BROKEN_BOARD;
+use judge::Windings;
+use neighbours::Sets;
+use refusals::Against;
 use refusals::NO_SUCH_WINDING;
 use refusals::Refusal;
-use refusals::STATE_BEYOND_BOARD;
 use search::Finding;
+use search::Winding;
 use state::State;
+
+// What was found on a relay's windings: on the one of a regular relay, on the two of a steel one, or that the board has
+// no such relay.
+pub enum Findings {
+    Regular(Finding),
+    Steel(Finding, Finding),
+    Absent,
+}
 
 // What a move of a relay comes to.
 pub enum Move {
@@ -61,122 +70,103 @@ fn is_undecided(finding: Finding) -> bool
     }
 }
 
-// Whether a relay has no such winding.
-fn is_missing(finding: Finding) -> bool
-    ensures { λ r. ⌜ r ≡ isMissing (toldFinding finding) ⌝ }
+// Whether some winding of a relay was judged undecided.
+fn any_undecided(findings: Findings) -> bool
+    ensures { λ r. ⌜ r ≡ anyUndecided (toldFindings findings) ⌝ }
 {
-    match finding {
-        Finding::Refused(_) => true,
-        Finding::Live => false,
-        Finding::Dead => false,
-        Finding::Undecided => false,
+    match findings {
+        Findings::Regular(winding) => is_undecided(winding),
+        Findings::Steel(drawing, dropping) => is_undecided(drawing) || is_undecided(dropping),
+        Findings::Absent => false,
     }
 }
 
-// Whether a winding of the two was judged undecided.
-fn either_undecided(drawing: Finding, dropping: Finding) -> bool
-    ensures { λ r. ⌜ r ≡ (isUndecided (toldFinding drawing) || isUndecided (toldFinding dropping)) ⌝ }
+// What a regular relay does, with its winding live or dead.
+fn regular(drawn: bool, live: bool) -> Move
+    ensures { λ r. ⌜ toldMove r ≡ regularMove drawn live ⌝ }
 {
-    if is_undecided(drawing) {
-        true
+    if live { draws(drawn) } else { drops(drawn) }
+}
+
+// What a steel relay does, with each of its two windings live or dead.
+fn steel(drawn: bool, drawing: bool, dropping: bool) -> Move
+    ensures { λ r. ⌜ toldMove r ≡ steelMove drawn drawing dropping ⌝ }
+{
+    if drawing {
+        if dropping {
+            Move::Conflict
+        } else {
+            draws(drawn)
+        }
+    } else if dropping {
+        drops(drawn)
     } else {
-        is_undecided(dropping)
+        Move::Rests
     }
 }
 
-// Whether both windings were judged live.
-fn both_live(drawing: Finding, dropping: Finding) -> bool
-    ensures { λ r. ⌜ r ≡ (isLive (toldFinding drawing) && isLive (toldFinding dropping)) ⌝ }
-{
-    if is_live(drawing) {
-        is_live(dropping)
-    } else {
-        false
-    }
-}
-
-// What a regular relay comes to, by its winding.
-fn regular(drawn: bool, winding: Finding) -> Move
-    ensures { λ r. ⌜ toldMove r ≡ regularMove drawn (toldFinding winding) ⌝ }
-{
-    if is_undecided(winding) {
-        return Move::Undecided;
-    }
-    if is_live(winding) {
-        return draws(drawn);
-    }
-    drops(drawn)
-}
-
-// What a steel relay comes to, by its two windings.
-fn steel(drawn: bool, drawing: Finding, dropping: Finding) -> Move
-    ensures { λ r. ⌜ toldMove r ≡ steelMove drawn (toldFinding drawing) (toldFinding dropping) ⌝ }
-{
-    if either_undecided(drawing, dropping) {
-        return Move::Undecided;
-    }
-    if both_live(drawing, dropping) {
-        return Move::Conflict;
-    }
-    if is_live(drawing) {
-        return draws(drawn);
-    }
-    if is_live(dropping) {
-        return drops(drawn);
-    }
-    Move::Rests
-}
-
-// What a relay comes to that is made to draw: it draws if dropped.
+// What a relay does that is made to draw: it draws if dropped.
 fn draws(drawn: bool) -> Move
     ensures { λ r. ⌜ toldMove r ≡ cond drawn rests drew ⌝ }
 {
     if drawn { Move::Rests } else { Move::Drew }
 }
 
-// What a relay comes to that is made to drop: it drops if drawn.
+// What a relay does that is made to drop: it drops if drawn.
 fn drops(drawn: bool) -> Move
     ensures { λ r. ⌜ toldMove r ≡ cond drawn dropped rests ⌝ }
 {
     if drawn { Move::Dropped } else { Move::Rests }
 }
 
-// What a relay comes to by its first and its second winding: with a second one it is steel. What the board lacks rests.
-fn move_by(drawn: bool, first: Finding, second: Finding) -> Move
-    ensures { λ r. ⌜ toldMove r ≡ moveBy drawn (toldFinding first) (toldFinding second) ⌝ }
+// What a relay does by what was found on its windings. What the board lacks rests.
+pub fn decide(drawn: bool, findings: Findings) -> Move
+    ensures { λ r. ⌜ Decides drawn findings r ⌝ }
 {
-    if is_missing(first) {
-        return Move::Rests;
+    if any_undecided(findings) {
+        return Move::Undecided;
     }
-    if is_missing(second) {
-        return regular(drawn, first);
+    match findings {
+        Findings::Regular(winding) => regular(drawn, is_live(winding)),
+        Findings::Steel(drawing, dropping) => steel(drawn, is_live(drawing), is_live(dropping)),
+        Findings::Absent => Move::Rests,
     }
-    steel(drawn, first, second)
 }
 
-// That winding of a relay, judged by the sets of neighbours within the allowance.
-fn finding_on(near: &[u64; 64], board: Board, relay: u32, which: Which, allowance: u32) -> Finding
-    ensures { λ r. ⌜ toldFinding r ≡ findingOn (now (near .entry)) board relay which allowance ⌝ }
+// What is found on a winding, by the sets of neighbours of so many terminals within the allowance.
+fn finding_by(sets: Sets, terminals: u8, winding: Winding, allowance: u32) -> Finding
+    ensures { λ r. ⌜ toldFinding r ≡ judgedBy sets terminals winding allowance .finding ⌝ }
 {
-    let sought = judge::winding(board, relay, which);
-    let Sought::Between(ends) = sought else {
-        return Finding::Refused(Refusal {
-            number: NO_SUCH_WINDING,
-            place: 0,
-        });
-    };
-    let verdict = search::search(near, board.counts.terminals, ends, allowance);
+    let verdict = judge::judge_by(sets, terminals, winding, allowance);
     verdict.finding
 }
 
-// What a relay comes to in this state, by the sets of neighbours within the allowance.
-pub fn step(near: &[u64; 64], board: Board, state: State, relay: u32, allowance: u32) -> Move
-    ensures { λ r. ⌜ StepsRelay (now (near .entry)) board state relay allowance r ⌝ }
+// What is found on a relay's windings: each is judged.
+fn findings_on(sets: Sets, board: Board, relay: u32, allowance: u32) -> Findings
+    ensures { λ r. ⌜ toldFindings r ≡ findingsOn sets board relay allowance ⌝ }
 {
-    let drawn = bits::has(state.drawn, relay);
-    let first = finding_on(near, board, relay, Which::First, allowance);
-    let second = finding_on(near, board, relay, Which::Second, allowance);
-    move_by(drawn, first, second)
+    let terminals = board.counts.terminals;
+    let windings = judge::find_windings(board, relay);
+    match windings {
+        Windings::Regular(winding) => {
+            Findings::Regular(finding_by(sets, terminals, winding, allowance))
+        }
+        Windings::Steel(drawing, dropping) => {
+            let draws = finding_by(sets, terminals, drawing, allowance);
+            let drops = finding_by(sets, terminals, dropping, allowance);
+            Findings::Steel(draws, drops)
+        }
+        Windings::Absent => Findings::Absent,
+    }
+}
+
+// What a relay does in this state, by the sets of neighbours within the allowance.
+pub fn step(sets: Sets, board: Board, state: State, relay: u32, allowance: u32) -> Move
+    ensures { λ r. ⌜ StepsRelay sets board state relay allowance r ⌝ }
+{
+    let drawn = state.is_drawn(relay);
+    let findings = findings_on(sets, board, relay, allowance);
+    decide(drawn, findings)
 }
 
 // The state after a relay came to this: drawn, dropped, or as it was.
@@ -192,35 +182,24 @@ pub fn after(state: State, relay: u32, motion: Move) -> State
     }
 }
 
-// A refused move: the state as given. A call's place is 0.
-fn refuse(state: State, number: u32) -> Moved
-    ensures { λ r. ⌜ toldMoved r ≡ (state, refused number 0) ⌝ }
-{
-    Moved {
-        state,
-        answer: MoveAnswer::Refused(Refusal { number, place: 0 }),
-    }
-}
-
-// Moves a named relay, if it can move.
+// Moves a named relay, if it can move: refusals 15, 14 and 11.
 pub fn move_relay(board: Board, state: State, relay: u32, allowance: u32) -> Moved
     ensures { λ r. ⌜ Moves board state relay allowance r ⌝ }
 {
-    if !board::check(board) {
-        return refuse(state, BROKEN_BOARD);
-    }
-    let counts = board.counts;
-    if !state.fits(counts) {
-        return refuse(state, STATE_BEYOND_BOARD);
-    }
-    if bits::wide(counts.relays) <= relay {
-        return refuse(state, NO_SUCH_WINDING);
-    }
-    let near = neighbours::neighbours(board, state);
-    let motion = step(&near, board, state, relay, allowance);
-    let state = after(state, relay, motion);
-    Moved {
-        state,
-        answer: MoveAnswer::Says(motion),
+    let usable = state::usable(board, state);
+    let there = relay < bits::wide(board.counts.relays);
+    let against = usable.unless(there, NO_SUCH_WINDING);
+    match against {
+        Against::Nothing => {
+            let sets = neighbours::neighbours(board, state);
+            let motion = step(sets, board, state, relay, allowance);
+            let state = after(state, relay, motion);
+            let answer = MoveAnswer::Says(motion);
+            Moved { state, answer }
+        }
+        Against::Refused(refusal) => {
+            let answer = MoveAnswer::Refused(refusal);
+            Moved { state, answer }
+        }
     }
 }

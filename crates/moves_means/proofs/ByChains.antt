@@ -4,16 +4,16 @@ use Prim.Native.Nat.{ℕ, _<_}
 use native.Mathlib.Omega.{arith}
 use mathlib.Core.Path.{_≡_, subst}
 use mathlib.Core.Logic.{_⊎_, _↔_, inl, inr}
-use mathlib.Core.Bool.{true}
 use lib.Dec.{leb}
 use borrow.Author.Tests.{leb-true, leb-false}
 use Rattle.bits.proofs.BoolLaws.{by-test}
 use Rattle.board.specs.declared.Board.{Board}
 use Rattle.board.specs.Parts.{partsOf}
-use Rattle.board.specs.Rules.{boardFine}
 use Rattle.board.specs.Sorts.{isRegular, isSteel}
+use Rattle.board.specs.BreaksNoRule.{BoardFits}
+use Rattle.board.proofs.BreaksNoRule.{fine-fits}
 use Rattle.state.specs.declared.State.{State}
-use Rattle.state.specs.States.{isDrawn, stateFine}
+use Rattle.state.specs.States.{isDrawn}
 use Rattle.judge_means.proofs.Circuits.{live-is-carrying}
 use Rattle.search.specs.declared.Winding.{Winding}
 use Rattle.search.specs.Verdicts as verdict
@@ -32,17 +32,16 @@ use Rattle.moves_means.proofs.CurrentLaws.{through-carries, carries-thr
 use Rattle.moves_means.proofs.ComesLaws.{regular-guard, steel-guard, regular-one, regular-drew, regular-dropped}
 use Rattle.moves_means.proofs.ComesLaws.{regular-held, regular-rested, steel-drew, steel-dropped, steel-held}
 use Rattle.moves_means.proofs.ComesLaws.{steel-rested}
-use Rattle.moves_means.proofs.FindingLaws.{FindingSays, first-finding, second-missing}
+use Rattle.moves_means.proofs.FindingLaws.{FindingSays, regular-finding, second-within}
 use Rattle.moves_means.proofs.SingleMoves.{move-exactly}
 
-module _ (b : Board) (w : ℕ) (s : State) (r : ℕ) (fine : boardFine b ≡ true) (fits : stateFine (b .counts) s ≡ true)
-    (below : r < b .counts .relays) where
+module _ (b : Board) (w : ℕ) (s : State) (r : ℕ) (fits : BoardFits b) (below : r < b .counts .relays) where
   -- ---- winding n of relay r is e
 
   module _ (n : Which) (e : Winding) (its : ItsWinding b r n e) where
     live-current : IsLive b s e ↔ CurrentThrough b s r n
     live-current =
-        let agree = live-is-carrying b s (e .a) (e .b) fine in (
+        let agree = live-is-carrying b s (e .a) (e .b) fits in (
           λ live. carries-through b s r n e its (agree .0 live),
           λ current. agree .1 (through-carries b s r n e its current),
         )
@@ -67,7 +66,7 @@ module _ (b : Board) (w : ℕ) (s : State) (r : ℕ) (fine : boardFine b ≡ tru
         by-which : (n : Which) → ItsWinding b r n (needs .winding) → Undecided b s e w
         by-which First is = needs-undecided First e first (needs .winding) is (needs .more)
         by-which Second is =
-            absurd (omega (arith, needs .more, second-missing b w s r fine fits regular .1 (needs .winding) is))
+            absurd (omega (arith, needs .more, second-within b w s r regular (needs .winding) is))
 
     regular-enough : Decided b s e w → ¬ (NeedsMore b s r w)
     regular-enough decided needs = omega (arith, decided, regular-undecided needs)
@@ -92,7 +91,7 @@ module _ (b : Board) (w : ℕ) (s : State) (r : ℕ) (fine : boardFine b ≡ tru
         let guard = regular-guard (partsOf b) regular drop in
         (enough-decided First e first enough, guard .0, λ live. guard .1 (through .0 live))
     regular-chains rests (enough, one, no-draw, no-drop) =
-        let judged = first-finding b w s r fine fits below in (
+        let judged = regular-finding b w s r fits regular in (
           enough-decided First e first enough,
           by-test (isDrawn s r)
               (λ on. inl (
@@ -193,14 +192,14 @@ pub regular-by-chains : RegularByChains
 regular-by-chains b s r w a e m moves taken regular first =
     let fit = movable-given b s r taken in
     let exactly = move-exactly b s r w a m moves taken .0 in (
-      λ says. regular-chains b w s r (fit .0) (fit .1) (fit .2) regular e first m (exactly .0 says),
-      λ comes. exactly .1 (chains-regular b w s r (fit .0) (fit .1) (fit .2) regular e first m comes),
+      λ says. regular-chains b w s r (fine-fits b (fit .0)) (fit .2) regular e first m (exactly .0 says),
+      λ comes. exactly .1 (chains-regular b w s r (fine-fits b (fit .0)) (fit .2) regular e first m comes),
     )
 
 pub steel-by-chains : SteelByChains
 steel-by-chains b s r w a e f m moves taken steel first second =
     let fit = movable-given b s r taken in
     let exactly = move-exactly b s r w a m moves taken .0 in (
-      λ says. steel-chains b w s r (fit .0) (fit .1) (fit .2) steel e f first second m (exactly .0 says),
-      λ comes. exactly .1 (chains-steel b w s r (fit .0) (fit .1) (fit .2) steel e f first second m comes),
+      λ says. steel-chains b w s r (fine-fits b (fit .0)) (fit .2) steel e f first second m (exactly .0 says),
+      λ comes. exactly .1 (chains-steel b w s r (fine-fits b (fit .0)) (fit .2) steel e f first second m comes),
     )

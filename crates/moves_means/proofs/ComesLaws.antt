@@ -1,5 +1,6 @@
--- What `Comes` asks of a relay, by its sort and the current through its windings; so what it comes to by the findings
--- on them, one clause for each row of the rule book's two tables. And no relay comes to two words.
+-- What `Comes` asks of a relay, by its sort and the current through its windings, one clause for each row of the rule
+-- book's two tables; so what it comes to by the findings on them. And no relay comes to two words.
+--     CurrentIf b s r n l    there is current through winding n of relay r exactly if l
 use Prim.Native.Nat.{ℕ, _<_}
 use native.Mathlib.Omega.{arith}
 use mathlib.Core.Path.{_≡_, refl, sym, _∙_}
@@ -16,10 +17,15 @@ use Rattle.state.specs.States.{isDrawn}
 use Rattle.search.specs.Verdicts as verdict
 use Rattle.judge.specs.declared.Which.{Which}
 use Rattle.judge.specs.declared.Which.the-variants.{First, Second}
-use Rattle.moves.specs.Steps.{Move, drew, dropped, rests, undecided, conflict, regularMove, steelMove}
+use Rattle.judge.specs.RelayWindings as wound
+use Rattle.moves.specs.Steps.{Move, drew, dropped, rests, undecided, conflict, regularMove, steelMove, decide}
 use Rattle.moves_means.specs.Guards.{CurrentThrough, CanDraw, CanDrop, BothCurrents}
 use Rattle.moves_means.specs.SingleMoves.{NeedsMore, Comes}
 use Rattle.moves_means.proofs.FindingLaws.{Within, FindingSays}
+
+abbrev CurrentIf : Board → State → ℕ → Which → Bool → Type 0
+CurrentIf b s r n true = CurrentThrough b s r n
+CurrentIf b s r n false = ¬ (CurrentThrough b s r n)
 
 -- ---- a guard of both sorts, of a relay of one sort
 
@@ -73,14 +79,20 @@ module _ (b : Board) (w : ℕ) (s : State) (r : ℕ) where
         λ drop. drawn-apart (regular-guard (partsOf b) regular drop .0) off,
       )
 
+      -- so by plain tests, where there is current through it exactly if l
+      regular-moves : (d l : Bool) → isDrawn s r ≡ d → CurrentIf b s r First l → Comes b s r (regularMove d l) w
+      unfolding regularMove
+      regular-moves true true is current = regular-held is current
+      regular-moves false true is current = regular-drew is current
+      regular-moves true false is still = regular-dropped is still
+      regular-moves false false is still = regular-rested is still
+
     pub regular-comes : (d : Bool) (x : verdict.Finding) → isDrawn s r ≡ d → Within b s r Second w
-        → FindingSays b s r First x w → Comes b s r (regularMove d (given x)) w
-    unfolding regularMove
+        → FindingSays b s r First x w → Comes b s r (decide d (wound.regular (given x))) w
+    unfolding decide
     regular-comes d verdict.undecided is second needs = needs
-    regular-comes true verdict.live is second (first, current) = regular-held (within-both first second) is current
-    regular-comes false verdict.live is second (first, current) = regular-drew (within-both first second) is current
-    regular-comes true verdict.dead is second (first, still) = regular-dropped (within-both first second) is still
-    regular-comes false verdict.dead is second (first, still) = regular-rested (within-both first second) is still
+    regular-comes d verdict.live is second (first, current) = regular-moves (within-both first second) d true is current
+    regular-comes d verdict.dead is second (first, still) = regular-moves (within-both first second) d false is still
 
   -- ---- a steel relay
 
@@ -111,26 +123,32 @@ module _ (b : Board) (w : ℕ) (s : State) (r : ℕ) where
         λ drop. drawn-apart (steel-guard (partsOf b) steel drop .0) off,
       )
 
+      -- so by plain tests, where there is current through its drawing winding exactly if x, and through its dropping
+      -- winding exactly if y
+      steel-moves : (d x y : Bool) → isDrawn s r ≡ d → CurrentIf b s r First x → CurrentIf b s r Second y
+          → Comes b s r (steelMove d x y) w
+      unfolding steelMove
+      steel-moves d true true is draws drops = (enough, (below, steel, draws, drops))
+      steel-moves true true false is draws still = steel-held is still
+      steel-moves false true false is draws still = steel-drew is draws still
+      steel-moves true false true is still drops = steel-dropped is drops still
+      steel-moves false false y is still drops = steel-rested is still
+      steel-moves true false false is still none = steel-held is none
+
     pub steel-comes : (d : Bool) (x y : verdict.Finding) → isDrawn s r ≡ d → FindingSays b s r First x w
-        → FindingSays b s r Second y w → Comes b s r (steelMove d (given x) (given y)) w
-    unfolding steelMove
+        → FindingSays b s r Second y w → Comes b s r (decide d (wound.steel (given x) (given y))) w
+    unfolding decide
     steel-comes d verdict.undecided y is needs second = needs
     steel-comes d verdict.live verdict.undecided is first needs = needs
     steel-comes d verdict.dead verdict.undecided is first needs = needs
     steel-comes d verdict.live verdict.live is (first, draws) (second, drops) =
-        (within-both first second, (below, steel, draws, drops))
-    steel-comes true verdict.live verdict.dead is (first, draws) (second, still) =
-        steel-held (within-both first second) is still
-    steel-comes false verdict.live verdict.dead is (first, draws) (second, still) =
-        steel-drew (within-both first second) is draws still
-    steel-comes true verdict.dead verdict.live is (first, still) (second, drops) =
-        steel-dropped (within-both first second) is drops still
-    steel-comes false verdict.dead verdict.live is (first, still) (second, drops) =
-        steel-rested (within-both first second) is still
-    steel-comes true verdict.dead verdict.dead is (first, still) (second, none) =
-        steel-held (within-both first second) is none
-    steel-comes false verdict.dead verdict.dead is (first, still) (second, none) =
-        steel-rested (within-both first second) is still
+        steel-moves (within-both first second) d true true is draws drops
+    steel-comes d verdict.live verdict.dead is (first, draws) (second, still) =
+        steel-moves (within-both first second) d true false is draws still
+    steel-comes d verdict.dead verdict.live is (first, still) (second, drops) =
+        steel-moves (within-both first second) d false true is still drops
+    steel-comes d verdict.dead verdict.dead is (first, still) (second, none) =
+        steel-moves (within-both first second) d false false is still none
 
   -- ---- no relay comes to two words
 

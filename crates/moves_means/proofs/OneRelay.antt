@@ -49,7 +49,7 @@ module _ (b : Board) (s : State) (r : ℕ) where
       let few = fine-range b (fit .0) .most-relays in
       subst (λ (x : State × Outcome Move). Changes s r (x .1) (x .0))
       (moving-moved b s r w (stepOf b s r w) (made s r (stepOf b s r w)) taken refl refl)
-      (made-changes (stepOf b s r w) w (omega (arith, fit .2, few)) (step-means b w s r (fit .0) (fit .1) (fit .2)))
+      (made-changes (stepOf b s r w) w (omega (arith, fit .2, few)) (step-means b w s r (fit .0) (fit .2)))
   moving-changes w (refused n p) off =
       subst (λ (x : State × Outcome Move). Changes s r (x .1) (x .0)) (moving-refused b s r w n p off) refl
 

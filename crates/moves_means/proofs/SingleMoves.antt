@@ -1,70 +1,74 @@
 -- The theorems of specs/SingleMoves.antt: of what a relay comes to `Comes` holds, by the relay's sort, and it holds of
 -- no two words; so each word is said exactly then, by a step and by the call. And 11 is given exactly if its line
 -- holds.
-use Prim.Native.Nat.{ℕ, _<_, _≤_}
-use native.Mathlib.Omega.{arith}
+use Prim.Native.Nat.{ℕ, _<_}
 use mathlib.Core.Path.{_≡_, refl, sym, ap, subst, _∙_}
-use mathlib.Core.Logic.{⊎-elim}
-use mathlib.Core.Bool.{Bool, true, false}
-use lib.Dec.{ltb}
-use borrow.Author.Tests.{ltb-false}
-use Rattle.refusals.specs.Outcomes.{Outcome, given, refused, unless}
+use mathlib.Core.Logic.{_⊎_, ⊎-elim}
+use mathlib.Core.Bool.{true}
+use Rattle.refusals.specs.Outcomes.{Outcome, given, refused}
 use Rattle.refusals.specs.Refusals.{noSuchWinding}
 use Rattle.refusals.proofs.OutcomeLaws.{refused-never, given-injective}
 use Rattle.board.specs.declared.Board.{Board}
 use Rattle.board.specs.Parts.{partsOf}
 use Rattle.board.specs.Rules.{boardFine}
 use Rattle.board.specs.Sorts.{isRegular, isSteel}
+use Rattle.board.specs.BreaksNoRule.{BoardFits}
 use Rattle.board.proofs.FineLaws.{fine-relays-wound}
+use Rattle.board.proofs.BreaksNoRule.{fine-fits}
 use Rattle.state.specs.declared.State.{State}
-use Rattle.state.specs.States.{isDrawn, stateFine}
-use Rattle.state.proofs.StateLaws.{usable-fine, usable-next}
+use Rattle.state.specs.States.{isDrawn}
+use Rattle.state.proofs.StateLaws.{usable-fine}
+use Rattle.neighbours.specs.Neighbours.{setsOf}
+use Rattle.search.specs.declared.Winding.{Winding}
 use Rattle.search.specs.Verdicts.{Finding}
-use Rattle.judge.specs.declared.Which.the-variants.{First, Second}
-use Rattle.judge.specs.Judging.{judging}
-use Rattle.moves.specs.Steps.{Move, moveBy, stepOf, made}
+use Rattle.judge.specs.RelayWindings.{OfRelay, regular, steel, windingsAt}
+use Rattle.moves.specs.Steps.{Move, decide, findingsBy, findingOn, stepOf, made}
 use Rattle.moves.specs.declared.Moved.{Moved}
 use Rattle.moves.specs.Moving.{movable, toldMoveAnswer, toldMoved, Moves}
-use Rattle.moves.proofs.StepLaws.{step-judging}
-use Rattle.moves.proofs.MovingLaws.{movable-given, movable-lacking, moving-refused, moving-moved}
+use Rattle.moves.proofs.StepLaws.{step-windings}
+use Rattle.moves.proofs.MovingLaws.{movable-given, movable-lacking, movable-eleven, moving-refused, moving-moved}
 use Rattle.moves_means.specs.SingleMoves.{Comes, StepExactly, MoveExactly, MoveElevenExactly}
-use Rattle.moves_means.proofs.FindingLaws.{first-finding, second-finding, second-missing}
+use Rattle.moves_means.proofs.FindingLaws.{regular-finding, drawing-finding, dropping-finding, second-within}
+use Rattle.moves_means.proofs.FindingLaws.{regular-windings, steel-windings}
 use Rattle.moves_means.proofs.ComesLaws.{regular-comes, steel-comes, comes-exclusive}
 
 -- ---- a step, by the sort of the relay
 
-module _ (b : Board) (w : ℕ) (s : State) (r : ℕ) (fine : boardFine b ≡ true) (fits : stateFine (b .counts) s ≡ true)
-    (below : r < b .counts .relays) where
-  -- a step goes by the findings x and y on the relay's windings
-  findings-mean : (x y : Outcome Finding) → judging b s r First w .finding ≡ x → judging b s r Second w .finding ≡ y
-      → Comes b s r (moveBy (isDrawn s r) x y) w → Comes b s r (stepOf b s r w) w
-  findings-mean x y e f comes =
-      let steps : moveBy (isDrawn s r) x y ≡ stepOf b s r w = cc (step-judging b w s r fine fits, e, f) in
-      subst (λ (m : Move). Comes b s r m w) steps comes
+module _ (b : Board) (w : ℕ) (s : State) (r : ℕ) (fits : BoardFits b) (below : r < b .counts .relays) where
+  -- a step goes by the windings x of the relay, and by what is found on them, f
+  findings-mean : (x : OfRelay Winding) (f : OfRelay (Outcome Finding)) → windingsAt r (partsOf b) ≡ x
+      → findingsBy (findingOn (setsOf b s) b w) x ≡ f → Comes b s r (decide (isDrawn s r) f) w
+      → Comes b s r (stepOf b s r w) w
+  findings-mean x f has found comes =
+      subst (λ (m : Move). Comes b s r m w) (sym (step-windings b w s r x has ∙ ap (decide (isDrawn s r)) found)) comes
 
   regular-means : isRegular r (partsOf b) → Comes b s r (stepOf b s r w) w
-  unfolding moveBy
-  regular-means regular =
-      let first = first-finding b w s r fine fits below in
-      let second = second-missing b w s r fine fits regular in
-      findings-mean (given (first .finding)) (refused noSuchWinding 0) (first .judged) (second .0)
-      (regular-comes b w s r below regular (isDrawn s r) (first .finding) refl (second .1) (first .says))
+  regular-means sort =
+      let first = regular-finding b w s r fits sort in
+      findings-mean (regular (first .winding)) (regular (given (first .finding)))
+      (regular-windings b w s r sort first) (ap regular (first .found))
+      (regular-comes b w s r below sort (isDrawn s r) (first .finding) refl (second-within b w s r sort)
+      (first .says))
 
   steel-means : isSteel r (partsOf b) → Comes b s r (stepOf b s r w) w
-  unfolding moveBy
-  steel-means steel =
-      let first = first-finding b w s r fine fits below in
-      let second = second-finding b w s r fine fits below steel in
-      findings-mean (given (first .finding)) (given (second .finding)) (first .judged) (second .judged)
-      (steel-comes b w s r below steel (isDrawn s r) (first .finding) (second .finding) refl (first .says)
+  steel-means sort =
+      let first = drawing-finding b w s r fits sort in
+      let second = dropping-finding b w s r fits sort in
+      findings-mean (steel (first .winding) (second .winding))
+      (steel (given (first .finding)) (given (second .finding)))
+      (steel-windings b w s r first second) (rw (first .found, second .found) refl)
+      (steel-comes b w s r below sort (isDrawn s r) (first .finding) (second .finding) refl (first .says)
       (second .says))
 
--- of what a relay comes to `Comes` holds
-pub step-means : (b : Board) (w : ℕ) (s : State) (r : ℕ) → boardFine b ≡ true → stateFine (b .counts) s ≡ true
-    → r < b .counts .relays → Comes b s r (stepOf b s r w) w
-step-means b w s r fine fits below =
-    ⊎-elim (regular-means b w s r fine fits below) (steel-means b w s r fine fits below)
-    (fine-relays-wound b fine r below)
+-- of what a relay of either sort comes to `Comes` holds
+sorted-means : (b : Board) (w : ℕ) (s : State) (r : ℕ) → BoardFits b → r < b .counts .relays
+    → isRegular r (partsOf b) ⊎ isSteel r (partsOf b) → Comes b s r (stepOf b s r w) w
+sorted-means b w s r fits below sort =
+    ⊎-elim (regular-means b w s r fits below) (steel-means b w s r fits below) sort
+
+pub step-means : (b : Board) (w : ℕ) (s : State) (r : ℕ) → boardFine b ≡ true → r < b .counts .relays
+    → Comes b s r (stepOf b s r w) w
+step-means b w s r fine below = sorted-means b w s r (fine-fits b fine) below (fine-relays-wound b fine r below)
 
 -- ---- over the call
 
@@ -86,25 +90,11 @@ module _ (b : Board) (s : State) (r w : ℕ) (a : Moved) (moves : Moves b s r w 
           let same = sym (ap (λ (x : State × Outcome Move). x .1) (call-refused m q off)) ∙ says in
           cc
 
--- where 11 is given, neither 15 nor 14 holds, and the relay is not there
-movable-eleven : (b : Board) (s : State) (r : ℕ) → movable b s r ≡ refused noSuchWinding 0 → (boardFine b ≡ true)
-    × (stateFine (b .counts) s ≡ true) × (b .counts .relays ≤ r)
-unfolding movable
-movable-eleven b s r is =
-    let next = usable-next b s (unless (ltb r (b .counts .relays)) noSuchWinding 0) noSuchWinding 0 (λ e. omega arith)
-    (λ e. omega arith) is in
-    (next .0, next .1, past (ltb r (b .counts .relays)) refl (next .2))
-  where
-    past : (t : Bool) → ltb r (b .counts .relays) ≡ t → unless t noSuchWinding 0 ≡ refused noSuchWinding 0
-        → b .counts .relays ≤ r
-    past true below refusal = absurd (refused-never noSuchWinding 0 tt (sym refusal))
-    past false beyond refusal = ltb-false r (b .counts .relays) beyond
-
 -- ---- the theorems
 
 pub step-exactly : StepExactly
 step-exactly b w s r m fine fits below =
-    let means = step-means b w s r fine fits below in (
+    let means = step-means b w s r fine below in (
       λ is. subst (λ (m : Move). Comes b s r m w) is means,
       λ comes. comes-exclusive b w s r (stepOf b s r w) m means comes,
     )

@@ -1,32 +1,30 @@
--- The laws of which terminals are joined, which every crate above cites: in the sets of a board that breaks no rule, y
--- is in the set of x exactly if a conducting part has x and y as its ends. So being joined goes both ways, and holds of
--- terminals of the board.
-use Prim.Native.Nat.{ℕ, zero, suc, _≤_, _<_}
+-- The laws of which terminals are joined, which every crate above cites: in the sets of a board whose counts and parts
+-- fit, y is in the set of x exactly if a conducting part has x and y as its ends. So being joined goes both ways, and
+-- holds of terminals of the board.
+use Prim.Native.Nat.{ℕ, _≤_, _<_}
 use native.Mathlib.Omega.{arith}
 use mathlib.Core.Path.{_≡_, refl, sym, subst, ap, _∙_}
 use mathlib.Core.Logic.{inl, inr}
 use mathlib.Core.Bool.{Bool, true, false, false≢true}
 use mathlib.Core.List.{List, [], _∷_}
 use lib.Dec.{eqb, ltb}
-use lib.ListN.{length, getD, replicate, length-replicate}
-use lib.Seq.{set-out, getD-set-same, getD-set-other}
+use lib.ListN.{getD}
 use borrow.Author.Tests.{eqb-true, eqb-false, ltb-true, ltb-false}
 use Rattle.lists.specs.Members.{_∈_}
+use Rattle.lists.proofs.MemberLaws.{all-member}
 use Rattle.bits.specs.Sets.{member, including}
-use Rattle.bits.proofs.BoolLaws.{both-true, by-test}
+use Rattle.bits.proofs.BoolLaws.{by-test}
 use Rattle.bits.proofs.SetLaws.{member-none, including-beyond, member-including-same, member-including-other}
-use Rattle.board.specs.declared.Counts.{Counts}
 use Rattle.board.specs.declared.Part.{Part}
 use Rattle.board.specs.declared.Board.{Board}
 use Rattle.board.specs.Parts.{partsOf}
-use Rattle.board.specs.Rules.{mostTerminals, partFits, boardFine}
-use Rattle.board.proofs.WindingLaws.{partsFit}
-use Rattle.board.proofs.FineLaws.{fine-range, fine-parts-fit}
+use Rattle.board.specs.Rules.{mostTerminals}
+use Rattle.board.specs.BreaksNoRule.{Fits, BoardFits}
 use Rattle.state.specs.declared.State.{State}
 use Rattle.neighbours.specs.Conduction.{conducts}
-use Rattle.neighbours.specs.Neighbours.{EndsAt, Joined, joined, alone, joining, bridged, gathered, neighbours}
-use Rattle.neighbours.proofs.GatherLaws.{gathered-none, gathered-next, neighbours-gathered, bridged-conducting}
-use Rattle.neighbours.proofs.GatherLaws.{bridged-open, joining-length, bridged-length}
+use Rattle.neighbours.specs.Neighbours.{EndsAt, Joined, joined, withOther, withPart, setAt, neighbours}
+use Rattle.neighbours.proofs.SetAtLaws.{with-other-here, with-other-else, with-part-conducting, with-part-open}
+use Rattle.neighbours.proofs.SetAtLaws.{set-at-none, set-at-next, sets-at, sets-beyond, neighbours-sets}
 
 -- ---- a part's two ends, in either order
 
@@ -39,12 +37,7 @@ ends-either : (p : Part) (P : ℕ → ℕ → Type 0) → P (p .a) (p .b) → P 
 ends-either p P on turned x y (inl e) = subst (λ (z : ℕ). P z y) (e .0) (subst (P (p .a)) (e .1) on)
 ends-either p P on turned x y (inr e) = subst (λ (z : ℕ). P z y) (e .1) (subst (P (p .b)) (e .0) turned)
 
--- ---- one terminal joined to another
-
-none-joined : (n x y : ℕ) → joined (replicate n 0) x y ≡ false
-none-joined zero x y = member-none y
-none-joined (suc n) zero y = member-none y
-none-joined (suc n) (suc x) y = none-joined n x y
+-- ---- the set of one terminal, with one end of a part besides
 
 including-kept : (s n m : ℕ) → member s m ≡ true → member (including s n) m ≡ true
 including-kept s n m is =
@@ -54,182 +47,147 @@ including-kept s n m is =
     (λ differ. member-including-other s n m (eqb-false m n differ) ∙ is))
     (λ beyond. ap (λ (k : ℕ). member k m) (including-beyond s n (ltb-false n 64 beyond)) ∙ is)
 
-module _ (near : List ℕ) (u v : ℕ) where
-  -- the set of u, where there is one
-  joining-set : (x y : ℕ) → x ≡ u → u < length near → joined (joining near u v) x y ≡ member
-      (including (getD near x 0) v) y
-  joining-set x y same there = rw same (ap (λ (k : ℕ). member k y) (getD-set-same near u _ 0 there))
-
-  joining-no-set : (x y : ℕ) → length near ≤ u → joined (joining near u v) x y ≡ joined near x y
-  joining-no-set x y past = ap (λ (k : List ℕ). joined k x y) (set-out near u _ past)
-
-  joining-other-set : (x y : ℕ) → (x ≡ u → ⊥) → joined (joining near u v) x y ≡ joined near x y
-  joining-other-set x y other = ap (λ (k : ℕ). member k y) (getD-set-other near u x _ 0 other)
-
-  joining-other : (x y : ℕ) → x ≡ u → (y ≡ v → ⊥) → joined (joining near u v) x y ≡ joined near x y
-  joining-other x y same other =
-      by-test (ltb u (length near))
-      (λ there. joining-set x y same (ltb-true u (length near) there) ∙ member-including-other (getD near x 0) v y
-      other)
-      (λ past. joining-no-set x y (ltb-false u (length near) past))
-
-  joining-joins : u < length near → v < 64 → joined (joining near u v) u v ≡ true
-  joining-joins there fits = joining-set u v refl there ∙ member-including-same (getD near u 0) v fits
-
-  joining-kept : (x y : ℕ) → joined near x y ≡ true → joined (joining near u v) x y ≡ true
-  joining-kept x y is =
+module _ (u v x k : ℕ) where
+  other-kept : (y : ℕ) → member k y ≡ true → member (withOther u v x k) y ≡ true
+  other-kept y is =
       by-test (eqb x u)
-      (λ same. by-test (ltb u (length near))
-      (λ there. joining-set x y (eqb-true x u same) (ltb-true u (length near) there)
-      ∙ including-kept (getD near x 0) v y is)
-      (λ past. joining-no-set x y (ltb-false u (length near) past) ∙ is))
-      (λ differ. joining-other-set x y (eqb-false x u differ) ∙ is)
+      (λ same. ap (λ (j : ℕ). member j y) (with-other-here u v x k (eqb-true x u same)) ∙ including-kept k v y is)
+      (λ differ. ap (λ (j : ℕ). member j y) (with-other-else u v x k (eqb-false x u differ)) ∙ is)
 
-  -- what holds of u and v, and of what was joined before, holds of what is joined now
-  joining-new : (x y : ℕ) {C : Type 0} → (u ≡ x → v ≡ y → C) → (joined near x y ≡ true → C)
-      → joined (joining near u v) x y ≡ true → C
-  joining-new x y new old is =
+  other-joins : x ≡ u → v < mostTerminals → member (withOther u v x k) v ≡ true
+  other-joins same fits =
+      ap (λ (j : ℕ). member j v) (with-other-here u v x k same) ∙ member-including-same k v fits
+
+  -- what holds if u is x and v is y, and if y was a member before, holds if it is one now
+  other-new : (y : ℕ) {C : Type 0} → (u ≡ x → v ≡ y → C) → (member k y ≡ true → C)
+      → member (withOther u v x k) y ≡ true → C
+  other-new y new old is =
       by-test (eqb x u)
       (λ same. by-test (eqb y v)
       (λ also. new (sym (eqb-true x u same)) (sym (eqb-true y v also)))
-      (λ differ. old (sym (joining-other x y (eqb-true x u same) (eqb-false y v differ)) ∙ is)))
-      (λ differ. old (sym (joining-other-set x y (eqb-false x u differ)) ∙ is))
+      (λ differ. old (sym (ap (λ (j : ℕ). member j y) (with-other-here u v x k (eqb-true x u same))
+      ∙ member-including-other k v y (eqb-false y v differ)) ∙ is)))
+      (λ differ. old (sym (ap (λ (j : ℕ). member j y) (with-other-else u v x k (eqb-false x u differ))) ∙ is))
 
--- ---- a part's ends joined to each other
+-- ---- with both ends of a part
 
-module _ (s : State) (near : List ℕ) (p : Part) where
-  bridged-on : (x y : ℕ) → conducts s (p .kind) ≡ true → joined (bridged s near p) x y ≡ joined
-      (joining (joining near (p .a) (p .b)) (p .b) (p .a)) x y
-  bridged-on x y on = ap (λ (k : List ℕ). joined k x y) (bridged-conducting s near p on)
+module _ (s : State) (p : Part) (x k : ℕ) where
+  part-on : (y : ℕ) → conducts s (p .kind) ≡ true
+      → member (withPart s p x k) y ≡ member (withOther (p .b) (p .a) x (withOther (p .a) (p .b) x k)) y
+  part-on y on = ap (λ (j : ℕ). member j y) (with-part-conducting s p x k on)
 
-  bridged-off : (x y : ℕ) → conducts s (p .kind) ≡ false → joined (bridged s near p) x y ≡ joined near x y
-  bridged-off x y off = ap (λ (k : List ℕ). joined k x y) (bridged-open s near p off)
+  part-off : (y : ℕ) → conducts s (p .kind) ≡ false → member (withPart s p x k) y ≡ member k y
+  part-off y off = ap (λ (j : ℕ). member j y) (with-part-open s p x k off)
 
-  bridged-kept : (x y : ℕ) → joined near x y ≡ true → joined (bridged s near p) x y ≡ true
-  bridged-kept x y is =
+  part-kept : (y : ℕ) → member k y ≡ true → member (withPart s p x k) y ≡ true
+  part-kept y is =
       by-test (conducts s (p .kind))
-      (λ on. bridged-on x y on ∙ joining-kept (joining near (p .a) (p .b)) (p .b) (p .a) x y
-      (joining-kept near (p .a) (p .b) x y is))
-      (λ off. bridged-off x y off ∙ is)
+      (λ on. part-on y on ∙ other-kept (p .b) (p .a) x (withOther (p .a) (p .b) x k) y
+      (other-kept (p .a) (p .b) x k y is))
+      (λ off. part-off y off ∙ is)
 
-  bridged-joins : (x y : ℕ) → length near ≡ mostTerminals → conducts s (p .kind) ≡ true → EndsAt p x y
-      → x < mostTerminals → y < mostTerminals → joined (bridged s near p) x y ≡ true
-  bridged-joins x y long on =
-      ends-either p (λ u v. u < mostTerminals → v < mostTerminals → joined (bridged s near p) u v ≡ true)
-      (λ a b. bridged-on (p .a) (p .b) on ∙ joining-kept (joining near (p .a) (p .b)) (p .b) (p .a) (p .a) (p .b)
-      (joining-joins near (p .a) (p .b) (omega arith) b))
-      (λ b a. bridged-on (p .b) (p .a) on ∙ joining-joins (joining near (p .a) (p .b)) (p .b) (p .a)
-      (omega (arith, joining-length near (p .a) (p .b))) a)
-      x y
-
-  bridged-new : (x y : ℕ) {C : Type 0} → (conducts s (p .kind) ≡ true → EndsAt p x y → C)
-      → (joined near x y ≡ true → C) → joined (bridged s near p) x y ≡ true → C
-  bridged-new x y new old is =
+  part-new : (y : ℕ) {C : Type 0} → (conducts s (p .kind) ≡ true → EndsAt p x y → C) → (member k y ≡ true → C)
+      → member (withPart s p x k) y ≡ true → C
+  part-new y new old is =
       by-test (conducts s (p .kind))
-      (λ on. joining-new (joining near (p .a) (p .b)) (p .b) (p .a) x y
+      (λ on. other-new (p .b) (p .a) x (withOther (p .a) (p .b) x k) y
       (λ bx ay. new on (inr (ay, bx)))
-      (joining-new near (p .a) (p .b) x y (λ ax by. new on (inl (ax, by))) old)
-      (sym (bridged-on x y on) ∙ is))
-      (λ off. old (sym (bridged-off x y off) ∙ is))
+      (other-new (p .a) (p .b) x k y (λ ax by. new on (inl (ax, by))) old)
+      (sym (part-on y on) ∙ is))
+      (λ off. old (sym (part-off y off) ∙ is))
 
--- ---- the ends of all the parts
+part-adds : (s : State) (p : Part) (k x y : ℕ) → conducts s (p .kind) ≡ true → EndsAt p x y → y < mostTerminals
+    → member (withPart s p x k) y ≡ true
+part-adds s p k x y on =
+    ends-either p (λ u v. v < mostTerminals → member (withPart s p u k) v ≡ true)
+    (λ b. part-on s p (p .a) k (p .b) on ∙ other-kept (p .b) (p .a) (p .a) (withOther (p .a) (p .b) (p .a) k) (p .b)
+    (other-joins (p .a) (p .b) (p .a) k refl b))
+    (λ a. part-on s p (p .b) k (p .a) on ∙ other-joins (p .b) (p .a) (p .b) (withOther (p .a) (p .b) (p .b) k) refl a)
+    x y
+
+-- ---- by all the parts
 
 module _ (s : State) (x y : ℕ) where
-  gathered-step : (near : List ℕ) (p : Part) (ps : List Part) → joined (gathered s near (p ∷ ps)) x y ≡ joined
-      (gathered s (bridged s near p) ps) x y
-  gathered-step near p ps = ap (λ (k : List ℕ). joined k x y) (gathered-next s near p ps)
+  set-at-step : (p : Part) (ps : List Part) → member (setAt s x (p ∷ ps)) y ≡ member (withPart s p x (setAt s x ps)) y
+  set-at-step p ps = ap (λ (k : ℕ). member k y) (set-at-next s x p ps)
 
-  gathered-end : (near : List ℕ) → joined (gathered s near []) x y ≡ joined near x y
-  gathered-end near = ap (λ (k : List ℕ). joined k x y) (gathered-none s near)
+  set-at-adds : (ps : List Part) (p : Part) → p ∈ ps → conducts s (p .kind) ≡ true → EndsAt p x y → y < mostTerminals
+      → member (setAt s x ps) y ≡ true
+  set-at-adds [] p among on ends fits = absurd among
+  set-at-adds (q ∷ ps) p (inl same) on ends fits =
+      set-at-step q ps
+      ∙ subst (λ (r : Part). member (withPart s r x (setAt s x ps)) y ≡ true) same
+      (part-adds s p (setAt s x ps) x y on ends fits)
+  set-at-adds (q ∷ ps) p (inr among) on ends fits =
+      set-at-step q ps ∙ part-kept s q x (setAt s x ps) y (set-at-adds ps p among on ends fits)
 
-  gathered-kept : (near : List ℕ) (ps : List Part) → joined near x y ≡ true → joined (gathered s near ps) x y ≡ true
-  gathered-kept near [] is = gathered-end near ∙ is
-  gathered-kept near (p ∷ ps) is =
-      gathered-step near p ps ∙ gathered-kept (bridged s near p) ps (bridged-kept s near p x y is)
-
-  gathered-joins : (near : List ℕ) (ps : List Part) (p : Part) → p ∈ ps → length near ≡ mostTerminals
-      → conducts s (p .kind) ≡ true → EndsAt p x y → x < mostTerminals → y < mostTerminals
-      → joined (gathered s near ps) x y ≡ true
-  gathered-joins near [] p among long on ends inside also = absurd among
-  gathered-joins near (q ∷ ps) p (inl same) long on ends inside also =
-      gathered-step near q ps
-      ∙ gathered-kept (bridged s near q) ps (subst (λ (r : Part). joined (bridged s near r) x y ≡ true) same
-      (bridged-joins s near p x y long on ends inside also))
-  gathered-joins near (q ∷ ps) p (inr among) long on ends inside also =
-      gathered-step near q ps
-      ∙ gathered-joins (bridged s near q) ps p among (bridged-length s near q ∙ long) on ends inside also
-
-  gathered-new : {C : Type 0} (near : List ℕ) (ps : List Part)
-      → ((p : Part) → p ∈ ps → conducts s (p .kind) ≡ true → EndsAt p x y → C) → (joined near x y ≡ true → C)
-      → joined (gathered s near ps) x y ≡ true → C
-  gathered-new near [] new old is = old (sym (gathered-end near) ∙ is)
-  gathered-new near (p ∷ ps) new old is =
-      gathered-new (bridged s near p) ps (λ q among. new q (inr among))
-      (bridged-new s near p x y (new p (inl refl)) old)
-      (sym (gathered-step near p ps) ∙ is)
-
--- ---- a part of a board that breaks no rule
-
-fit-among : (c : Counts) (ps : List Part) (p : Part) → partsFit c ps ≡ true → p ∈ ps → partFits c p ≡ true
-unfolding partsFit
-fit-among c [] p fit among = absurd among
-fit-among c (q ∷ ps) p fit (inl same) = ap (partFits c) same ∙ both-true (partFits c q) _ fit .0
-fit-among c (q ∷ ps) p fit (inr among) = fit-among c ps p (both-true (partFits c q) _ fit .1) among
-
--- its ends are terminals of the board
-fit-inside : (c : Counts) (p : Part) → partFits c p ≡ true → (p .a < c .terminals) × (p .b < c .terminals)
-unfolding partFits
-fit-inside c p fit =
-    let both = both-true _ _ (both-true _ _ (both-true _ _ fit .0) .0) in
-    (ltb-true (p .a) (c .terminals) (both .0), ltb-true (p .b) (c .terminals) (both .1))
-
--- ends that a part of the board has are terminals of it
-ends-inside : (b : Board) (p : Part) (x y : ℕ) → boardFine b ≡ true → p ∈ partsOf b → EndsAt p x y
-    → (x < b .counts .terminals) × (y < b .counts .terminals)
-ends-inside b p x y fine among =
-    let on = fit-inside (b .counts) p (fit-among (b .counts) (partsOf b) p (fine-parts-fit b fine) among) in
-    ends-either p (λ u v. (u < b .counts .terminals) × (v < b .counts .terminals)) on (on .1, on .0) x y
+  -- y is in the set of x by some part: what follows from such a part holds
+  set-at-by : {C : Type 0} (ps : List Part)
+      → ((p : Part) → p ∈ ps → conducts s (p .kind) ≡ true → EndsAt p x y → C) → member (setAt s x ps) y ≡ true → C
+  set-at-by [] use-part is =
+      absurd (false≢true (sym (ap (λ (k : ℕ). member k y) (set-at-none s x) ∙ member-none y) ∙ is))
+  set-at-by (p ∷ ps) use-part is =
+      part-new s p x (setAt s x ps) y (λ on ends. use-part p (inl refl) on ends)
+      (set-at-by ps (λ q among on ends. use-part q (inr among) on ends)) (sym (set-at-step p ps) ∙ is)
 
 -- ---- the sets of a board
 
+-- ends that a part of the board has are terminals of it
+ends-inside : (b : Board) (p : Part) (x y : ℕ) → BoardFits b → p ∈ partsOf b → EndsAt p x y
+    → (x < b .counts .terminals) × (y < b .counts .terminals)
+ends-inside b p x y fits among =
+    let fit = all-member (Fits (b .counts)) (partsOf b) p (fits .parts) among in
+    ends-either p (λ u v. (u < b .counts .terminals) × (v < b .counts .terminals)) (fit .a-below, fit .b-below)
+    (fit .b-below, fit .a-below) x y
+
 module _ (b : Board) (s : State) (x y : ℕ) where
+  joined-inside-sets : x < mostTerminals → joined (neighbours b s) x y ≡ member (setAt s x (partsOf b)) y
+  joined-inside-sets below =
+      ap (λ (k : List ℕ). joined k x y) (neighbours-sets b s)
+      ∙ ap (λ (k : ℕ). member k y) (sets-at s (partsOf b) x below)
+
+  joined-beyond-sets : mostTerminals ≤ x → joined (neighbours b s) x y ≡ false
+  joined-beyond-sets past =
+      ap (λ (k : List ℕ). joined k x y) (neighbours-sets b s)
+      ∙ ap (λ (k : ℕ). member k y) (sets-beyond s (partsOf b) x past) ∙ member-none y
+
   -- x and y are joined by a conducting part: what follows from such a part holds
   joined-by : {C : Type 0} → ((p : Part) → p ∈ partsOf b → conducts s (p .kind) ≡ true → EndsAt p x y → C)
       → joined (neighbours b s) x y ≡ true → C
   joined-by use-part is =
-      gathered-new s x y alone (partsOf b) use-part
-      (λ none. absurd (false≢true (sym (none-joined mostTerminals x y) ∙ none)))
-      (sym (ap (λ (k : List ℕ). joined k x y) (neighbours-gathered b s)) ∙ is)
+      by-test (ltb x mostTerminals)
+      (λ below. set-at-by s x y (partsOf b) use-part
+      (sym (joined-inside-sets (ltb-true x mostTerminals below)) ∙ is))
+      (λ past. absurd (false≢true (sym (joined-beyond-sets (ltb-false x mostTerminals past)) ∙ is)))
 
   pub joined-part : joined (neighbours b s) x y ≡ true → Joined b s x y
   joined-part = joined-by (λ p among on ends. record { part = p; on-board = among; conducting = on; ends = ends })
 
-  part-joins : (p : Part) → boardFine b ≡ true → p ∈ partsOf b → conducts s (p .kind) ≡ true → EndsAt p x y
+  part-joins : (p : Part) → BoardFits b → p ∈ partsOf b → conducts s (p .kind) ≡ true → EndsAt p x y
       → joined (neighbours b s) x y ≡ true
-  part-joins p fine among on ends =
-      let most = fine-range b fine .most-terminals in
-      let inside = ends-inside b p x y fine among ends in
-      ap (λ (k : List ℕ). joined k x y) (neighbours-gathered b s)
-      ∙ gathered-joins s x y alone (partsOf b) p among (length-replicate {A = ℕ} mostTerminals 0) on ends
-      (omega (arith, most, inside .0)) (omega (arith, most, inside .1))
+  part-joins p fits among on ends =
+      let most = fits .counts .most-terminals in
+      let inside = ends-inside b p x y fits among ends in
+      joined-inside-sets (omega (arith, most, inside .0))
+      ∙ set-at-adds s x y (partsOf b) p among on ends (omega (arith, most, inside .1))
 
-  pub part-joined : boardFine b ≡ true → Joined b s x y → joined (neighbours b s) x y ≡ true
-  part-joined fine j = part-joins (j .part) fine (j .on-board) (j .conducting) (j .ends)
+  pub part-joined : BoardFits b → Joined b s x y → joined (neighbours b s) x y ≡ true
+  part-joined fits j = part-joins (j .part) fits (j .on-board) (j .conducting) (j .ends)
 
-  pub joined-inside : boardFine b ≡ true → joined (neighbours b s) x y ≡ true → (x < b .counts .terminals)
+  pub joined-inside : BoardFits b → joined (neighbours b s) x y ≡ true → (x < b .counts .terminals)
       × (y < b .counts .terminals)
-  joined-inside fine = joined-by (λ p among on ends. ends-inside b p x y fine among ends)
+  joined-inside fits = joined-by (λ p among on ends. ends-inside b p x y fits among ends)
 
-joined-turned : (b : Board) (s : State) (x y : ℕ) → boardFine b ≡ true → joined (neighbours b s) x y ≡ true
+joined-turned : (b : Board) (s : State) (x y : ℕ) → BoardFits b → joined (neighbours b s) x y ≡ true
     → joined (neighbours b s) y x ≡ true
-joined-turned b s x y fine =
-    joined-by b s x y (λ p among on ends. part-joins b s y x p fine among on (ends-turned p x y ends))
+joined-turned b s x y fits =
+    joined-by b s x y (λ p among on ends. part-joins b s y x p fits among on (ends-turned p x y ends))
 
 both-ways : (p q : Bool) → (p ≡ true → q ≡ true) → (q ≡ true → p ≡ true) → p ≡ q
 both-ways true q there back = sym (there refl)
 both-ways false true there back = back refl
 both-ways false false there back = refl
 
-pub joined-symmetric : (b : Board) (s : State) (x y : ℕ) → boardFine b ≡ true → joined (neighbours b s) x y ≡ joined
+pub joined-symmetric : (b : Board) (s : State) (x y : ℕ) → BoardFits b → joined (neighbours b s) x y ≡ joined
     (neighbours b s) y x
-joined-symmetric b s x y fine = both-ways _ _ (joined-turned b s x y fine) (joined-turned b s y x fine)
+joined-symmetric b s x y fits = both-ways _ _ (joined-turned b s x y fits) (joined-turned b s y x fits)

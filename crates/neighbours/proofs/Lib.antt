@@ -1,3 +1,3 @@
 -- The laws, by subject; each function has its proof in a folder of its own.
-pub mod GatherLaws
+pub mod SetAtLaws
 pub mod JoinedLaws

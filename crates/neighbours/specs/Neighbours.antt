@@ -1,28 +1,35 @@
 -- Which terminals are joined. Rule book: "neighbours are each joined by a conducting part".
---     EndsAt p x y       x and y are the ends of part p, in either order
---     Joined b s x y     some conducting part of board b in state s has x and y as its ends, in either order
---     joined near x y    in the sets `near`, y is in the set of x
---     neighbours b s     the sets of board b in state s, one for each of 64 terminals
--- How the sets come about, part by part:
---     alone                 no terminal is joined to any
---     joining near x y      the sets `near` with y joined to x besides
---     bridged s near p      the sets `near` with the ends of part p joined besides, in both directions, if p conducts
---     gathered s near ps    the sets `near` with the ends of each of ps joined besides
---     Neighbours b s r      promise: `neighbours` of board b in state s answers r
--- `proofs/JoinedLaws.antt` shows of a board that breaks no rule: y is in the set of x exactly if `Joined` says so.
-use Prim.Native.Nat.{ℕ}
+--     EndsAt p x y         x and y are the ends of part p, in either order
+--     Joined b s x y       some conducting part of board b in state s has x and y as its ends, in either order
+--     joined near x y      in the sets `near`, y is in the set of x
+--     withOther u v x k    the set k of terminal x, with v besides if x is u
+--     withPart s p x k     the set k of terminal x, with the other end of part p besides, if p conducts in state s and
+--                          has x as an end
+--     setAt s x ps         the set of the terminals that the parts ps join to terminal x in state s
+--     tableFrom f k n      f n, f (n + 1), … (k numbers)
+--     setsAt s ps          the set at each of 64 terminals, by the parts ps in state s
+--     neighbours b s       the sets of board b in state s
+--     setsOf b s           the same as the struct that is handed through judging, steps and runs
+--     Neighbours b s r     promise: `neighbours` of board b in state s answers r
+-- What the functions of this crate promise each other:
+--     EachSet near r f     the sets r are as many as `near`, each what f makes of the one there at its terminal
+-- `proofs/SetAtLaws.antt` shows that a part which does not end at x leaves the set of x alone, and
+-- `proofs/JoinedLaws.antt` of a board whose counts and parts fit: y is in the set of x exactly if `Joined` says so.
+use Prim.Native.Nat.{ℕ, zero, suc, _<_}
 use mathlib.Core.Path.{_≡_}
 use mathlib.Core.Logic.{_⊎_}
 use mathlib.Core.Bool.{Bool, true, cond}
 use mathlib.Core.List.{List, [], _∷_}
+use lib.Dec.{eqb}
+use lib.ListN.{length, getD}
 use Rattle.lists.specs.Members.{_∈_}
-use lib.ListN.{getD, set, replicate}
 use Rattle.bits.specs.Sets.{member, including}
 use Rattle.board.specs.declared.Part.{Part}
 use Rattle.board.specs.declared.Board.{Board}
 use Rattle.board.specs.Parts.{partsOf}
 use Rattle.board.specs.Rules.{mostTerminals}
 use Rattle.state.specs.declared.State.{State}
+use Rattle.neighbours.specs.declared.Sets.{Sets}
 use Rattle.neighbours.specs.Conduction.{conducts}
 
 abbrev pub EndsAt : Part → ℕ → ℕ → Type 0
@@ -37,21 +44,32 @@ pub record Joined (b : Board) (s : State) (x y : ℕ) : Type 0 where
 abbrev pub joined : List ℕ → ℕ → ℕ → Bool
 joined near x y = member (getD near x 0) y
 
-abbrev pub alone : List ℕ
-alone = replicate mostTerminals 0
+abbrev pub withOther : ℕ → ℕ → ℕ → ℕ → ℕ
+withOther u v x k = cond (eqb x u) (including k v) k
 
-abbrev pub joining : List ℕ → ℕ → ℕ → List ℕ
-joining near x y = set near x (including (getD near x 0) y)
+abbrev pub withPart : State → Part → ℕ → ℕ → ℕ
+withPart s p x k = cond (conducts s (p .kind)) (withOther (p .b) (p .a) x (withOther (p .a) (p .b) x k)) k
 
-abbrev pub bridged : State → List ℕ → Part → List ℕ
-bridged s near p = cond (conducts s (p .kind)) (joining (joining near (p .a) (p .b)) (p .b) (p .a)) near
+unfoldable pub setAt : State → ℕ → List Part → ℕ
+setAt s x [] = 0
+setAt s x (p ∷ ps) = withPart s p x (setAt s x ps)
 
-unfoldable pub gathered : State → List ℕ → List Part → List ℕ
-gathered s near [] = near
-gathered s near (p ∷ ps) = gathered s (bridged s near p) ps
+unfoldable pub tableFrom : (ℕ → ℕ) → ℕ → ℕ → List ℕ
+tableFrom f zero n = []
+tableFrom f (suc k) n = f n ∷ tableFrom f k (suc n)
+
+unfoldable pub setsAt : State → List Part → List ℕ
+setsAt s ps = tableFrom (λ (x : ℕ). setAt s x ps) mostTerminals 0
 
 unfoldable pub neighbours : Board → State → List ℕ
-neighbours b s = gathered s alone (partsOf b)
+neighbours b s = setsAt s (partsOf b)
 
-abbrev pub Neighbours : Board → State → List ℕ → Type 0
-Neighbours b s r = r ≡ neighbours b s
+abbrev pub setsOf : Board → State → Sets
+setsOf b s = record { near = neighbours b s }
+
+abbrev pub Neighbours : Board → State → Sets → Type 0
+Neighbours b s r = r ≡ setsOf b s
+
+pub record EachSet (near r : List ℕ) (f : ℕ → ℕ → ℕ) : Type 0 where
+  pub many : length r ≡ length near
+  pub each : (x : ℕ) → x < mostTerminals → getD r x 0 ≡ f x (getD near x 0)

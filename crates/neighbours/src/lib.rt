@@ -1,13 +1,17 @@
 // Which parts of a board conduct in a state, and which terminals they join.
-ghost use mathlib.Core.Path.{_≡_};
 ghost use Rattle.neighbours.specs.Conduction.{Conducts};
-ghost use Rattle.neighbours.specs.Neighbours.{joining, bridged, Neighbours};
+ghost use Rattle.neighbours.specs.Neighbours.{withOther, withPart, EachSet, Neighbours};
 use board::Board;
 use board::MOST_PARTS;
 use board::MOST_TERMINALS;
 use board::Part;
 use kinds::Kind;
 use state::State;
+
+// The sets of neighbours: for each of 64 terminals the set of terminals that a conducting part joins to it.
+pub struct Sets {
+    pub near: [u64; 64],
+}
 
 // Whether a part of this kind conducts: a line for each line of the rule book's table. A contact follows its relay.
 pub fn conducts(kind: Kind, state: State) -> bool
@@ -26,7 +30,7 @@ pub fn conducts(kind: Kind, state: State) -> bool
 
 // The sets with y joined to x besides; as they are where they have no place for x.
 fn join(near: [u64; 64], x: u8, y: u8) -> [u64; 64]
-    ensures { λ r. ⌜ r ≡ joining near x y ⌝ }
+    ensures { λ r. ⌜ EachSet near r (withOther x y) ⌝ }
 {
     if MOST_TERMINALS <= x {
         return near;
@@ -39,7 +43,7 @@ fn join(near: [u64; 64], x: u8, y: u8) -> [u64; 64]
 
 // The sets with the ends of a part joined besides, in both directions, if it conducts.
 fn bridge(near: [u64; 64], part: Part, state: State) -> [u64; 64]
-    ensures { λ r. ⌜ r ≡ bridged state near part ⌝ }
+    ensures { λ r. ⌜ EachSet near r (withPart state part) ⌝ }
 {
     let kind = part.kind;
     if conducts(kind, state) {
@@ -49,22 +53,23 @@ fn bridge(near: [u64; 64], part: Part, state: State) -> [u64; 64]
     }
 }
 
-// For each terminal the set of terminals that a conducting part joins to it.
-pub fn neighbours(board: Board, state: State) -> [u64; 64]
+// The sets of a board in a state: part by part from the last, each changes the sets at its two ends.
+pub fn neighbours(board: Board, state: State) -> Sets
     ensures { λ r. ⌜ Neighbours board state r ⌝ }
 {
     let parts = board.parts;
     let count = board.counts.parts;
     let mut near = [0u64; 64];
-    let mut i = 0;
-    while i < count {
-        if MOST_PARTS <= i {
-            return near;
-        }
+    let mut i = if MOST_PARTS < count {
+        MOST_PARTS
+    } else {
+        count
+    };
+    while 0 < i {
+        i -= 1;
         let part = parts[i];
         let next = bridge(near, part, state);
         near = next;
-        i += 1;
     }
-    near
+    Sets { near }
 }

@@ -12,10 +12,10 @@ use Rattle.state.specs.declared.State.{State}
 use Rattle.moves.specs.Steps as step
 use Rattle.runs.specs.Looks.{Stepper, Ending, idle, spent, undecided, conflict, Look, makes, decides, byteOf}
 use Rattle.runs.specs.Looks.{lookFrom}
-use Rattle.runs.specs.Runs.{noRelay, Run, ends, logged, runOf}
+use Rattle.runs.specs.Runs.{noRelay, Run, logged, runOf}
 use Rattle.runs.specs.Running.{Ran, ran}
 use Rattle.runs.proofs.LookLaws.{look-quiet, look-decides}
-use Rattle.runs.proofs.RunLaws.{run-quiet, run-halts, run-spent, run-moves, run-room}
+use Rattle.runs.proofs.RunLaws.{RunStops, rested, halted, filled, stops, moved, run-goes, goes-run, goes-room}
 
 -- what is told of a run that logged its first m moves and goes on as x
 abbrev onward : List ℕ → ℕ → Run → Ran
@@ -67,7 +67,7 @@ course-starts f k log s =
       long = refl;
       within = omega arith;
       goes =
-          ran-onward (runOf f k (length log) s) log (run-room f k (length log) s)
+          ran-onward (runOf f k (length log) s) log (goes-room (run-goes f k (length log) s))
           ∙ ap (λ (n : ℕ). onward log 0 (runOf f k n s)) whole;
     }
 
@@ -121,22 +121,20 @@ module _ {f g : Stepper} {k : ℕ} {log₀ log : List ℕ} {m₀ m : ℕ} {s₀ 
     pub scan-long : length log ≡ room
     scan-long = here .long
 
-    ends-here : (w : Ending) (q : ℕ) → runOf f k (room - m) s ≡ ends w s q → stopped w m s q log ≡ all
-    ends-here w q stops =
+    ends-here : (w : Ending) (q : ℕ) → RunStops f k (room - m) s w q → stopped w m s q log ≡ all
+    ends-here w q why =
         let none : m + 0 ≡ m = omega arith in
-        sym (here .goes ∙ ap (onward log m) stops ∙ ap (λ (n : ℕ). stopped w n s q log) none)
+        sym (here .goes ∙ ap (onward log m) (goes-run (stops why)) ∙ ap (λ (n : ℕ). stopped w n s q log) none)
 
     pub course-idle : k ≤ r → stopped idle m s noRelay log ≡ all
-    course-idle past = ends-here idle noRelay (run-quiet f k s (room - m) (scan .look ∙ look-quiet f s k r past))
+    course-idle past = ends-here idle noRelay (rested (scan .look ∙ look-quiet f s k r past))
 
     module _ {mv : step.Move} {q : ℕ} (below : r < k) (number : q ≡ r) (is : mv ≡ g s q) where
       pub course-undecided : mv ≡ step.undecided → stopped undecided m s r log ≡ all
-      course-undecided e =
-          ends-here undecided r (run-halts f k s (room - m) undecided r (decided below number (sym e ∙ is)))
+      course-undecided e = ends-here undecided r (halted (decided below number (sym e ∙ is)))
 
       pub course-conflict : mv ≡ step.conflict → stopped conflict m s r log ≡ all
-      course-conflict e =
-          ends-here conflict r (run-halts f k s (room - m) conflict r (decided below number (sym e ∙ is)))
+      course-conflict e = ends-here conflict r (halted (decided below number (sym e ∙ is)))
 
       moves-here : Moving mv → lookFrom f s k 0 ≡ makes mv r
       moves-here move = decided below number is ∙ move r _
@@ -144,7 +142,7 @@ module _ {f g : Stepper} {k : ℕ} {log₀ log : List ℕ} {m₀ m : ℕ} {s₀ 
       pub course-spent : Moving mv → length log ≤ m → stopped spent m s r log ≡ all
       course-spent move full =
           let none : room - m ≡ 0 = omega (arith, here .long, full) in
-          ends-here spent r (rw none (run-spent f k s mv r (moves-here move)))
+          ends-here spent r (rw none (filled mv (moves-here move)))
 
       -- the move is made and logged
       pub course-moves : {c : ℕ} {t : State} {p : ℕ} → Moving mv → m < length log → c ≡ byteOf r mv → p ≡ r
@@ -157,8 +155,8 @@ module _ {f g : Stepper} {k : ℕ} {log₀ log : List ℕ} {m₀ m : ℕ} {s₀ 
             within = omega arith;
             goes =
                 here .goes
-                ∙ ap (onward log m) (ap (λ (n : ℕ). runOf f k n s) more ∙ run-moves f k s (room - (m + 1)) mv r
-                (moves-here move))
+                ∙ ap (onward log m) (ap (λ (n : ℕ). runOf f k n s) more
+                ∙ goes-run (moved mv r (moves-here move) (run-goes f k (room - (m + 1)) _)))
                 ∙ onward-logged log m (byteOf r mv) (runOf f k (room - (m + 1)) (step.made s r mv))
                 ∙ rw (byte, leaves, same) refl;
           }

@@ -1,59 +1,56 @@
--- Laws of a run: what each look makes of it, what holds of every run by induction, and that it makes no more moves
--- than it has room for.
+-- A run by the ways it goes on: one case for each, and the two laws that a run is always one of them and that nothing
+-- else is. Every law of runs goes by these cases, here and in later crates, and none by the definition's text.
 use Prim.Native.Nat.{ℕ, zero, suc, _≤_}
 use native.Mathlib.Omega.{arith}
-use mathlib.Core.Path.{_≡_, refl}
+use mathlib.Core.Path.{_≡_, refl, ap}
 use lib.ListN.{length}
 use Rattle.state.specs.declared.State.{State}
 use Rattle.moves.specs.Steps.{Move, made}
 use Rattle.runs.specs.Looks.{Stepper, Ending, idle, spent, Look, quiet, halts, makes, byteOf, lookFrom}
 use Rattle.runs.specs.Runs.{noRelay, Run, ends, settle, logged, runOf}
 
--- ---- by what the look comes to
+-- a run in a state, with room for so many moves, stops there: with this word, by this relay
+pub data RunStops (f : Stepper) (k : ℕ) : ℕ → State → Ending → ℕ → Type 0 where
+  -- every relay rests
+  rested : {n : ℕ} {s : State} → lookFrom f s k 0 ≡ quiet → RunStops f k n s idle noRelay
+  -- a relay is undecided or in conflict
+  halted : {n : ℕ} {s : State} {e : Ending} {r : ℕ} → lookFrom f s k 0 ≡ halts e r → RunStops f k n s e r
+  -- a move finds the log full
+  filled : {s : State} {r : ℕ} (m : Move) → lookFrom f s k 0 ≡ makes m r → RunStops f k zero s spent r
 
-module _ (f : Stepper) (k : ℕ) (s : State) where
-  pub run-quiet : (n : ℕ) → lookFrom f s k 0 ≡ quiet → runOf f k n s ≡ ends idle s noRelay
+-- a run from a state, with room for so many moves: it stops there, or a move is made and logged and it goes on
+pub data RunGoes (f : Stepper) (k : ℕ) : ℕ → State → Run → Type 0 where
+  stops : {n : ℕ} {s : State} {e : Ending} {r : ℕ} → RunStops f k n s e r → RunGoes f k n s (ends e s r)
+  moved : {n : ℕ} {s : State} {x : Run} (m : Move) (r : ℕ) → lookFrom f s k 0 ≡ makes m r
+      → RunGoes f k n (made s r m) x → RunGoes f k (suc n) s (logged (byteOf r m) x)
+
+module _ (f : Stepper) (k : ℕ) where
+  -- one turn; a move is left to the room that there is
+  turn-goes : (n : ℕ) (s : State) (go : Move → ℕ → Run) (l : Look) → lookFrom f s k 0 ≡ l
+      → ((m : Move) (r : ℕ) → l ≡ makes m r → RunGoes f k n s (go m r)) → RunGoes f k n s (settle l s go)
+  turn-goes n s go quiet e on = stops (rested e)
+  turn-goes n s go (halts w r) e on = stops (halted e)
+  turn-goes n s go (makes m r) e on = on m r refl
+
+  pub run-goes : (n : ℕ) (s : State) → RunGoes f k n s (runOf f k n s)
   unfolding runOf
-  run-quiet zero e = rw e refl
-  run-quiet (suc n) e = rw e refl
+  run-goes zero s = turn-goes zero s _ (lookFrom f s k 0) refl (λ m r e. stops (filled m e))
+  run-goes (suc n) s = turn-goes (suc n) s _ (lookFrom f s k 0) refl (λ m r e. moved m r e (run-goes n (made s r m)))
 
-  pub run-halts : (n : ℕ) (w : Ending) (r : ℕ) → lookFrom f s k 0 ≡ halts w r → runOf f k n s ≡ ends w s r
-  unfolding runOf
-  run-halts zero w r e = rw e refl
-  run-halts (suc n) w r e = rw e refl
+stops-run : {f : Stepper} {k n : ℕ} {s : State} {w : Ending} {r : ℕ} → RunStops f k n s w r → runOf f k n s ≡ ends w s r
+unfolding runOf
+stops-run {n = zero} (rested e) = rw e refl
+stops-run {n = suc n} (rested e) = rw e refl
+stops-run {n = zero} (halted e) = rw e refl
+stops-run {n = suc n} (halted e) = rw e refl
+stops-run (filled m e) = rw e refl
 
-  pub run-spent : (m : Move) (r : ℕ) → lookFrom f s k 0 ≡ makes m r → runOf f k 0 s ≡ ends spent s r
-  unfolding runOf
-  run-spent m r e = rw e refl
-
-  pub run-moves : (n : ℕ) (m : Move) (r : ℕ) → lookFrom f s k 0 ≡ makes m r
-      → runOf f k (suc n) s ≡ logged (byteOf r m) (runOf f k n (made s r m))
-  unfolding runOf
-  run-moves n m r e = rw e refl
-
--- ---- by induction
-
--- what holds of a run that ends at its first look, and of one more move if it held after it, holds of every run
-module _ (f : Stepper) (k : ℕ) (P : ℕ → State → Run → Type 0)
-    (quiets : (n : ℕ) (s : State) → lookFrom f s k 0 ≡ quiet → P n s (ends idle s noRelay))
-    (stops : (n : ℕ) (s : State) (e : Ending) (r : ℕ) → lookFrom f s k 0 ≡ halts e r → P n s (ends e s r))
-    (fills : (s : State) (m : Move) (r : ℕ) → lookFrom f s k 0 ≡ makes m r → P 0 s (ends spent s r))
-    (moves : (n : ℕ) (s : State) (m : Move) (r : ℕ) (x : Run) → lookFrom f s k 0 ≡ makes m r → P n (made s r m) x
-    → P (suc n) s (logged (byteOf r m) x)) where
-  by-look : (n : ℕ) (s : State) (go : Move → ℕ → Run) (l : Look) → lookFrom f s k 0 ≡ l
-      → ((m : Move) (r : ℕ) → l ≡ makes m r → P n s (go m r)) → P n s (settle l s go)
-  by-look n s go quiet e on = quiets n s e
-  by-look n s go (halts w r) e on = stops n s w r e
-  by-look n s go (makes m r) e on = on m r refl
-
-  pub run-holds : (n : ℕ) (s : State) → P n s (runOf f k n s)
-  unfolding runOf
-  run-holds zero s = by-look zero s _ (lookFrom f s k 0) refl (λ m r e. fills s m r e)
-  run-holds (suc n) s =
-      by-look (suc n) s _ (lookFrom f s k 0) refl (λ m r e. moves n s m r _ e (run-holds n (made s r m)))
+pub goes-run : {f : Stepper} {k n : ℕ} {s : State} {x : Run} → RunGoes f k n s x → runOf f k n s ≡ x
+unfolding runOf
+goes-run (stops why) = stops-run why
+goes-run (moved m r e on) = rw e (ap (logged (byteOf r m)) (goes-run on))
 
 -- a run makes no more moves than it has room for
-pub run-room : (f : Stepper) (k n : ℕ) (s : State) → length (runOf f k n s .bytes) ≤ n
-run-room f k =
-    run-holds f k (λ n s x. length (x .bytes) ≤ n) (λ n s e. omega arith) (λ n s w r e. omega arith)
-    (λ s m r e. omega arith) (λ n s m r x e on. omega (arith, on))
+pub goes-room : {f : Stepper} {k n : ℕ} {s : State} {x : Run} → RunGoes f k n s x → length (x .bytes) ≤ n
+goes-room (stops why) = omega arith
+goes-room (moved m r e on) = omega (arith, goes-room on)

@@ -1,49 +1,53 @@
--- Laws of a run as a call, one for each way out of `run`: refused by 15, 14 or 13, in that order, or run; and that an
--- answer is known by what it tells.
-use Prim.Native.Nat.{ℕ, _≤_, _<_}
-use mathlib.Core.Path.{_≡_, refl, sym, ap, _∙_}
+-- Laws of a run as a call: when nothing stands against it, what it tells by what does, and that an answer is known by
+-- what it tells.
+use Prim.Native.Nat.{ℕ, _≤_}
+use mathlib.Core.Path.{_≡_, refl, sym, _∙_}
 use mathlib.Core.Bool.{true}
 use mathlib.Core.List.{List, []}
 use lib.ListN.{length}
-use borrow.Author.Tests.{le-leb, lt-leb}
-use Rattle.refusals.specs.Outcomes.{Outcome, given, refused}
+use lib.Dec.{leb}
+use borrow.Author.Tests.{le-leb}
+use Rattle.refusals.specs.Outcomes.{Outcome, given, refused, _>>_, unless}
 use Rattle.refusals.specs.Refusals.{logTooLong}
-use Rattle.refusals.proofs.OutcomeLaws.{both-given}
+use Rattle.refusals.specs.Order.{firstNo, answering}
+use Rattle.refusals.proofs.OrderLaws.{asks-then, all-hold}
 use Rattle.refusals.proofs.Told.{Told, ToldLent}
 use Rattle.board.specs.declared.Board.{Board}
 use Rattle.board.specs.Rules.{boardFine}
 use Rattle.state.specs.declared.State.{State}
-use Rattle.state.specs.States.{stateFine, usable}
-use Rattle.state.proofs.StateLaws.{usable-given}
+use Rattle.state.specs.States.{stateFine, usableLines, usable}
+use Rattle.state.proofs.StateLaws.{usable-given, usable-lines}
 use Rattle.runs.specs.declared.Ending as code-ending
 use Rattle.runs.specs.declared.Ending.the-variants.{Idle, Spent, Undecided, Conflict, Refused}
 use Rattle.runs.specs.declared.Ran.{Ran}
 use Rattle.runs.specs.Looks.{Ending, idle, spent, undecided, conflict}
 use Rattle.runs.specs.Running as told
-use Rattle.runs.specs.Running.{longestLog, runnable, ran, unrun, runOn, ranOn, running, toldEnding, toldRan}
+use Rattle.runs.specs.Running.{longestLog, runnable, unrun, ranOver, running, toldEnding, toldRan}
 
 module _ (b : Board) (s : State) (log : List ℕ) where
-  pub runnable-unusable : (k p : ℕ) → usable b s ≡ refused k p → runnable b s log ≡ refused k p
-  unfolding runnable
-  runnable-unusable k p unusable = rw unusable refl
-
-  pub runnable-long : usable b s ≡ given tt → longestLog < length log → runnable b s log ≡ refused logTooLong 0
-  unfolding runnable
-  runnable-long fine long = rw (fine, lt-leb (length log) longestLog long) refl
-
   pub runnable-log : usable b s ≡ given tt → length log ≤ longestLog → runnable b s log ≡ given tt
-  unfolding runnable
-  runnable-log fine most = rw (fine, le-leb (length log) longestLog most) refl
+  unfolding runnable firstNo
+  runnable-log fine most = rw (usable-lines b s _, fine, le-leb (length log) longestLog most) refl
 
   -- where a board is run, it breaks no rule and the state fits it
   pub runnable-given : runnable b s log ≡ given tt → (boardFine b ≡ true) × (stateFine (b .counts) s ≡ true)
-  unfolding runnable
-  runnable-given taken = usable-given b s (both-given (usable b s) _ tt taken .0)
+  unfolding runnable usable
+  runnable-given taken = usable-given b s (all-hold (usableLines b s) _ taken .0)
 
   -- what the call tells goes by what stands against it
-  pub running-by : (w : ℕ) (o : Outcome (Unit {0})) → runnable b s log ≡ o → ranOn b s log o w ≡ running b s log w
-  unfolding running
-  running-by w o e = ap (λ (q : Outcome (Unit {0})). ranOn b s log q w) (sym e)
+  pub running-by : (w : ℕ) (o : Outcome (Unit {0})) → runnable b s log ≡ o
+      → answering o (λ n p. unrun n p s log) (λ u. ranOver b s log w) ≡ running b s log w
+  unfolding running runnable
+  running-by w o e = rw e refl
+
+  -- ---- for the proof of `run`
+
+  -- its line after 15 and 14
+  pub runnable-asked : {o q : Outcome (Unit {0})} → o ≡ usable b s
+      → q ≡ (o >> unless (leb (length log) longestLog) logTooLong 0) → runnable b s log ≡ q
+  unfolding runnable usable
+  runnable-asked {o} first second =
+      sym (second ∙ asks-then (usableLines b s) (leb (length log) longestLog) logTooLong o first)
 
   -- a refused run tells the same over every log
   pub running-refused : (w : ℕ) (r : Ran) (n p : ℕ) → toldRan r [] ≡ unrun n p s [] → runnable b s log ≡ refused n p
@@ -52,8 +56,7 @@ module _ (b : Board) (s : State) (log : List ℕ) where
       (λ i. record { word = e i .word; moves = e i .moves; state = e i .state; relay = e i .relay; log = log })
       ∙ running-by w (refused n p) refuses
 
-  pub running-ran : (w : ℕ) (x : told.Ran) → x ≡ ran (runOn b (length log) s w) log → runnable b s log ≡ given tt
-      → x ≡ running b s log w
+  pub running-ran : (w : ℕ) (x : told.Ran) → x ≡ ranOver b s log w → runnable b s log ≡ given tt → x ≡ running b s log w
   running-ran w x is taken = is ∙ running-by w (given tt) taken
 
 -- ---- answers and what they tell

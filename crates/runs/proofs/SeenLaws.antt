@@ -5,11 +5,11 @@ use native.Mathlib.Omega.{arith}
 use denote.Enum.Declared.{tagOf}
 use mathlib.Core.Path.{_≡_, refl}
 use mathlib.Core.Logic.{_⊎_, inl, inr}
-use mathlib.Core.List.{List}
 use Rattle.board.specs.declared.Board.{Board}
 use Rattle.state.specs.declared.State.{State}
 use Rattle.state.specs.States.{isDrawn}
-use Rattle.neighbours.specs.Neighbours.{neighbours}
+use Rattle.neighbours.specs.declared.Sets.{Sets}
+use Rattle.neighbours.specs.Neighbours.{setsOf}
 use Rattle.moves.proofs.Move.{the-type}
 use Rattle.moves.specs.declared.Move as code-move
 use Rattle.moves.specs.declared.Move.the-variants.{Drew, Dropped, Rests, Undecided, Conflict}
@@ -22,14 +22,14 @@ first-two : (n : ℕ) → (n ≡ 0) ⊎ (n ≡ 1) → n < 2
 first-two n (inl e) = omega arith
 first-two n (inr e) = omega arith
 
--- what the sets `near` let see of a relay
-abbrev pub seeing : Board → List ℕ → ℕ → Stepper
-seeing b near w s q = stepBy near b (isDrawn s q) q w
+-- what the sets of neighbours let see of a relay
+abbrev pub seeing : Board → Sets → ℕ → Stepper
+seeing b k w s q = stepBy k b (isDrawn s q) q w
 
 -- it is the relay's step, where they were gathered in the same state
-pub step-seen : (b : Board) (near : List ℕ) (w : ℕ) (s : State) → near ≡ neighbours b s → (q : ℕ)
-    → seeing b near w s q ≡ stepper b w s q
-step-seen b near w s gathered q = step-by b s q w near _ gathered refl
+pub step-seen : (b : Board) (k : Sets) (w : ℕ) (s : State) → k ≡ setsOf b s → (q : ℕ)
+    → seeing b k w s q ≡ stepper b w s q
+step-seen b k w s gathered q = step-by b s q w k _ gathered refl
 
 -- the arm of `match` for the relays that move
 pub told-moving : (m : code-move.Move) → (tagOf the-type m ≡ 0) ⊎ (tagOf the-type m ≡ 1) → Moving (toldMove m)

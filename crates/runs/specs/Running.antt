@@ -3,27 +3,29 @@
 -- "Log and output buffer stay as lent"; "The answer has the word, the moves made, the state, and the relay that stopped
 -- it (255 for idle). Log bytes beyond the moves made stay unwritten."
 --     longestLog             the longest log that a run takes (13)
---     runnable b s log       what stands against a run: refusals 15, 14, 13
+--     runLines b s log       the lines of a run of board b from state s over the lent log: 15, 14, 13
+--     runnable b s log       what stands against it by these
 --     Ran                    the answer and the log afterwards
 --     ran x log              what the run x tells over the lent log: its bytes, then the log's own beyond them
 --     unrun n p s log        what a refused run tells
 --     runOn b n s w          the run of the board's relays from state s, each winding within the allowance w, with room
 --                            for n moves
---     ranOn b s log o w      what is told, by what stands against the run
+--     ranOver b s log w      what a run that is not refused tells
 --     running b s log w      the call
 --     toldEnding, toldRan    the answer's cases in the rule book's words and numbers
 --     Runs b s log w a l     promise: `run` of board b from state s over the lent log, within the allowance w, answers
 --                            a and leaves the log as l
 use Prim.Native.Nat.{ℕ}
 use mathlib.Core.Path.{_≡_}
-use mathlib.Core.List.{List, _++_}
+use mathlib.Core.List.{List, [], _∷_, _++_}
 use lib.Dec.{leb}
 use lib.ListN.{length, drop}
-use Rattle.refusals.specs.Outcomes.{Outcome, given, refused, _>>_, unless}
+use Rattle.refusals.specs.Outcomes.{Outcome, given, refused}
 use Rattle.refusals.specs.Refusals.{logTooLong}
+use Rattle.refusals.specs.Order.{Order, firstNo, answering}
 use Rattle.board.specs.declared.Board.{Board}
 use Rattle.state.specs.declared.State.{State}
-use Rattle.state.specs.States.{usable}
+use Rattle.state.specs.States.{usableLines}
 use Rattle.moves.specs.Steps.{stepper}
 use Rattle.runs.specs.declared.Ending as code-ending
 use Rattle.runs.specs.declared.Ending.the-variants as said
@@ -34,10 +36,11 @@ use Rattle.runs.specs.Runs.{Run, noRelay, runOf}
 abbrev pub longestLog : ℕ
 longestLog = 65536
 
+abbrev pub runLines : Board → State → List ℕ → Order
+runLines b s log = usableLines b s ++ ((leb (length log) longestLog, logTooLong) ∷ [])
+
 unfoldable pub runnable : Board → State → List ℕ → Outcome (Unit {0})
-runnable b s log = do
-  usable b s
-  unless (leb (length log) longestLog) logTooLong 0
+runnable b s log = firstNo (runLines b s log)
 
 pub record Ran : Type 0 where
   pub word : Outcome Ending
@@ -62,12 +65,11 @@ unrun n p s log = record { word = refused n p; moves = 0; state = s; relay = noR
 abbrev pub runOn : Board → ℕ → State → ℕ → Run
 runOn b n s w = runOf (stepper b w) (b .counts .relays) n s
 
-abbrev pub ranOn : Board → State → List ℕ → Outcome (Unit {0}) → ℕ → Ran
-ranOn b s log (given u) w = ran (runOn b (length log) s w) log
-ranOn b s log (refused n p) w = unrun n p s log
+abbrev pub ranOver : Board → State → List ℕ → ℕ → Ran
+ranOver b s log w = ran (runOn b (length log) s w) log
 
 unfoldable pub running : Board → State → List ℕ → ℕ → Ran
-running b s log w = ranOn b s log (runnable b s log) w
+running b s log w = answering (firstNo (runLines b s log)) (λ n p. unrun n p s log) (λ u. ranOver b s log w)
 
 abbrev pub toldEnding : code-ending.Ending → Outcome Ending
 toldEnding said.Idle = given idle

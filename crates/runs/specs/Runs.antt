@@ -6,6 +6,7 @@
 --                      for idle)"
 --     ends e s r       a run that makes no move: it ends in state s with the word e, stopped by relay r
 --     settle l s go    what a look in state s makes of the run; after a move it goes on by `go`
+--     turn f k s go    one turn of the run in state s, whatever room there is: it looks at k relays from 0 up
 --     logged c x       a run that first logs the byte c and then goes on as x
 --     runOf f k n s    the run of k relays from state s, with room for n moves
 use Prim.Native.Nat.{ℕ, zero, suc}
@@ -31,9 +32,12 @@ settle quiet s go = ends idle s noRelay
 settle (halts e r) s go = ends e s r
 settle (makes m r) s go = go m r
 
+abbrev pub turn : Stepper → ℕ → State → (Move → ℕ → Run) → Run
+turn f k s go = settle (lookFrom f s k 0) s go
+
 abbrev pub logged : ℕ → Run → Run
 logged c x = record { word = x .word; bytes = c ∷ x .bytes; state = x .state; relay = x .relay }
 
 unfoldable pub runOf : Stepper → ℕ → ℕ → State → Run
-runOf f k zero s = settle (lookFrom f s k 0) s (λ m r. ends spent s r)
-runOf f k (suc n) s = settle (lookFrom f s k 0) s (λ m r. logged (byteOf r m) (runOf f k n (made s r m)))
+runOf f k zero s = turn f k s (λ m r. ends spent s r)
+runOf f k (suc n) s = turn f k s (λ m r. logged (byteOf r m) (runOf f k n (made s r m)))

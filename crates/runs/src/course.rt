@@ -1,11 +1,10 @@
 // The course of a run on a board that breaks no rule: look, move, and look again.
 ghost use mathlib.Core.Path.{_≡_};
 ghost use Prim.Native.Nat.{_<_, _≤_};
-ghost use lib.ListN.{length};
 ghost use Rattle.board.specs.Rules.{mostRelays};
 ghost use Rattle.moves.specs.Steps.{toldMove};
 ghost use Rattle.runs.specs.Looks.{drawMark, byteOf};
-ghost use Rattle.runs.specs.Running.{runOn, ran, toldRan};
+ghost use Rattle.runs.specs.Running.{ranOver, toldRan};
 use crate::Ending;
 use crate::NO_RELAY;
 use crate::Ran;
@@ -16,11 +15,8 @@ use state::State;
 // What the log byte of a draw has besides the relay number.
 const DRAW_MARK: u8 = 128;
 
-// Why a run stopped: the word and the relay that stopped it.
-struct Stop {
-    word: Ending,
-    relay: u8,
-}
+// Why a run stopped: the word, and the relay that stopped it.
+struct Stop(Ending, u8);
 
 // The log byte of a move: the relay number, plus 128 for a draw.
 fn byte(relay: u8, motion: Move) -> u8
@@ -40,45 +36,26 @@ fn byte(relay: u8, motion: Move) -> u8
 // and anything else stops the run.
 pub fn follow(board: Board, state: State, log: &mut [u8], allowance: u32) -> Ran
     requires { ⌜ board .counts .relays ≤ mostRelays ⌝ }
-    ensures { λ r. ⌜ toldRan r (now (log .exit))
-        ≡ ran (runOn board (length (now (log .entry))) state allowance) (now (log .entry)) ⌝ }
+    ensures { λ r. ⌜ toldRan r (now (log .exit)) ≡ ranOver board state (now (log .entry)) allowance ⌝ }
 {
     let relays = board.counts.relays;
     let mut state = state;
     let mut moves = 0;
     let stop = 'run: loop {
-        let near = neighbours::neighbours(board, state);
+        let sets = neighbours::neighbours(board, state);
         let mut relay = 0;
         'scan: loop {
             if relays <= relay {
-                break 'run Stop {
-                    word: Ending::Idle,
-                    relay: NO_RELAY,
-                };
+                break 'run Stop(Ending::Idle, NO_RELAY);
             }
-            let motion = moves::step(&near, board, state, bits::wide(relay), allowance);
+            let motion = moves::step(sets, board, state, bits::wide(relay), allowance);
             match motion {
-                Move::Rests => {
-                    relay += 1;
-                }
-                Move::Undecided => {
-                    break 'run Stop {
-                        word: Ending::Undecided,
-                        relay,
-                    };
-                }
-                Move::Conflict => {
-                    break 'run Stop {
-                        word: Ending::Conflict,
-                        relay,
-                    };
-                }
+                Move::Rests => relay += 1,
+                Move::Undecided => break 'run Stop(Ending::Undecided, relay),
+                Move::Conflict => break 'run Stop(Ending::Conflict, relay),
                 Move::Drew | Move::Dropped => {
                     if log.len() <= moves {
-                        break 'run Stop {
-                            word: Ending::Spent,
-                            relay,
-                        };
+                        break 'run Stop(Ending::Spent, relay);
                     }
                     log[moves] = byte(relay, motion);
                     state = moves::after(state, bits::wide(relay), motion);
@@ -88,11 +65,11 @@ pub fn follow(board: Board, state: State, log: &mut [u8], allowance: u32) -> Ran
             }
         }
     };
-    let word = stop.word;
+    let word = stop.0;
     Ran {
         word,
         moves,
         state,
-        relay: stop.relay,
+        relay: stop.1,
     }
 }

@@ -4,10 +4,9 @@ ghost use mathlib.Core.Path.{_≡_};
 ghost use mathlib.Core.List.{[]};
 ghost use Rattle.runs.specs.Running.{unrun, toldRan, Runs};
 use board::Board;
-use refusals::BROKEN_BOARD;
+use refusals::Against;
 use refusals::LOG_TOO_LONG;
 use refusals::Refusal;
-use refusals::STATE_BEYOND_BOARD;
 use state::State;
 
 mod course;
@@ -35,12 +34,12 @@ pub struct Ran {
     pub relay: u8,
 }
 
-// A refused run: the state as given, no moves, no relay. A call's place is 0.
-fn refuse(state: State, number: u32) -> Ran
-    ensures { λ r. ⌜ toldRan r [] ≡ unrun number 0 state [] ⌝ }
+// A refused run: the state as given, no moves, no relay.
+fn refuse(state: State, refusal: Refusal) -> Ran
+    ensures { λ r. ⌜ toldRan r [] ≡ unrun (refusal .number) (refusal .place) state [] ⌝ }
 {
     Ran {
-        word: Ending::Refused(Refusal { number, place: 0 }),
+        word: Ending::Refused(refusal),
         moves: 0,
         state,
         relay: NO_RELAY,
@@ -51,15 +50,10 @@ fn refuse(state: State, number: u32) -> Ran
 pub fn run(board: Board, state: State, log: &mut [u8], allowance: u32) -> Ran
     ensures { λ r. ⌜ Runs board state (now (log .entry)) allowance r (now (log .exit)) ⌝ }
 {
-    if !board::check(board) {
-        return refuse(state, BROKEN_BOARD);
+    let usable = state::usable(board, state);
+    let against = usable.unless(log.len() <= LONGEST_LOG, LOG_TOO_LONG);
+    match against {
+        Against::Nothing => course::follow(board, state, log, allowance),
+        Against::Refused(refusal) => refuse(state, refusal),
     }
-    let counts = board.counts;
-    if !state.fits(counts) {
-        return refuse(state, STATE_BEYOND_BOARD);
-    }
-    if LONGEST_LOG < log.len() {
-        return refuse(state, LOG_TOO_LONG);
-    }
-    course::follow(board, state, log, allowance)
 }

@@ -14,7 +14,7 @@ use Rattle.runs.specs.declared.Ran.{Ran}
 use Rattle.runs.specs.Looks.{Ending, idle}
 use Rattle.runs.specs.Runs.{Run}
 use Rattle.runs.specs.Running.{ran, toldEnding, toldRan, runOn}
-use Rattle.runs.proofs.RunLaws.{run-room}
+use Rattle.runs.proofs.RunLaws.{run-goes, goes-room}
 use Rattle.runs.proofs.RunningLaws.{runnable-given}
 use Rattle.runs_means.proofs.AnswerLaws.{accepted-ran, answer-word, answer-moves, answer-state, answer-relay}
 use Rattle.runs_means.proofs.AnswerLaws.{answer-bytes, answer-log}
@@ -53,7 +53,6 @@ module _ (b : Board) (s : State) (w : ℕ) (log : List ℕ) (a : Ran) (l : List 
 
 pub run-exactly : RunExactly
 run-exactly b s w log a l told taken =
-    let fine = runnable-given b s log taken in
     says-means b s w log a l (runOn b (length log) s w) (accepted-ran b s w log a l told taken)
-    (run-says b w (fine .0) (length log) s (fine .1))
-    (run-room (stepper b w) (b .counts .relays) (length log) s)
+    (run-says b w (runnable-given b s log taken .0) (length log) s)
+    (goes-room (run-goes (stepper b w) (b .counts .relays) (length log) s))

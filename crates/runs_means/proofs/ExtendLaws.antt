@@ -3,14 +3,14 @@
 use Prim.Native.Nat.{ℕ, zero, suc, _≤_}
 use native.Mathlib.Omega.{arith}
 use mathlib.Core.Path.{_≡_, refl, sym, ap, _∙_}
-use mathlib.Core.Logic.{_⊎_, inl, inr}
+use mathlib.Core.Logic.{_⊎_, inl, inr, ⊎-elim}
 use mathlib.Core.List.{[], _∷_, append-nil}
 use Rattle.state.specs.declared.State.{State}
 use Rattle.moves.specs.Steps as step
-use Rattle.runs.specs.Looks.{Stepper, Ending, idle, spent, undecided, conflict, Look, quiet, halts, makes, byteOf}
+use Rattle.runs.specs.Looks.{Stepper, Ending, idle, spent, undecided, conflict, halts, byteOf}
 use Rattle.runs.specs.Looks.{lookFrom}
 use Rattle.runs.specs.Runs.{Run, ends, logged, runOf}
-use Rattle.runs.proofs.RunLaws.{run-quiet, run-halts, run-spent, run-moves}
+use Rattle.runs.proofs.RunLaws.{RunStops, rested, halted, filled, RunGoes, stops, moved, run-goes, goes-run}
 use Rattle.runs_means.specs.LongerRuns.{IsStart}
 
 -- g comes to what f comes to, wherever f is not undecided
@@ -80,25 +80,28 @@ goes-on-logged c x y on =
 -- ---- the second run goes on from the first
 
 module _ (f g : Stepper) (settles : Settles f g) (k : ℕ) where
-  -- by what the first look comes to; a move is left to the room that the two runs have
-  goes-on-look : (n m : ℕ) (s : State) → ((mv : step.Move) (r : ℕ) → lookFrom f s k 0 ≡ makes mv r
-      → lookFrom g s k 0 ≡ makes mv r → GoesOn (runOf f k n s) (runOf g k m s))
-      → GoesOn (runOf f k n s) (runOf g k m s)
-  goes-on-look n m s on = by-looks (look-settles f g settles s k 0)
-    where
-      by-look : (l : Look) → lookFrom f s k 0 ≡ l → lookFrom g s k 0 ≡ l → GoesOn (runOf f k n s) (runOf g k m s)
-      by-look quiet e d = goes-on-same _ _ (run-quiet g k s m d ∙ sym (run-quiet f k s n e))
-      by-look (halts w r) e d = goes-on-same _ _ (run-halts g k s m w r d ∙ sym (run-halts f k s n w r e))
-      by-look (makes mv r) e d = on mv r e d
+  -- where the first is undecided at once the second may be anything; else they look alike
+  goes-on-unless : {n : ℕ} {s : State} {x y : Run} → RunGoes f k n s x
+      → (lookFrom g s k 0 ≡ lookFrom f s k 0 → GoesOn x y) → GoesOn x y
+  goes-on-unless {s = s} {x = x} {y = y} way on =
+      ⊎-elim
+      (λ (q, u). goes-on-unfinal x y undecided s q (sym (goes-run way) ∙ goes-run (stops (halted u))) (λ never. never))
+      on (look-settles f g settles s k 0)
 
-      by-looks : Looks f g s k 0 → GoesOn (runOf f k n s) (runOf g k m s)
-      by-looks (inl (q, u)) = goes-on-unfinal _ _ undecided s q (run-halts f k s n undecided q u) (λ never. never)
-      by-looks (inr same) = by-look (lookFrom f s k 0) refl same
+  goes-on-stops : {n : ℕ} {s : State} {e : Ending} {r : ℕ} → RunStops f k n s e r → (m : ℕ)
+      → GoesOn (ends e s r) (runOf g k m s)
+  goes-on-stops (rested {n = n} e) m =
+      goes-on-unless (stops (rested {n = n} e)) (λ same. goes-on-same _ _ (goes-run (stops (rested (same ∙ e)))))
+  goes-on-stops (halted {n = n} e) m =
+      goes-on-unless (stops (halted {n = n} e)) (λ same. goes-on-same _ _ (goes-run (stops (halted (same ∙ e)))))
+  goes-on-stops (filled mv e) m = goes-on-unfinal _ _ spent _ _ refl (λ never. never)
+
+  goes-on : {n : ℕ} {s : State} {x : Run} → RunGoes f k n s x → (m : ℕ) → n ≤ m → GoesOn x (runOf g k m s)
+  goes-on (stops why) m more = goes-on-stops why m
+  goes-on (moved mv r e on) zero more = absurd (omega arith)
+  goes-on (moved mv r e on) (suc m) more =
+      goes-on-unless (moved mv r e on) (λ same. rw (goes-run (moved mv r (same ∙ e) (run-goes g k m _)))
+      (goes-on-logged (byteOf r mv) _ _ (goes-on on m (omega arith))))
 
   pub run-goes-on : (n m : ℕ) (s : State) → n ≤ m → GoesOn (runOf f k n s) (runOf g k m s)
-  run-goes-on zero m s more =
-      goes-on-look zero m s (λ mv r e d. goes-on-unfinal _ _ spent s r (run-spent f k s mv r e) (λ never. never))
-  run-goes-on (suc n) zero s more = absurd (omega arith)
-  run-goes-on (suc n) (suc m) s more =
-      goes-on-look (suc n) (suc m) s (λ mv r e d. rw (run-moves f k s n mv r e, run-moves g k s m mv r d)
-      (goes-on-logged (byteOf r mv) _ _ (run-goes-on n m (step.made s r mv) (omega arith))))
+  run-goes-on n m s more = goes-on (run-goes f k n s) m more

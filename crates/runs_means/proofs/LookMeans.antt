@@ -11,7 +11,6 @@ use Rattle.bits.proofs.BoolLaws.{by-test}
 use Rattle.board.specs.declared.Board.{Board}
 use Rattle.board.specs.Rules.{boardFine}
 use Rattle.state.specs.declared.State.{State}
-use Rattle.state.specs.States.{stateFine}
 use Rattle.moves.specs.Steps as step
 use Rattle.moves_means.specs.SingleMoves.{Comes}
 use Rattle.moves_means.proofs.SingleMoves.{step-means}
@@ -51,7 +50,7 @@ module _ (b : Board) (w : ℕ) (s : State) where
   decides-means step.undecided r next below rest here later = inl (refl, (below, rest, here))
   decides-means step.conflict r next below rest here later = inr (refl, (below, rest, here))
 
-  module _ (fine : boardFine b ≡ true) (fits : stateFine (b .counts) s ≡ true) where
+  module _ (fine : boardFine b ≡ true) where
     -- n relays are left to look at
     look-from-means : (n r : ℕ) → b .counts .relays - r ≡ n → Resting b s r w
         → LookMeans b w s (lookFrom (step.stepper b w) s (b .counts .relays - r) r)
@@ -62,7 +61,7 @@ module _ (b : Board) (w : ℕ) (s : State) where
         let below : r < b .counts .relays = omega arith in
         subst (LookMeans b w s)
         (sym (look-decides (step.stepper b w) s (b .counts .relays) r (step.stepOf b s r w) below refl))
-        (decides-means (step.stepOf b s r w) r _ below rest (step-means b w s r fine fits below)
+        (decides-means (step.stepOf b s r w) r _ below rest (step-means b w s r fine below)
         (look-from-means n (r + 1) (omega arith)))
 
     pub look-means : LookMeans b w s (lookFrom (step.stepper b w) s (b .counts .relays) 0)

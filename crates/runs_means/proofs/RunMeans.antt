@@ -8,44 +8,45 @@ use lib.ListN.{length}
 use Rattle.board.specs.declared.Board.{Board}
 use Rattle.board.specs.Rules.{boardFine}
 use Rattle.state.specs.declared.State.{State}
-use Rattle.state.specs.States.{stateFine}
 use Rattle.moves.specs.Steps as step
-use Rattle.moves.proofs.StepLaws.{made-fits}
-use Rattle.moves_means.specs.Guards.{CanDraw, CanDrop}
+use Rattle.moves_means.specs.SingleMoves.{Comes}
 use Rattle.moves_means.proofs.ComesLaws.{comes-exclusive}
 use Rattle.moves_means.proofs.OneRelay.{made-else}
 use Rattle.runs.specs.Looks.{Ending, idle, spent, undecided, conflict, Look, quiet, halts, makes, byteOf, lookFrom}
 use Rattle.runs.specs.Runs.{noRelay, Run, ends, logged, runOf}
-use Rattle.runs.proofs.RunLaws.{run-holds}
-use Rattle.runs.proofs.RunFits.{look-makes-below}
-use Rattle.runs_means.specs.Courses.{LowestMove, Follows, Resting, StoppedBy, Ended}
+use Rattle.runs.proofs.RunLaws.{RunStops, rested, halted, filled, RunGoes, stops, moved, run-goes}
+use Rattle.runs_means.specs.Courses.{AllowedMove, LowestMove, Follows, Resting, StoppedBy, Ended}
 use Rattle.runs_means.proofs.LookMeans.{LookMeans, look-means}
 
 module _ (b : Board) (w : ℕ) where
   -- ---- one move
 
-  -- of the relays below the one that stopped the look no guard holds
-  unguarded : (s : State) (r : ℕ) → Resting b s r w → (q : ℕ) → q < r → ¬ (CanDraw b s q) × ¬ (CanDrop b s q)
-  unguarded s r rest q below = (rest q below .2, rest q below .3)
+  -- a relay of the board that comes to m, drew or dropped
+  comes-allowed : (s : State) (m : step.Move) (r : ℕ) → r < b .counts .relays
+      → ((m ≡ step.drew) × Comes b s r step.drew w) ⊎ ((m ≡ step.dropped) × Comes b s r step.dropped w)
+      → AllowedMove b s (byteOf r m) (step.made s r m) w
+  comes-allowed s m r below comes =
+      record {
+        relay = r;
+        on-board = below;
+        made = ⊎-elim (λ (is, x). inl (rw is (refl, x, refl))) (λ (is, x). inr (rw is (refl, x, refl))) comes;
+        else-as-before = made-else s r m;
+        guarded = ⊎-elim (λ (is, x). inl (x .2)) (λ (is, x). inr (x .2)) comes;
+      }
 
-  stopped-moves : (s : State) (m : step.Move) (r : ℕ) → LookMeans b w s (makes m r)
+  -- a relay that rests has no guard that holds
+  resting-lowest : (s : State) (c : ℕ) (t : State) (move : AllowedMove b s c t w) → Resting b s (move .relay) w
+      → LowestMove b s c t w
+  resting-lowest s c t move rest =
+      record { move = move; resting = rest; lowest = λ q below. (rest q below .2, rest q below .3) }
+
+  look-lowest : (s : State) (m : step.Move) (r : ℕ) → LookMeans b w s (makes m r)
       → LowestMove b s (byteOf r m) (step.made s r m) w
-  stopped-moves s m r (inl (is, stopped)) =
-      rw is (record {
-        relay = r;
-        made = inl (refl, stopped, refl);
-        else-as-before = made-else s r step.drew;
-        guarded = inl (stopped .2 .2);
-        lowest = unguarded s r (stopped .1);
-      })
-  stopped-moves s m r (inr (is, stopped)) =
-      rw is (record {
-        relay = r;
-        made = inr (refl, stopped, refl);
-        else-as-before = made-else s r step.dropped;
-        guarded = inr (stopped .2 .2);
-        lowest = unguarded s r (stopped .1);
-      })
+  unfolding comes-allowed
+  look-lowest s m r (inl (is, (below, rest, comes))) =
+      resting-lowest s _ _ (comes-allowed s m r below (inl (is, comes))) rest
+  look-lowest s m r (inr (is, (below, rest, comes))) =
+      resting-lowest s _ _ (comes-allowed s m r below (inr (is, comes))) rest
 
   -- ---- the whole run
 
@@ -83,20 +84,22 @@ module _ (b : Board) (w : ℕ) where
       }
 
   module _ (fine : boardFine b ≡ true) where
-    means : (s : State) (l : Look) → lookFrom (step.stepper b w) s (b .counts .relays) 0 ≡ l
-        → stateFine (b .counts) s ≡ true → LookMeans b w s l
-    means s l e fits = subst (LookMeans b w s) e (look-means b w s fine fits)
+    means : (s : State) (l : Look) → lookFrom (step.stepper b w) s (b .counts .relays) 0 ≡ l → LookMeans b w s l
+    means s l e = subst (LookMeans b w s) e (look-means b w s fine)
 
-    pub run-says : (n : ℕ) (s : State) → stateFine (b .counts) s ≡ true
-        → Says n s (runOf (step.stepper b w) (b .counts .relays) n s)
-    run-says =
-        run-holds (step.stepper b w) (b .counts .relays) (λ n s x. stateFine (b .counts) s ≡ true → Says n s x)
-        (λ n s e fits. says-ends n s idle noRelay (refl, means s quiet e fits))
-        (λ n s h r e fits. says-ends n s h r (halts-ended n s h r (means s (halts h r) e fits)))
-        (λ s m r e fits. says-ends zero s spent r (full-ended s m r (means s (makes m r) e fits)))
-        (λ n s m r x e on fits.
-        says-logged n s (byteOf r m) (step.made s r m) x (stopped-moves s m r (means s (makes m r) e fits))
-        (on (made-fits (b .counts) s r m fits (look-makes-below (step.stepper b w) s (b .counts .relays) m r e))))
+    stops-ended : {n : ℕ} {s : State} {h : Ending} {r : ℕ} → RunStops (step.stepper b w) (b .counts .relays) n s h r
+        → Ended b n 0 s r h w
+    stops-ended (rested {s = s} e) = (refl, means s quiet e)
+    stops-ended (halted {n = n} {s = s} {e = h} {r = r} e) = halts-ended n s h r (means s (halts h r) e)
+    stops-ended (filled {s = s} {r = r} m e) = full-ended s m r (means s (makes m r) e)
+
+    goes-says : {n : ℕ} {s : State} {x : Run} → RunGoes (step.stepper b w) (b .counts .relays) n s x → Says n s x
+    goes-says (stops {n = n} {s = s} {e = h} {r = r} why) = says-ends n s h r (stops-ended why)
+    goes-says (moved {n = n} {s = s} {x = x} m r e on) =
+        says-logged n s (byteOf r m) (step.made s r m) x (look-lowest s m r (means s (makes m r) e)) (goes-says on)
+
+    pub run-says : (n : ℕ) (s : State) → Says n s (runOf (step.stepper b w) (b .counts .relays) n s)
+    run-says n s = goes-says (run-goes (step.stepper b w) (b .counts .relays) n s)
 
   -- ---- of one run only one word can be said
 
@@ -110,22 +113,22 @@ module _ (b : Board) (w : ℕ) where
 
   record Stopped (s : State) (r : ℕ) (e : Ending) : Type 0 where
     move : step.Move
-    stops : StoppedBy b s r move w
+    by : StoppedBy b s r move w
     says : wordBy move ≡ e
 
   ended-by : (n k : ℕ) (s : State) (r : ℕ) (e : Ending) → Ended b n k s r e w
       → ((idle ≡ e) × Resting b s (b .counts .relays) w) ⊎ Stopped s r e
   ended-by n k s r idle h = inl (refl, h .1)
   ended-by n k s r spent h =
-      inr (⊎-elim (λ x. record { move = step.drew; stops = x; says = refl })
-      (λ x. record { move = step.dropped; stops = x; says = refl }) (h .1))
-  ended-by n k s r undecided h = inr (record { move = step.undecided; stops = h; says = refl })
-  ended-by n k s r conflict h = inr (record { move = step.conflict; stops = h; says = refl })
+      inr (⊎-elim (λ x. record { move = step.drew; by = x; says = refl })
+      (λ x. record { move = step.dropped; by = x; says = refl }) (h .1))
+  ended-by n k s r undecided h = inr (record { move = step.undecided; by = h; says = refl })
+  ended-by n k s r conflict h = inr (record { move = step.conflict; by = h; says = refl })
 
   -- where all rest, what a relay came to is that it rests
   rests-stopped : (s : State) (r : ℕ) (e : Ending) → Resting b s (b .counts .relays) w → Stopped s r e → idle ≡ e
   rests-stopped s r e rest x =
-      ap wordBy (comes-exclusive b w s r step.rests (x .move) (rest r (x .stops .0)) (x .stops .2)) ∙ x .says
+      ap wordBy (comes-exclusive b w s r step.rests (x .move) (rest r (x .by .0)) (x .by .2)) ∙ x .says
 
   causes-exclusive : (s : State) (r : ℕ) (d e : Ending) → ((idle ≡ d) × Resting b s (b .counts .relays) w)
       ⊎ Stopped s r d → ((idle ≡ e) × Resting b s (b .counts .relays) w) ⊎ Stopped s r e → d ≡ e
@@ -133,7 +136,7 @@ module _ (b : Board) (w : ℕ) where
   causes-exclusive s r d e (inl x) (inr y) = sym (x .0) ∙ rests-stopped s r e (x .1) y
   causes-exclusive s r d e (inr x) (inl y) = sym (rests-stopped s r d (y .1) x) ∙ y .0
   causes-exclusive s r d e (inr x) (inr y) =
-      sym (x .says) ∙ ap wordBy (comes-exclusive b w s r (x .move) (y .move) (x .stops .2) (y .stops .2))
+      sym (x .says) ∙ ap wordBy (comes-exclusive b w s r (x .move) (y .move) (x .by .2) (y .by .2))
       ∙ y .says
 
   pub ended-exclusive : (n k : ℕ) (s : State) (r : ℕ) (d e : Ending) → Ended b n k s r d w → Ended b n k s r e w → d ≡ e

@@ -3,10 +3,12 @@
 --     Resting b s k w         each relay below k rests in state s: no guard holds of it, there is not current through
 --                             both its windings, and none of them needs more than the allowance w
 --     StoppedBy b s r m w     relay r is the first that does not rest in state s, and it comes to m
---     LowestMove b s c t w    one move, from state s to state t, logged as the byte c: "the first that doesn't rest
---                             decides", and comes to drew or dropped; t is s with that relay drawn, or dropped
---                             (`withDrawn`, `withDropped`), and "A move changes that relay and nothing else". So the
---                             guard for drawing or dropping it holds in s, and of no lower relay does one hold
+--     AllowedMove b s c t w   one move, from state s to state t, logged as the byte c: a relay of the board comes to
+--                             drew or dropped; t is s with that relay drawn, or dropped (`withDrawn`, `withDropped`),
+--                             and "A move changes that relay and nothing else". So the guard for drawing or dropping it
+--                             holds in s
+--     LowestMove b s c t w    an allowed move that is also the lowest: "the first that doesn't rest decides", and each
+--                             lower relay rests. So of no lower relay does a guard hold
 --     Follows b s cs t w      the moves logged as cs lead from state s to state t, one after the other
 --     Ended b n m s r e w     what the word e says, of a run with room for n moves that made m of them and stopped in
 --                             state s at relay r. Spent: a further move was possible when the log was full. Undecided:
@@ -40,13 +42,18 @@ Resting b s k w = (q : ℕ) → q < k → Comes b s q step.rests w
 abbrev pub StoppedBy : Board → State → ℕ → step.Move → ℕ → Type 0
 StoppedBy b s r m w = (r < b .counts .relays) × Resting b s r w × Comes b s r m w
 
-pub record LowestMove (b : Board) (s : State) (c : ℕ) (t : State) (w : ℕ) : Type 0 where
+pub record AllowedMove (b : Board) (s : State) (c : ℕ) (t : State) (w : ℕ) : Type 0 where
   pub relay : ℕ
-  pub made : ((c ≡ relay + drawMark) × StoppedBy b s relay step.drew w × (t ≡ withDrawn s relay))
-      ⊎ ((c ≡ relay) × StoppedBy b s relay step.dropped w × (t ≡ withDropped s relay))
+  pub on-board : relay < b .counts .relays
+  pub made : ((c ≡ relay + drawMark) × Comes b s relay step.drew w × (t ≡ withDrawn s relay))
+      ⊎ ((c ≡ relay) × Comes b s relay step.dropped w × (t ≡ withDropped s relay))
   pub else-as-before : ElseAsBefore s relay t
   pub guarded : CanDraw b s relay ⊎ CanDrop b s relay
-  pub lowest : (q : ℕ) → q < relay → ¬ (CanDraw b s q) × ¬ (CanDrop b s q)
+
+pub record LowestMove (b : Board) (s : State) (c : ℕ) (t : State) (w : ℕ) : Type 0 where
+  pub move : AllowedMove b s c t w
+  pub resting : Resting b s (move .relay) w
+  pub lowest : (q : ℕ) → q < move .relay → ¬ (CanDraw b s q) × ¬ (CanDrop b s q)
 
 unfoldable pub Follows : Board → State → List ℕ → State → ℕ → Type 0
 Follows b s [] t w = s ≡ t

@@ -1,5 +1,6 @@
--- Laws of a session's next line: each way out of `advance` and of the functions under it, as the definition has it.
-use Prim.Native.Nat.{ℕ, suc, _+_, _/_, _<_, _≤_}
+-- Laws of a session's next line: each way out of `event_at`, of `advance` and of the functions under it, as the
+-- definition has it.
+use Prim.Native.Nat.{ℕ, suc, _+_, _/_, _%_, _<_, _≤_}
 use native.Mathlib.Omega.{arith}
 use mathlib.Core.Path.{_≡_, sym, ap, _∙_}
 use mathlib.Core.Bool.{Bool, true, false, cond}
@@ -8,21 +9,50 @@ use lib.Dec.{leb}
 use lib.ListN.{length}
 use borrow.Author.Tests.{le-leb, lt-leb, lt-ltb, le-ltb}
 use Rattle.refusals.specs.declared.Refusal.{Refusal}
-use Rattle.number.specs.declared.Number.{Number}
-use Rattle.number.specs.declared.Number.the-variants.{Read, Refused}
-use Rattle.refusals.specs.Outcomes.{refused, found}
+use Rattle.refusals.specs.Outcomes.{Outcome, Found, found, refused}
 use Rattle.refusals.specs.Refusals.{noSuchName}
+use Rattle.number.specs.declared.Number.{Number}
+use Rattle.number.specs.declared.Number.the-variants as number-was
 use Rattle.number.specs.Numbers.{ReadsNumber}
 use Rattle.board_reader.specs.Editions.{currentEdition}
 use Rattle.board_reader.specs.Reading.{longestInput}
 use Rattle.board_reader.proofs.FieldLaws.{wanted-refused, wanted-fails, wanted-passes, told-found, told-refused}
-use Rattle.session.specs.declared.Stage.the-variants as stage
-use Rattle.session.specs.declared.Session as code-session
+use Rattle.events.specs.declared.Event.{Event}
 use Rattle.events.specs.declared.Shown as code
+use Rattle.events.specs.Events.{Shown, eventOf, eventAt, ranLine, eventLine, toldShown}
+use Rattle.session.specs.declared.Stage.the-variants as stage
+use Rattle.session.specs.declared.Ahead as code-ahead
+use Rattle.session.specs.declared.event.EventRead.{EventRead}
+use Rattle.session.specs.declared.event.EventRead.the-variants as event-was
 use Rattle.session.specs.declared.next.Coming.the-variants as comes
-use Rattle.events.specs.Events.{Shown, eventAt, ranLine, eventLine, toldShown}
-use Rattle.session.specs.Carried.{Session, Coming, no-line, following, goesOn, closes, eventOf, nextEvent, nextAt}
-use Rattle.session.specs.Carried.{nextOf, toldSession, toldNext}
+use Rattle.session.specs.Sessions.{Head}
+use Rattle.session.specs.EventReading.{toldEventRead}
+use Rattle.session.specs.Carried.{Ahead, Coming, no-line, following, goesOn, closes, makes, nextEvent, nextAt}
+use Rattle.session.specs.Carried.{nextOf, toldAhead, toldNext}
+
+-- ---- reading an event: x is what reading its number came to
+
+module _ (n : ℕ) (s : List ℕ) (at : ℕ) (x : Number) (read : ReadsNumber s at x) where
+  pub event-at-refused : (q : Refusal) → x ≡ number-was.Refused q
+      → refused (q .number) (q .place) ≡ eventAt currentEdition n s at
+  unfolding eventAt
+  event-at-refused q is = rw (wanted-refused currentEdition _ noSuchName s at _ _ (told-refused _ x q is read))
+
+  pub event-at-no-name : (v next : ℕ) → x ≡ number-was.Read v next → n ≤ v / 2
+      → refused noSuchName at ≡ eventAt currentEdition n s at
+  unfolding eventAt
+  event-at-no-name v next is beyond =
+      let number = told-found _ x v next is read in
+      rw (wanted-fails currentEdition _ noSuchName s at v next number (le-ltb (v / 2) n beyond))
+
+  pub event-at-found : (v next : ℕ) → x ≡ number-was.Read v next → v / 2 < n
+      → found (eventOf v) next ≡ eventAt currentEdition n s at
+  unfolding eventAt
+  event-at-found v next is below =
+      let number = told-found _ x v next is read in
+      rw (wanted-passes currentEdition _ noSuchName s at v next number (lt-ltb (v / 2) n below))
+
+-- ---- the number of the next event
 
 module _ (e : ℕ) where
   pub following-on : e ≤ longestInput → e + 1 ≡ following e
@@ -41,73 +71,60 @@ following-most e = most (leb e longestInput)
     most true = omega arith
     most false = omega arith
 
-pub goes-on-told : (z : code-session.Session) (x : code.Shown) (at e : ℕ) → e ≡ following (z .event)
+pub goes-on-told : (x : code.Shown) (e at n : ℕ) → n ≡ following e
     → toldNext
     (record {
-      session = record {
-        board = z .board;
-        allowance = z .allowance;
-        state = x .state;
-        event = e;
-        place = at;
-        stage = stage.Events;
-      };
+      ahead = record { state = x .state; event = n; place = at; stage = stage.Events };
       coming = comes.Line (x .line);
-    }) ≡ goesOn (toldSession z) (toldShown x) at
-goes-on-told z x at e is = rw is
+    }) ≡ goesOn e (toldShown x) at
+goes-on-told x e at n is = rw is
 
-module _ (z : Session) (s : List ℕ) where
-  pub event-none : length s ≤ z .place → _≡_ {A = Session × Coming} (z, no-line) (nextEvent z s)
+-- ---- the next event
+
+module _ (h : Head) (a : Ahead) (s : List ℕ) where
+  pub event-none : length s ≤ a .place → _≡_ {A = Ahead × Coming} (a, no-line) (nextEvent currentEdition h a s)
   unfolding nextEvent
-  event-none done = rw (le-leb (length s) (z .place) done)
+  event-none done = rw (le-leb (length s) (a .place) done)
 
-  -- an event is there, and x is what reading its number came to
-  module _ (x : Number) (there : z .place < length s) (read : ReadsNumber s (z .place) x) where
-    event-by : eventOf z (eventAt (z .board) s (z .place)) ≡ nextEvent z s
+  -- an event is there, and x is what reading it came to
+  module _ (x : EventRead) (there : a .place < length s)
+      (read : toldEventRead x ≡ eventAt currentEdition (h .board .counts .buttons) s (a .place)) where
+    event-by : makes h a (toldEventRead x) ≡ nextEvent currentEdition h a s
     unfolding nextEvent
-    event-by = rw (lt-leb (length s) (z .place) there)
+    event-by = rw (lt-leb (length s) (a .place) there, read)
 
-    pub event-refused : (q : Refusal) → x ≡ Refused q → closes z (q .number) (q .place) ≡ nextEvent z s
-    unfolding eventOf eventAt
-    event-refused q is =
-        let bad : eventAt (z .board) s (z .place) ≡ refused (q .number) (q .place) =
-        wanted-refused currentEdition _ noSuchName s (z .place) _ _ (told-refused _ x q is read) in
-        ap (eventOf z) (sym bad) ∙ event-by
+    pub event-refused : (q : Refusal) → x ≡ event-was.Refused q
+        → closes a (q .number) (q .place) ≡ nextEvent currentEdition h a s
+    unfolding makes
+    event-refused q is = ap (λ (y : EventRead). makes h a (toldEventRead y)) (sym is) ∙ event-by
 
-    pub event-no-name : (v next : ℕ) → x ≡ Read v next → z .board .counts .buttons ≤ v / 2
-        → closes z noSuchName (z .place) ≡ nextEvent z s
-    unfolding eventOf eventAt
-    event-no-name v next is beyond =
-        let bad : eventAt (z .board) s (z .place) ≡ refused noSuchName (z .place) =
-        wanted-fails currentEdition _ noSuchName s (z .place) v next (told-found _ x v next is read)
-        (le-ltb (v / 2) (z .board .counts .buttons) beyond) in
-        ap (eventOf z) (sym bad) ∙ event-by
+    pub event-made : (v : Event) (next : ℕ) (y : Shown) → x ≡ event-was.Read v next
+        → y ≡ eventLine (h .board) (a .event) (a .state) v (h .allowance)
+        → goesOn (a .event) y next ≡ nextEvent currentEdition h a s
+    unfolding makes
+    event-made v next y is told =
+        ap (λ (z : Shown). goesOn (a .event) z next) told
+        ∙ ap (λ (z : EventRead). makes h a (toldEventRead z)) (sym is) ∙ event-by
 
-    pub event-made : (v next : ℕ) (y : Shown) → x ≡ Read v next → v / 2 < z .board .counts .buttons
-        → y ≡ eventLine (z .board) (z .event) (z .state) v (z .allowance) → goesOn z y next ≡ nextEvent z s
-    unfolding eventOf eventAt
-    event-made v next y is below told =
-        let ok : eventAt (z .board) s (z .place) ≡ found v next =
-        wanted-passes currentEdition _ noSuchName s (z .place) v next (told-found _ x v next is read)
-        (lt-ltb (v / 2) (z .board .counts .buttons) below) in
-        ap (λ (x : Shown). goesOn z x next) told ∙ ap (eventOf z) (sym ok) ∙ event-by
+-- ---- the next line, by the stage
 
--- the next line, by the stage
-module _ (z : code-session.Session) (s : List ℕ) where
-  pub next-first : (y : Shown) → z .stage ≡ stage.First → y ≡ ranLine (z .board) (z .event) (z .state) (z .allowance)
-      → goesOn (toldSession z) y (z .place) ≡ nextOf (toldSession z) s
+module _ (h : Head) (a : code-ahead.Ahead) (s : List ℕ) where
+  pub next-first : (y : Shown) → a .stage ≡ stage.First → y ≡ ranLine (h .board) (a .event) (a .state) (h .allowance)
+      → goesOn (a .event) y (a .place) ≡ nextOf currentEdition h (toldAhead a) s
   unfolding nextOf nextAt
   next-first y is told = rw (told, is)
 
-  pub next-events : z .stage ≡ stage.Events → nextEvent (toldSession z) s ≡ nextOf (toldSession z) s
+  pub next-events : a .stage ≡ stage.Events
+      → nextEvent currentEdition h (toldAhead a) s ≡ nextOf currentEdition h (toldAhead a) s
   unfolding nextOf nextAt
   next-events is = rw is
 
-  pub next-refusing : (q : Refusal) → z .stage ≡ stage.Refused q
-      → closes (toldSession z) (q .number) (q .place) ≡ nextOf (toldSession z) s
+  pub next-refusing : (q : Refusal) → a .stage ≡ stage.Refused q
+      → closes (toldAhead a) (q .number) (q .place) ≡ nextOf currentEdition h (toldAhead a) s
   unfolding nextOf nextAt
   next-refusing q is = rw is
 
-  pub next-over : z .stage ≡ stage.Over → _≡_ {A = Session × Coming} (toldSession z, no-line) (nextOf (toldSession z) s)
+  pub next-over : a .stage ≡ stage.Over
+      → _≡_ {A = Ahead × Coming} (toldAhead a, no-line) (nextOf currentEdition h (toldAhead a) s)
   unfolding nextOf nextAt
   next-over is = rw is

@@ -12,17 +12,18 @@ use Rattle.bits.proofs.BoolLaws.{by-test}
 use Rattle.refusals.specs.Outcomes.{given}
 use Rattle.refusals.specs.Refusals.{bufferTooShort}
 use Rattle.refusals.proofs.OutcomeLaws.{refused-never}
+use Rattle.board_reader.specs.Editions.{currentEdition}
 use Rattle.lines.specs.Lines.{Line, lineText, longestLine}
 use Rattle.lines.proofs.LineLaws.{line-length-most}
 use Rattle.session.specs.declared.Session as code-session
 use Rattle.session.specs.declared.Handed as code-handed
 use Rattle.session.specs.declared.HandOut.the-variants as said
-use Rattle.session.specs.Carried.{Session, Coming, line, no-line, nextOf, toldSession}
-use Rattle.session.specs.HandingOut.{HandOut, written, Handed, handedBy, toldHandOut, NextLine}
-use Rattle.session.specs.HandingOut.{toldHanded}
+use Rattle.session.specs.Carried.{Ahead, headOf, Coming, line, no-line, nextIn, toldAhead, toldSession}
+use Rattle.session.specs.HandingOut.{HandOut, written, HandedAhead, Handed, carrying, handedBy, lineHanded}
+use Rattle.session.specs.HandingOut.{nextLine, toldHandOut, toldHanded, NextLine}
 use Rattle.session.proofs.ToCome.{Advances}
-use Rattle.session.proofs.AheadLaws.{next-less}
-use Rattle.session.proofs.NextLineLaws.{next-line-short, next-line-room}
+use Rattle.session.proofs.ComingLaws.{next-less}
+use Rattle.session.proofs.NextLineLaws.{line-handed-short, line-handed-room}
 use Rattle.refusals.proofs.Told.{told-injective}
 use Rattle.session.proofs.ToldLaws.{hand-out-told}
 
@@ -34,31 +35,40 @@ line-bytes e = cc
 
 module _ (z : code-session.Session) (s out out′ : List ℕ) (r : code-handed.Handed)
     (called : NextLine z s out r out′) where
+  -- what is handed on
+  call-hands : {x : HandedAhead} → lineHanded (headOf (toldSession z)) (toldAhead (z .ahead)) s out ≡ x
+      → toldHanded r out′ ≡ carrying (toldSession z) x
+  unfolding nextLine
+  call-hands is = called ∙ ap (carrying (toldSession z)) is
+
   -- a call that is not refused has room
   pub call-room : (a : HandOut) → toldHandOut (r .answer) ≡ given a → longestLine ≤ length out
   call-room a is =
       by-test (leb longestLine (length out)) (leb-true longestLine (length out))
       (λ short.
-      let refusing = next-line-short (toldSession z) s out (leb-false longestLine (length out) short) ∙ sym called in
-      absurd (refused-never bufferTooShort 0 a (ap (λ (h : Handed). h .answer) refusing ∙ is)))
+      let refusing =
+      call-hands (sym (line-handed-short _ (toldAhead (z .ahead)) s out (leb-false longestLine (length out) short))) in
+      absurd (refused-never bufferTooShort 0 a (sym (ap (λ (h : Handed). h .answer) refusing) ∙ is)))
 
-  module _ (room : longestLine ≤ length out) (y : Session) where
+  module _ (room : longestLine ≤ length out) (y : Ahead) where
     -- the answer is what comes next
-    next-by : (c : Coming) → nextOf (toldSession z) s ≡ (y, c) → toldHanded r out′ ≡ handedBy (y, c) out
+    next-by : (c : Coming) → nextIn z s ≡ (y, c) → toldHanded r out′ ≡ carrying (toldSession z) (handedBy (y, c) out)
     next-by c is =
-        called ∙ sym (next-line-room (toldSession z) s out room) ∙ ap (λ (x : Session × Coming). handedBy x out) is
+        call-hands (
+        sym (line-handed-room _ (toldAhead (z .ahead)) s out room)
+        ∙ ap (λ (x : Ahead × Coming). handedBy x out) is)
 
-    pub call-over : nextOf (toldSession z) s ≡ (y, no-line) → r .answer ≡ said.Over
+    pub call-over : nextIn z s ≡ (y, no-line) → r .answer ≡ said.Over
     unfolding handedBy
     call-over is =
         told-injective toldHandOut hand-out-told (r .answer) said.Over
         (ap (λ (h : Handed). h .answer) (next-by no-line is))
 
-    pub call-lent : nextOf (toldSession z) s ≡ (y, no-line) → out′ ≡ out
+    pub call-lent : nextIn z s ≡ (y, no-line) → out′ ≡ out
     unfolding handedBy
     call-lent is = ap (λ (h : Handed). h .out) (next-by no-line is)
 
-    pub call-line : (l : Line) → nextOf (toldSession z) s ≡ (y, line l)
+    pub call-line : (l : Line) → nextIn z s ≡ (y, line l)
         → (r .answer ≡ said.Written (length (lineText l))) × (take (length (lineText l)) out′ ≡ lineText l)
     unfolding handedBy
     call-line l is =
@@ -70,7 +80,7 @@ module _ (z : code-session.Session) (s out out′ : List ℕ) (r : code-handed.H
         )
 
     -- the buffer stays behind the line
-    pub call-stays : (l : Line) → nextOf (toldSession z) s ≡ (y, line l)
+    pub call-stays : (l : Line) → nextIn z s ≡ (y, line l)
         → drop (length (lineText l)) out′ ≡ drop (length (lineText l)) out
     unfolding handedBy
     call-stays l is =
@@ -80,11 +90,11 @@ module _ (z : code-session.Session) (s out out′ : List ℕ) (r : code-handed.H
   -- what a call that hands out a line says of the session
   pub record Came (n : ℕ) : Type 0 where
     pub its-line : Line
-    pub next : nextOf (toldSession z) s ≡ (toldSession (r .session), line its-line)
+    pub next : nextIn z s ≡ (toldAhead (r .session .ahead), line its-line)
     pub text : take n out′ ≡ lineText its-line
     pub fits : n ≤ length out
 
-  came-by : (n : ℕ) → r .answer ≡ said.Written n → (x : Session × Coming) → nextOf (toldSession z) s ≡ x → Came n
+  came-by : (n : ℕ) → r .answer ≡ said.Written n → (x : Ahead × Coming) → nextIn z s ≡ x → Came n
   unfolding handedBy
   came-by n said-line (y, no-line) is =
       let room = call-room (written n) (ap toldHandOut said-line) in
@@ -93,19 +103,26 @@ module _ (z : code-session.Session) (s out out′ : List ℕ) (r : code-handed.H
       let room = call-room (written n) (ap toldHandOut said-line) in
       let handed = call-line room y l is in
       let long = line-bytes (sym (handed .0) ∙ said-line) in
-      let after = ap (λ (h : Handed). h .session) (next-by room y (line l) is) in
+      let after = ap (λ (h : Handed). h .session .ahead) (next-by room y (line l) is) in
       record {
         its-line = l;
-        next = is ∙ ap {B = Session × Coming} (λ x. (x, line l)) (sym after);
+        next = is ∙ ap {B = Ahead × Coming} (λ x. (x, line l)) (sym after);
         text = ap (λ (k : ℕ). take k out′) (sym long) ∙ handed .1;
         fits = omega (arith, long, line-length-most l, room);
       }
 
   pub came : (n : ℕ) → r .answer ≡ said.Written n → Came n
-  came n is = came-by n is (nextOf (toldSession z) s) refl
+  came n is = came-by n is (nextIn z s) refl
+
+  -- the head stays
+  pub call-head : headOf (toldSession (r .session)) ≡ headOf (toldSession z)
+  unfolding nextLine
+  call-head = ap (λ (h : Handed). headOf (h .session)) called
 
   -- a line that was handed out fits the buffer, and leaves less to come
   pub call-advances : Advances z s (length out) r
   call-advances n is =
-      let c = came n is in
-      (c .fits, next-less (toldSession z) (toldSession (r .session)) s (c .its-line) (c .next))
+      let c = came n is in (
+        c .fits,
+        next-less currentEdition _ (toldAhead (z .ahead)) (toldAhead (r .session .ahead)) s (c .its-line) (c .next),
+      )

@@ -8,24 +8,26 @@ use mathlib.Core.List.{List, [], _∷_, _++_, append-nil, append-assoc}
 use lib.Dec.{leb}
 use lib.ListN.{length, take, drop, length-append, length-drop, take-append-drop}
 use lib.Seq.{take-all, drop-length, drop-drop, take-at, drop-at}
-use borrow.Author.Tests.{le-leb, lt-leb, leb-true, leb-false}
+use borrow.Author.Tests.{leb-true, leb-false}
 use borrow.Rule.Slice.PartMut.{midOf, putMid}
 use denote.Enum.Declared.{tagOf}
 use types.Run.{OneOf}
 use Rattle.bits.proofs.BoolLaws.{by-test}
 use Rattle.refusals.specs.Outcomes.{Outcome, given, refused}
 use Rattle.refusals.specs.Refusals.{bufferTooShort}
+use Rattle.board_reader.specs.Editions.{currentEdition}
 use Rattle.lines.specs.Lines.{Line, lineText, longestLine}
-use Rattle.lines.proofs.LineLaws.{line-length-some, line-length-most}
-use Rattle.session.specs.declared.Handed as code-handed
+use Rattle.lines.proofs.LineLaws.{line-length-some, line-length-most, line-room, line-short}
+use Rattle.session.specs.declared.Session as code-session
+use Rattle.session.specs.declared.fill.HandedAhead as code-ahead
 use Rattle.session.specs.declared.HandOut as code-handout
 use Rattle.session.specs.declared.HandOut.the-variants as said
-use Rattle.session.specs.Sessions.{lineTexts, printed}
-use Rattle.session.specs.Carried.{Session, Coming, line, no-line, nextOf, toldSession}
-use Rattle.session.specs.HandingOut.{HandOut, written, nothing, Handed, handedBy, nextLine, toldHandOut}
-use Rattle.session.specs.HandingOut.{toldHanded}
-use Rattle.session.specs.Filling.{fitsOn, fitting, filledBy, nextLines, behind, summed}
-use Rattle.session.proofs.NextLineLaws.{next-line-short, next-line-room}
+use Rattle.session.specs.Sessions.{Head, lineTexts, printed}
+use Rattle.session.specs.Carried.{Ahead, headWith, Coming, line, no-line, nextOf, toldAhead, toldSession}
+use Rattle.session.specs.HandingOut.{HandOut, written, nothing, HandedAhead, carrying, handedBy, lineHanded}
+use Rattle.session.specs.HandingOut.{toldHandOut, toldHandedAhead, toldHanded}
+use Rattle.session.specs.Filling.{fitsOn, fitting, filledBy, linesHanded, nextLines, behind, summed}
+use Rattle.session.proofs.NextLineLaws.{line-handed-short, line-handed-room}
 use Rattle.session.proofs.HandOut.{the-type}
 use Rattle.refusals.proofs.Told.{told-injective}
 use Rattle.session.proofs.ToldLaws.{hand-out-told}
@@ -47,12 +49,13 @@ module _ (out : List ℕ) (at : ℕ) where
       ap (λ (n : ℕ). drop n (drop at out)) (sym part-rest) ∙ drop-length (drop at out) in
       ap (λ (x : List ℕ). take at out ++ (o ++ x)) none ∙ ap (λ (x : List ℕ). take at out ++ x) (append-nil o)
 
-  pub line-at-by : (z : Session) (s o out′ : List ℕ) (r : code-handed.Handed)
-      → toldHanded r o ≡ nextLine z s (midOf at (length out - at) out) → out′ ≡ putMid at (length out - at) out o
-      → toldHanded r out′ ≡ behind (take at out) (nextLine z s (drop at out))
-  line-at-by z s o out′ r called back =
-      let lent = called ∙ ap (nextLine z s) part-lent in
-      ap (toldHanded r) (back ∙ part-back o) ∙ ap (behind (take at out)) lent
+  pub line-at-by : (h : Head) (a : Ahead) (s o out′ : List ℕ) (r : code-ahead.HandedAhead)
+      → toldHandedAhead r o ≡ lineHanded h a s (midOf at (length out - at) out)
+      → out′ ≡ putMid at (length out - at) out o
+      → toldHandedAhead r out′ ≡ behind (take at out) (lineHanded h a s (drop at out))
+  line-at-by h a s o out′ r called back =
+      let lent = called ∙ ap (lineHanded h a s) part-lent in
+      ap (toldHandedAhead r) (back ∙ part-back o) ∙ ap (behind (take at out)) lent
 
 -- ---- the answer
 
@@ -62,63 +65,65 @@ summed-some (suc n) o some = refl
 
 -- ---- the lines handed out so far
 
--- `used` bytes of the buffer hold lines, and z comes after them; the rest of the buffer is as lent
-pub record FilledTo (z₀ : Session) (s out₀ : List ℕ) (z : Session) (out : List ℕ) (used : ℕ) : Type 0 where
+-- `used` bytes of the buffer hold lines, and a is ahead after them; the rest of the buffer is as lent
+pub record FilledTo (h : Head) (a₀ : Ahead) (s out₀ : List ℕ) (a : Ahead) (out : List ℕ) (used : ℕ) : Type 0 where
   pub lines : List Line
-  pub rest : Session × List Line
+  pub rest : Ahead × List Line
   pub most : ℕ
   pub enough : length out₀ - used ≤ most
-  pub left : fitting most z s (length out₀ - used) ≡ rest
-  pub all : fitting (length out₀) z₀ s (length out₀) ≡ (rest .0, lines ++ rest .1)
+  pub left : fitting most h a s (length out₀ - used) ≡ rest
+  pub all : fitting (length out₀) h a₀ s (length out₀) ≡ (rest .0, lines ++ rest .1)
   pub bytes : used ≡ length (bytesOf lines)
   pub text : out ≡ bytesOf lines ++ drop used out₀
   pub within : used ≤ length out₀
 
-pub filled-none : (z : Session) (s out : List ℕ) → FilledTo z s out z out 0
+pub filled-none : (h : Head) (a : Ahead) (s out : List ℕ) → FilledTo h a s out a out 0
 unfolding lineTexts printed
-filled-none z s out =
+filled-none h a s out =
     record {
       lines = [];
-      rest = fitting (length out) z s (length out);
+      rest = fitting (length out) h a s (length out);
       most = length out;
       enough = omega arith;
-      left = ap (fitting (length out) z s) (omega arith);
+      left = ap (fitting (length out) h a s) (omega arith);
       all = refl;
       bytes = refl;
       text = refl;
       within = omega arith;
     }
 
--- what a call of `next_line` on the buffer p does
-data Ways (z : Session) (s p : List ℕ) : Type 0 where
+-- what a call of `hand_line` on the buffer p does
+data Ways (h : Head) (a : Ahead) (s p : List ℕ) : Type 0 where
   no-room : length p < longestLine
-      → nextLine z s p ≡ record { session = z; answer = refused bufferTooShort 0; out = p } → Ways z s p
-  no-more : (y : Session) → longestLine ≤ length p → nextOf z s ≡ (y, no-line)
-      → nextLine z s p ≡ record { session = y; answer = given nothing; out = p } → Ways z s p
-  one-line : (y : Session) (l : Line) → longestLine ≤ length p → nextOf z s ≡ (y, line l)
-      → nextLine z s p
+      → lineHanded h a s p ≡ record { ahead = a; answer = refused bufferTooShort 0; out = p } → Ways h a s p
+  no-more : (y : Ahead) → longestLine ≤ length p → nextOf currentEdition h a s ≡ (y, no-line)
+      → lineHanded h a s p ≡ record { ahead = y; answer = given nothing; out = p } → Ways h a s p
+  one-line : (y : Ahead) (l : Line) → longestLine ≤ length p → nextOf currentEdition h a s ≡ (y, line l)
+      → lineHanded h a s p
       ≡ record {
-        session = y;
+        ahead = y;
         answer = given (written (length (lineText l)));
         out = lineText l ++ drop (length (lineText l)) p;
       }
-      → Ways z s p
+      → Ways h a s p
 
-module _ (z : Session) (s p : List ℕ) where
-  handed-by : longestLine ≤ length p → (x : Session × Coming) → nextOf z s ≡ x → nextLine z s p ≡ handedBy x p
-  handed-by room x is = sym (next-line-room z s p room) ∙ ap (λ (y : Session × Coming). handedBy y p) is
+module _ (h : Head) (a : Ahead) (s p : List ℕ) where
+  handed-by : longestLine ≤ length p → (x : Ahead × Coming) → nextOf currentEdition h a s ≡ x
+      → lineHanded h a s p ≡ handedBy x p
+  handed-by room x is = sym (line-handed-room h a s p room) ∙ ap (λ (y : Ahead × Coming). handedBy y p) is
 
-  room-ways : longestLine ≤ length p → (x : Session × Coming) → nextOf z s ≡ x → Ways z s p
+  room-ways : longestLine ≤ length p → (x : Ahead × Coming) → nextOf currentEdition h a s ≡ x → Ways h a s p
   unfolding handedBy
   room-ways room (y, no-line) is = no-more y room is (handed-by room _ is)
   room-ways room (y, line l) is = one-line y l room is (handed-by room _ is)
 
-  ways : Ways z s p
+  ways : Ways h a s p
   ways =
-      by-test (leb longestLine (length p)) (λ room. room-ways (leb-true longestLine (length p) room) (nextOf z s) refl)
+      by-test (leb longestLine (length p))
+      (λ room. room-ways (leb-true longestLine (length p) room) (nextOf currentEdition h a s) refl)
       (λ short.
       let less = leb-false longestLine (length p) short in
-      no-room less (sym (next-line-short z s p less)))
+      no-room less (sym (line-handed-short h a s p less)))
 
 pub line-is : {m n : ℕ} → _≡_ {A = Outcome HandOut} (given (written m)) (given (written n)) → m ≡ n
 line-is e = cc
@@ -135,51 +140,51 @@ line-not-nothing e = let z : _≡_ {A = ℕ} 0 1 = cc in omega arith
 abbrev Why : ℕ → Outcome HandOut → Type 0
 Why n o = ((longestLine ≤ n) × (o ≡ given nothing)) ⊎ ((n < longestLine) × (o ≡ refused bufferTooShort 0))
 
-module _ (z₀ : Session) (s out₀ : List ℕ) where
+module _ (h : Head) (a₀ : Ahead) (s out₀ : List ℕ) where
   pub lines-room : longestLine ≤ length out₀
-      → filledBy (fitting (length out₀) z₀ s (length out₀)) out₀ ≡ nextLines z₀ s out₀
-  unfolding nextLines
-  lines-room room = rw (le-leb longestLine (length out₀) room)
+      → filledBy (fitting (length out₀) h a₀ s (length out₀)) out₀ ≡ linesHanded h a₀ s out₀
+  unfolding linesHanded
+  lines-room room = rw (line-room out₀ room)
 
   pub lines-short : length out₀ < longestLine
-      → record { session = z₀; answer = refused bufferTooShort 0; out = out₀ } ≡ nextLines z₀ s out₀
-  unfolding nextLines
-  lines-short short = rw (lt-leb longestLine (length out₀) short)
+      → record { ahead = a₀; answer = refused bufferTooShort 0; out = out₀ } ≡ linesHanded h a₀ s out₀
+  unfolding linesHanded
+  lines-short short = rw (line-short out₀ short)
 
-  module _ (y : Session) (o : Outcome HandOut) where
+  module _ (y : Ahead) (o : Outcome HandOut) where
     -- where a line fits, the buffer has room
-    some-room : (l : Line) (ls : List Line) → fitting (length out₀) z₀ s (length out₀) ≡ (y, l ∷ ls)
+    some-room : (l : Line) (ls : List Line) → fitting (length out₀) h a₀ s (length out₀) ≡ (y, l ∷ ls)
         → longestLine ≤ length out₀
     some-room l ls fits =
         by-test (leb longestLine (length out₀)) (leb-true longestLine (length out₀))
         (λ short.
-        let none = fitting-short z₀ s (length out₀) (length out₀) (leb-false longestLine (length out₀) short) in
-        absurd (omega (arith, ap (λ (x : Session × List Line). length (x .1)) (sym none ∙ fits))))
+        let none = fitting-short h a₀ s (length out₀) (length out₀) (leb-false longestLine (length out₀) short) in
+        absurd (omega (arith, ap (λ (x : Ahead × List Line). length (x .1)) (sym none ∙ fits))))
 
     -- the lines ls are those that fit, and o says why no more came
-    lines-end : (ls : List Line) → fitting (length out₀) z₀ s (length out₀) ≡ (y, ls)
+    lines-end : (ls : List Line) → fitting (length out₀) h a₀ s (length out₀) ≡ (y, ls)
         → Why (length out₀ - length (bytesOf ls)) o
         → record {
-          session = y;
+          ahead = y;
           answer = summed (length (bytesOf ls)) o;
           out = bytesOf ls ++ drop (length (bytesOf ls)) out₀;
-        } ≡ nextLines z₀ s out₀
+        } ≡ linesHanded h a₀ s out₀
     unfolding lineTexts printed filledBy
     lines-end [] fits (inl (room, is)) =
-        rw is (ap (λ (x : Session × List Line). filledBy x out₀) (sym fits) ∙ lines-room (omega (arith, room)))
+        rw is (ap (λ (x : Ahead × List Line). filledBy x out₀) (sym fits) ∙ lines-room (omega (arith, room)))
     lines-end [] fits (inr (short, is)) =
         let less : length out₀ < longestLine = omega (arith, short) in
-        let same : y ≡ z₀ =
-        ap (λ (x : Session × List Line). x .0) (sym fits ∙ fitting-short z₀ s (length out₀) (length out₀) less) in
+        let same : y ≡ a₀ =
+        ap (λ (x : Ahead × List Line). x .0) (sym fits ∙ fitting-short h a₀ s (length out₀) (length out₀) less) in
         rw (is, same) (lines-short less)
     lines-end (l ∷ ls) fits why =
         let some : length (lineText l ++ bytesOf ls) ≡ 0 → ⊥ =
         λ none. omega (arith, length-append (lineText l) (bytesOf ls), line-length-some l, none) in
         rw (← summed-some (length (lineText l ++ bytesOf ls)) o some)
-        (ap (λ (x : Session × List Line). filledBy x out₀) (sym fits) ∙ lines-room (some-room l ls fits))
+        (ap (λ (x : Ahead × List Line). filledBy x out₀) (sym fits) ∙ lines-room (some-room l ls fits))
 
-module _ (z₀ : Session) (s out₀ : List ℕ) (z : Session) (out : List ℕ) (used : ℕ)
-    (f : FilledTo z₀ s out₀ z out used) where
+module _ (h : Head) (a₀ : Ahead) (s out₀ : List ℕ) (a : Ahead) (out : List ℕ) (used : ℕ)
+    (f : FilledTo h a₀ s out₀ a out used) where
   -- the first bytes are the lines, and those behind them as lent
   lines-first : take used out ≡ bytesOf (f .lines)
   lines-first =
@@ -203,15 +208,16 @@ module _ (z₀ : Session) (s out₀ : List ℕ) (z : Session) (out : List ℕ) (
   room-left = ap length rest-lent ∙ length-drop used out₀
 
   -- the lines that fit in what is left, where x comes next
-  left-next : longestLine ≤ length (drop used out) → (x : Session × Coming) → nextOf z s ≡ x
-      → f .rest ≡ fitsOn x (λ y l. fitting (f .most - 1) y s (length out₀ - used - length (lineText l)))
+  left-next : longestLine ≤ length (drop used out) → (x : Ahead × Coming) → nextOf currentEdition h a s ≡ x
+      → f .rest ≡ fitsOn x (λ y l. fitting (f .most - 1) h y s (length out₀ - used - length (lineText l)))
   left-next room x is =
       sym (f .left)
-      ∙ fitting-next z s (length out₀ - used) (f .most) (omega (arith, room, room-left)) (f .enough) x is
+      ∙ fitting-next h a s (length out₀ - used) (f .most) (omega (arith, room, room-left)) (f .enough) x is
 
   -- ---- a line is added
 
-  module _ (y : Session) (l : Line) (room : longestLine ≤ length (drop used out)) (is : nextOf z s ≡ (y, line l)) where
+  module _ (y : Ahead) (l : Line) (room : longestLine ≤ length (drop used out))
+      (is : nextOf currentEdition h a s ≡ (y, line l)) where
     bytes-on : bytesOf (f .lines ++ (l ∷ [])) ≡ bytesOf (f .lines) ++ lineText l
     bytes-on = bytes-append (f .lines) (l ∷ []) ∙ ap (λ (x : List ℕ). bytesOf (f .lines) ++ x) (bytes-one l)
 
@@ -221,23 +227,23 @@ module _ (z₀ : Session) (s out₀ : List ℕ) (z : Session) (out : List ℕ) (
         rw (lines-first, rest-lent, drop-drop (length (lineText l)) used out₀, bytes-on)
         (sym (append-assoc (bytesOf (f .lines)) (lineText l) (drop (used + length (lineText l)) out₀)))
 
-    filled-line : FilledTo z₀ s out₀ y (take used out ++ (lineText l ++ drop (length (lineText l)) (drop used out)))
+    filled-line : FilledTo h a₀ s out₀ y (take used out ++ (lineText l ++ drop (length (lineText l)) (drop used out)))
         (used + length (lineText l))
     filled-line =
         let less : length out₀ - used - length (lineText l) ≡ length out₀ - (used + length (lineText l)) =
         omega arith in
-        let x = fitting (f .most - 1) y s (length out₀ - used - length (lineText l)) in
+        let x = fitting (f .most - 1) h y s (length out₀ - used - length (lineText l)) in
         record {
           lines = f .lines ++ (l ∷ []);
           rest = x;
           most = f .most - 1;
           enough = omega (arith, f .enough, line-length-some l);
-          left = ap (fitting (f .most - 1) y s) (sym less);
+          left = ap (fitting (f .most - 1) h y s) (sym less);
           all =
               f .all
-              ∙ ap {B = Session × List Line} (λ (w : Session × List Line). (w .0, f .lines ++ w .1))
+              ∙ ap {B = Ahead × List Line} (λ (w : Ahead × List Line). (w .0, f .lines ++ w .1))
               (left-next room (y, line l) is)
-              ∙ ap {B = Session × List Line} (λ (ls : List Line). (x .0, ls))
+              ∙ ap {B = Ahead × List Line} (λ (ls : List Line). (x .0, ls))
               (sym (append-assoc (f .lines) (l ∷ []) (x .1)));
           bytes =
               omega (arith, f .bytes, ap length bytes-on, length-append (bytesOf (f .lines)) (lineText l));
@@ -247,76 +253,78 @@ module _ (z₀ : Session) (s out₀ : List ℕ) (z : Session) (out : List ℕ) (
 
   -- ---- what a call of `line_at` comes to
 
-  module _ (r : code-handed.Handed) (out′ : List ℕ)
-      (called : toldHanded r out′ ≡ behind (take used out) (nextLine z s (drop used out))) where
-    came-to : (h : Handed) → nextLine z s (drop used out) ≡ h → toldHanded r out′ ≡ behind (take used out) h
-    came-to h is = called ∙ ap (behind (take used out)) is
+  module _ (r : code-ahead.HandedAhead) (out′ : List ℕ)
+      (called : toldHandedAhead r out′ ≡ behind (take used out) (lineHanded h a s (drop used out))) where
+    came-to : (x : HandedAhead) → lineHanded h a s (drop used out) ≡ x
+        → toldHandedAhead r out′ ≡ behind (take used out) x
+    came-to x is = called ∙ ap (behind (take used out)) is
 
     pub record Goes (n : ℕ) : Type 0 where
       pub grows : 0 < n
-      pub filled-on : FilledTo z₀ s out₀ (toldSession (r .session)) out′ (used + n)
+      pub filled-on : FilledTo h a₀ s out₀ (toldAhead (r .ahead)) out′ (used + n)
 
-    goes-by : (n : ℕ) → r .answer ≡ said.Written n → Ways z s (drop used out) → Goes n
+    goes-by : (n : ℕ) → r .answer ≡ said.Written n → Ways h a s (drop used out) → Goes n
     goes-by n is (no-room short e) =
-        absurd (line-not-refused (ap toldHandOut (sym is) ∙ ap (λ (h : Handed). h .answer) (came-to _ e)))
+        absurd (line-not-refused (ap toldHandOut (sym is) ∙ ap (λ (x : HandedAhead). x .answer) (came-to _ e)))
     goes-by n is (no-more y room none e) =
-        absurd (line-not-nothing (ap toldHandOut (sym is) ∙ ap (λ (h : Handed). h .answer) (came-to _ e)))
+        absurd (line-not-nothing (ap toldHandOut (sym is) ∙ ap (λ (x : HandedAhead). x .answer) (came-to _ e)))
     goes-by n is (one-line y l room next e) =
         let told = came-to _ e in
-        let long : n ≡ length (lineText l) = line-is (ap toldHandOut (sym is) ∙ ap (λ (h : Handed). h .answer) told) in
+        let long : n ≡ length (lineText l) =
+        line-is (ap toldHandOut (sym is) ∙ ap (λ (x : HandedAhead). x .answer) told) in
         record {
           grows = omega (arith, long, line-length-some l);
           filled-on =
-              rw (ap (λ (h : Handed). h .session) told, ap (λ (h : Handed). h .out) told, long)
+              rw (ap (λ (x : HandedAhead). x .ahead) told, ap (λ (x : HandedAhead). x .out) told, long)
               (filled-line y l room next);
         }
 
     pub line-goes : (n : ℕ) → r .answer ≡ said.Written n → Goes n
-    line-goes n is = goes-by n is (ways z s (drop used out))
+    line-goes n is = goes-by n is (ways h a s (drop used out))
 
     -- ---- the end: no line, or no room for one
 
     -- no further line fits, and the buffer is as it was before the call
     record Ends : Type 0 where
-      none : f .rest ≡ (toldSession (r .session), [])
+      none : f .rest ≡ (toldAhead (r .ahead), [])
       buffer : out′ ≡ out
       why : Why (length out₀ - used) (toldHandOut (r .answer))
 
-    ends-with : (y : Session) (o : Outcome HandOut) → f .rest ≡ (y, []) → Why (length out₀ - used) o
-        → toldHanded r out′ ≡ behind (take used out) (record { session = y; answer = o; out = drop used out }) → Ends
+    ends-with : (y : Ahead) (o : Outcome HandOut) → f .rest ≡ (y, []) → Why (length out₀ - used) o
+        → toldHandedAhead r out′ ≡ behind (take used out) (record { ahead = y; answer = o; out = drop used out }) → Ends
     ends-with y o none why told =
         record {
           none =
               none
-              ∙ ap {B = Session × List Line} (λ (x : Session). (x, [])) (ap (λ (h : Handed). h .session) (sym told));
-          buffer = ap (λ (h : Handed). h .out) told ∙ take-append-drop used out;
-          why = subst (Why (length out₀ - used)) (ap (λ (h : Handed). h .answer) (sym told)) why;
+              ∙ ap {B = Ahead × List Line} (λ (x : Ahead). (x, [])) (ap (λ (x : HandedAhead). x .ahead) (sym told));
+          buffer = ap (λ (x : HandedAhead). x .out) told ∙ take-append-drop used out;
+          why = subst (Why (length out₀ - used)) (ap (λ (x : HandedAhead). x .answer) (sym told)) why;
         }
 
-    ends-by : ((n : ℕ) → r .answer ≡ said.Written n → ⊥) → Ways z s (drop used out) → Ends
+    ends-by : ((n : ℕ) → r .answer ≡ said.Written n → ⊥) → Ways h a s (drop used out) → Ends
     ends-by never (no-room short e) =
         let less : length out₀ - used < longestLine = omega (arith, short, room-left) in
-        ends-with z (refused bufferTooShort 0)
-        (sym (f .left) ∙ fitting-short z s (length out₀ - used) (f .most) less) (inr (less, refl)) (came-to _ e)
+        ends-with a (refused bufferTooShort 0)
+        (sym (f .left) ∙ fitting-short h a s (length out₀ - used) (f .most) less) (inr (less, refl)) (came-to _ e)
     ends-by never (no-more y room none e) =
         ends-with y (given nothing) (left-next room (y, no-line) none) (inl (omega (arith, room, room-left), refl))
         (came-to _ e)
     ends-by never (one-line y l room next e) =
         absurd (never (length (lineText l))
         (told-injective toldHandOut hand-out-told (r .answer) (said.Written (length (lineText l)))
-        (ap (λ (h : Handed). h .answer) (came-to _ e))))
+        (ap (λ (x : HandedAhead). x .answer) (came-to _ e))))
 
-    pub line-ends : ((n : ℕ) → r .answer ≡ said.Written n → ⊥) → (a : code-handout.HandOut)
-        → toldHandOut a ≡ summed used (toldHandOut (r .answer))
-        → toldHanded (record { session = r .session; answer = a }) out′ ≡ nextLines z₀ s out₀
-    line-ends never a told =
-        let end = ends-by never (ways z s (drop used out)) in
+    pub line-ends : ((n : ℕ) → r .answer ≡ said.Written n → ⊥) → (o : code-handout.HandOut)
+        → toldHandOut o ≡ summed used (toldHandOut (r .answer))
+        → toldHandedAhead (record { ahead = r .ahead; answer = o }) out′ ≡ linesHanded h a₀ s out₀
+    line-ends never o told =
+        let end = ends-by never (ways h a s (drop used out)) in
         let fits =
         f .all
-        ∙ ap {B = Session × List Line} (λ (w : Session × List Line). (w .0, f .lines ++ w .1)) (end .none)
-        ∙ ap {B = Session × List Line} (λ (ls : List Line). (toldSession (r .session), ls)) (append-nil (f .lines)) in
+        ∙ ap {B = Ahead × List Line} (λ (w : Ahead × List Line). (w .0, f .lines ++ w .1)) (end .none)
+        ∙ ap {B = Ahead × List Line} (λ (ls : List Line). (toldAhead (r .ahead), ls)) (append-nil (f .lines)) in
         rw (told, end .buffer, f .text, f .bytes)
-        (lines-end z₀ s out₀ (toldSession (r .session)) (toldHandOut (r .answer)) (f .lines) fits
+        (lines-end h a₀ s out₀ (toldAhead (r .ahead)) (toldHandOut (r .answer)) (f .lines) fits
         (subst (λ (n : ℕ). Why (length out₀ - n) (toldHandOut (r .answer))) (f .bytes) (end .why)))
 
 -- the answer to `let .. else` is no line
@@ -326,3 +334,15 @@ tag-never-line (said.Written m) (inl e) n is = absurd (omega (arith, e))
 tag-never-line (said.Written m) (inr e) n is = absurd (omega (arith, e))
 tag-never-line said.Over other n is = over-never n is
 tag-never-line (said.Refused q) other n is = let z : _≡_ {A = ℕ} 0 1 = cc in omega arith
+
+-- the session is the one given, with what is handed on ahead
+pub next-lines-carried : (z : code-session.Session) (s out : List ℕ) (x : code-ahead.HandedAhead) (out′ : List ℕ)
+    → toldHandedAhead x out′ ≡ linesHanded (headWith (z .board) (z .allowance)) (toldAhead (z .ahead)) s out
+    → toldHanded
+    (record {
+      session = record { board = z .board; allowance = z .allowance; ahead = x .ahead };
+      answer = x .answer;
+    }) out′
+    ≡ nextLines (toldSession z) s out
+unfolding nextLines
+next-lines-carried z s out x out′ told = ap (carrying (toldSession z)) told

@@ -2,10 +2,11 @@
 pub mod StartLaws
 pub mod AdvanceLaws
 pub mod ToCome
-pub mod AheadLaws
+pub mod ComingLaws
 pub mod NextLineLaws
 pub mod CallLaws
 pub mod FitLaws
 pub mod FillLaws
 pub mod FilledCalls
+pub mod HandedStands
 pub mod ToldLaws

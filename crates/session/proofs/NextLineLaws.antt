@@ -1,53 +1,70 @@
--- Laws of handing out a line: each way out of `next_line`, as the definition has it.
+-- Laws of handing out a line: each way out of `hand_line` and of `next_line`, as the definition has it.
 use Prim.Native.Nat.{ℕ, _<_, _≤_}
 use mathlib.Core.Path.{_≡_, sym, ap, _∙_}
 use mathlib.Core.List.{List}
 use lib.ListN.{length}
-use borrow.Author.Tests.{le-leb, lt-leb}
 use Rattle.refusals.specs.Outcomes.{Outcome, refused}
 use Rattle.refusals.specs.Refusals.{bufferTooShort}
 use Rattle.lines.specs.declared.Line.{Line}
 use Rattle.lines.specs.declared.LineWritten.{LineWritten}
+use Rattle.board_reader.specs.Editions.{currentEdition}
 use Rattle.lines.specs.Lines.{longestLine, lineWriting, toldLine, toldLineWritten}
-use Rattle.lines.proofs.LineLaws.{line-written}
+use Rattle.lines.proofs.LineLaws.{line-room, line-short, line-written}
+use Rattle.session.specs.declared.Session.{Session}
 use Rattle.session.specs.declared.HandOut.{HandOut}
 use Rattle.session.specs.declared.HandOut.the-variants.{Over}
+use Rattle.session.specs.declared.fill.HandedAhead.{HandedAhead}
 use Rattle.session.specs.declared.next.Next.{Next}
 use Rattle.session.specs.declared.next.Coming.the-variants as comes
-use Rattle.session.specs.Carried.{Session, Coming, line, no-line, nextOf, toldSession, toldComing, toldNext}
-use Rattle.session.specs.HandingOut.{writtenAnswer, handedBy, nextLine, toldHandOut, toldHanded}
+use Rattle.session.specs.Sessions.{Head}
+use Rattle.session.specs.Carried.{Ahead, headWith, Coming, line, no-line, nextOf, toldAhead, toldSession}
+use Rattle.session.specs.Carried.{toldComing, toldNext}
+use Rattle.session.specs.HandingOut.{carrying, writtenAnswer, handedBy, lineHanded, nextLine, toldHandOut}
+use Rattle.session.specs.HandingOut.{toldHandedAhead, toldHanded}
 
-module _ (z : Session) (s out : List ℕ) where
-  pub next-line-short : length out < longestLine
-      → record { session = z; answer = refused bufferTooShort 0; out = out } ≡ nextLine z s out
-  unfolding nextLine
-  next-line-short short = rw (lt-leb longestLine (length out) short)
+module _ (h : Head) (a : Ahead) (s out : List ℕ) where
+  pub line-handed-short : length out < longestLine
+      → record { ahead = a; answer = refused bufferTooShort 0; out = out } ≡ lineHanded h a s out
+  unfolding lineHanded
+  line-handed-short short = rw (line-short out short)
 
-  pub next-line-room : longestLine ≤ length out → handedBy (nextOf z s) out ≡ nextLine z s out
-  unfolding nextLine
-  next-line-room room = rw (le-leb longestLine (length out) room)
+  pub line-handed-room : longestLine ≤ length out → handedBy (nextOf currentEdition h a s) out ≡ lineHanded h a s out
+  unfolding lineHanded
+  line-handed-room room = rw (line-room out room)
 
   -- the buffer has room, and x is what comes next
-  module _ (x : Next) (room : longestLine ≤ length out) (next : toldNext x ≡ nextOf z s) where
-    next-line-by : (c : Coming) → toldComing (x .coming) ≡ c
-        → handedBy (toldSession (x .session), c) out ≡ nextLine z s out
-    next-line-by c is =
-        let came = ap {B = Session × Coming} (λ d. (toldSession (x .session), d)) (sym is) ∙ next in
-        ap (λ (y : Session × Coming). handedBy y out) came ∙ next-line-room room
+  module _ (x : Next) (room : longestLine ≤ length out) (next : toldNext x ≡ nextOf currentEdition h a s) where
+    line-handed-by : (c : Coming) → toldComing (x .coming) ≡ c
+        → handedBy (toldAhead (x .ahead), c) out ≡ lineHanded h a s out
+    line-handed-by c is =
+        let came = ap {B = Ahead × Coming} (λ d. (toldAhead (x .ahead), d)) (sym is) ∙ next in
+        ap (λ (y : Ahead × Coming). handedBy y out) came ∙ line-handed-room room
 
-    pub next-line-over : x .coming ≡ comes.Over
-        → toldHanded (record { session = x .session; answer = Over }) out ≡ nextLine z s out
+    pub line-handed-over : x .coming ≡ comes.Over
+        → toldHandedAhead (record { ahead = x .ahead; answer = Over }) out ≡ lineHanded h a s out
     unfolding handedBy
-    next-line-over is = next-line-by no-line (ap toldComing is)
+    line-handed-over is = line-handed-by no-line (ap toldComing is)
 
-    pub next-line-written : (l : Line) (w : LineWritten) (a : HandOut) (out′ : List ℕ) → x .coming ≡ comes.Line l
+    pub line-handed-written : (l : Line) (w : LineWritten) (r : HandOut) (out′ : List ℕ) → x .coming ≡ comes.Line l
         → _≡_ {A = Outcome ℕ × List ℕ} (toldLineWritten w, out′) (lineWriting (toldLine l) out)
-        → toldHandOut a ≡ writtenAnswer (toldLineWritten w)
-        → toldHanded (record { session = x .session; answer = a }) out′ ≡ nextLine z s out
+        → toldHandOut r ≡ writtenAnswer (toldLineWritten w)
+        → toldHandedAhead (record { ahead = x .ahead; answer = r }) out′ ≡ lineHanded h a s out
     unfolding handedBy
-    next-line-written l w a out′ is put told =
+    line-handed-written l w r out′ is put told =
         let written = put ∙ line-written (toldLine l) out room in
         let answer = told ∙ ap (λ (y : Outcome ℕ × List ℕ). writtenAnswer (y .0)) written in
         let after = ap (λ (y : Outcome ℕ × List ℕ). y .1) written in
-        (λ i. record { session = toldSession (x .session); answer = answer i; out = after i })
-        ∙ next-line-by (line (toldLine l)) (ap toldComing is)
+        (λ i. record { ahead = toldAhead (x .ahead); answer = answer i; out = after i })
+        ∙ line-handed-by (line (toldLine l)) (ap toldComing is)
+
+-- the session is the one given, with what is handed on ahead
+pub next-line-carried : (z : Session) (s out : List ℕ) (x : HandedAhead) (out′ : List ℕ)
+    → toldHandedAhead x out′ ≡ lineHanded (headWith (z .board) (z .allowance)) (toldAhead (z .ahead)) s out
+    → toldHanded
+    (record {
+      session = record { board = z .board; allowance = z .allowance; ahead = x .ahead };
+      answer = x .answer;
+    }) out′
+    ≡ nextLine (toldSession z) s out
+unfolding nextLine
+next-line-carried z s out x out′ told = ap (carrying (toldSession z)) told

@@ -13,21 +13,30 @@ use Rattle.state.specs.declared.State.{State}
 use Rattle.state.specs.States.{freshState}
 use Rattle.board_reader.specs.declared.BoardRead.{BoardRead}
 use Rattle.board_reader.specs.declared.ReadAnswer.the-variants as board-was
+use Rattle.board_reader.specs.Editions.{currentEdition}
 use Rattle.board_reader.specs.Reading.{toldReadAnswer, Reads}
 use Rattle.session.specs.declared.Stage.the-variants as stage
 use Rattle.session.specs.Sessions.{withAllowance, headAt}
 use Rattle.session.specs.Carried.{begunFrom, beginning, toldSession}
 
 pub begun-refused : (b : Board) (t : State) (q : Refusal) → b ≡ emptyBoard → t ≡ freshState
-    → toldSession (record { board = b; allowance = 0; state = t; event = 0; place = 0; stage = stage.Refused q })
-    ≡ begunFrom (refused (q .number) (q .place))
+    → toldSession
+    (record {
+      board = b;
+      allowance = 0;
+      ahead = record { state = t; event = 0; place = 0; stage = stage.Refused q };
+    }) ≡ begunFrom (refused (q .number) (q .place))
 unfolding begunFrom
 begun-refused b t q empty fresh = rw (empty, fresh)
 
 module _ (b : Board) (x : number.Number) where
   pub begun-read : (t : State) (w at : ℕ) → x ≡ number-was.Read w at → t ≡ freshState
-      → toldSession (record { board = b; allowance = w; state = t; event = 0; place = at; stage = stage.First })
-      ≡ begunFrom (withAllowance b (toldNumber x))
+      → toldSession
+      (record {
+        board = b;
+        allowance = w;
+        ahead = record { state = t; event = 0; place = at; stage = stage.First };
+      }) ≡ begunFrom (withAllowance b (toldNumber x))
   unfolding begunFrom withAllowance
   begun-read t w at is fresh = rw (is, fresh)
 
@@ -38,7 +47,8 @@ module _ (b : Board) (x : number.Number) where
 
 -- the head of a session, by what reading its board came to
 module _ (s : List ℕ) (r : BoardRead) (read : Reads s r) where
-  head-by : headAt s ≡ (toldReadAnswer (r .answer) >>= (λ at. withAllowance (r .board) (numberAt currentWidth s at)))
+  head-by : headAt currentEdition s
+      ≡ (toldReadAnswer (r .answer) >>= (λ at. withAllowance (r .board) (numberAt currentWidth s at)))
   unfolding headAt
   head-by =
       ap (λ (x : Board × Outcome ℕ). x .1 >>= (λ at. withAllowance (x .0) (numberAt currentWidth s at))) (sym read)
@@ -47,12 +57,12 @@ module _ (s : List ℕ) (r : BoardRead) (read : Reads s r) where
       → begunFrom (withAllowance (r .board) (toldNumber x)) ≡ beginning s
   unfolding beginning
   beginning-board at x is number =
-      let head : headAt s ≡ withAllowance (r .board) (toldNumber x) = head-by ∙ rw (is, number) refl in
+      let head : headAt currentEdition s ≡ withAllowance (r .board) (toldNumber x) = head-by ∙ rw (is, number) refl in
       ap begunFrom (sym head)
 
   pub beginning-refused : (q : Refusal) → r .answer ≡ board-was.Refused q
       → begunFrom (refused (q .number) (q .place)) ≡ beginning s
   unfolding beginning
   beginning-refused q is =
-      let head : headAt s ≡ refused (q .number) (q .place) = head-by ∙ rw is refl in
+      let head : headAt currentEdition s ≡ refused (q .number) (q .place) = head-by ∙ rw is refl in
       ap begunFrom (sym head)

@@ -6,12 +6,13 @@ use Rattle.refusals.specs.Outcomes.{Outcome, given, refused}
 use Rattle.refusals.proofs.Told.{Told, ToldLent}
 use Rattle.session.specs.declared.Stage.{Stage}
 use Rattle.session.specs.declared.Stage.the-variants as stage
+use Rattle.session.specs.declared.Ahead.{Ahead}
 use Rattle.session.specs.declared.Session.{Session}
 use Rattle.session.specs.declared.HandOut.{HandOut}
 use Rattle.session.specs.declared.HandOut.the-variants as said
 use Rattle.session.specs.declared.Handed.{Handed}
 use Rattle.session.specs.Carried as carried
-use Rattle.session.specs.Carried.{first, events, over, refusing, toldStage, toldSession}
+use Rattle.session.specs.Carried.{first, events, over, refusing, toldStage, toldAhead, toldSession}
 use Rattle.session.specs.HandingOut as handing-out
 use Rattle.session.specs.HandingOut.{written, nothing, toldHandOut, toldHanded}
 
@@ -36,41 +37,44 @@ stage-told = record { untold = untold; back = back; onto = onto }
     onto over = refl
     onto (refusing n p) = refl
 
-pub session-told : Told toldSession
-session-told = record { untold = untold; back = back; onto = onto }
+ahead-told : Told toldAhead
+ahead-told = record { untold = untold; back = back; onto = onto }
   where
-    untold : carried.Session → Session
-    untold z =
-        record {
-          board = z .board;
-          allowance = z .allowance;
-          state = z .state;
-          event = z .event;
-          place = z .place;
-          stage = stage-told .untold (z .stage);
-        }
+    untold : carried.Ahead → Ahead
+    untold a =
+        record { state = a .state; event = a .event; place = a .place; stage = stage-told .untold (a .stage) }
 
-    back : (x : Session) → untold (toldSession x) ≡ x
+    back : (x : Ahead) → untold (toldAhead x) ≡ x
     back x =
         λ i. record {
-          board = x .board;
-          allowance = x .allowance;
           state = x .state;
           event = x .event;
           place = x .place;
           stage = stage-told .back (x .stage) i;
         }
 
-    onto : (y : carried.Session) → toldSession (untold y) ≡ y
+    onto : (y : carried.Ahead) → toldAhead (untold y) ≡ y
     onto y =
         λ i. record {
-          board = y .board;
-          allowance = y .allowance;
           state = y .state;
           event = y .event;
           place = y .place;
           stage = stage-told .onto (y .stage) i;
         }
+
+pub session-told : Told toldSession
+session-told = record { untold = untold; back = back; onto = onto }
+  where
+    untold : carried.Session → Session
+    untold z = record { board = z .board; allowance = z .allowance; ahead = ahead-told .untold (z .ahead) }
+
+    back : (x : Session) → untold (toldSession x) ≡ x
+    back x =
+        λ i. record { board = x .board; allowance = x .allowance; ahead = ahead-told .back (x .ahead) i }
+
+    onto : (y : carried.Session) → toldSession (untold y) ≡ y
+    onto y =
+        λ i. record { board = y .board; allowance = y .allowance; ahead = ahead-told .onto (y .ahead) i }
 
 pub hand-out-told : Told toldHandOut
 hand-out-told = record { untold = untold; back = back; onto = onto }

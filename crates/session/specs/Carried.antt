@@ -1,21 +1,31 @@
 -- What a session carries from line to line, and its next line.
 --     Stage                       what the next line is: first, that of the first run; events, that of an event;
 --                                 refusing n p, that of the refusal n at p; over, none
---     Session                     the board and allowance, the state, the number and place of the next event, and the
---                                 stage
---     begunFrom o, beginning s    the session that begins with the head o; with the head of the input s
+--     Ahead                       what changes from line to line: the state, the number and place of the next event,
+--                                 and the stage
+--     Session                     the board and allowance, and what is ahead
+--     headWith b w, headOf z      the head of board b and allowance w; that of the session z
+--     onward z a                  the session z with a ahead
+--     freshAhead at k             what is ahead at the stage k before the first run, with the first event at a place
+--     begunFrom o, beginning s    the session that begins with the head o; with the head of the input s by the current
+--                                 edition
 --     Coming                      the next line, or none
 --     following e                 the number after e. It stands still past the longest input, where no session comes:
 --                                 each event takes a byte
---     goesOn z x at               z tells x, and goes on with the event at a place
---     closes z n p                z tells the refusal n at p, and is over
---     eventOf z o                 z makes the event o and tells of it; where its number is refused, z tells that and is
---                                 over
---     nextEvent z s               z tells of the event at its place of the input s; at the input's end nothing comes
---     nextAt k z s                the next line of z at the stage k
---     nextOf z s                  the next line of z on the input s, and the session after it
---     toldStage, toldSession      the code's session in these words
---     toldComing, toldNext        the code's next line, and the session after it
+--     goesOn e x at               event e tells x, and the session goes on with the event at a place
+--     closes a n p                the session with a ahead tells the refusal n at p, and is over
+--     makes h a o                 the session makes the event o and tells of it; where its number is refused, it tells
+--                                 that and is over
+--     nextEvent ed h a s          it tells of the event at its place of the input s, by the edition ed; at the input's
+--                                 end nothing comes
+--     nextAt ed k h a s           its next line at the stage k
+--     nextOf ed h a s             the next line of the session with the head h and a ahead on the input s, and what is
+--                                 ahead after it
+--     toldStage, toldAhead        the code's stage and what is ahead in these words
+--     toldSession                 the code's session in these words
+--     toldComing, toldNext        the code's next line, and what is ahead after it
+--     nextIn z s                  the next line of the code's session z on the input s by the current edition, and
+--                                 what is ahead after it
 --     Begins s z                  promise: `begin` on the input s answers z
 use Prim.Native.Nat.{ℕ, suc}
 use mathlib.Core.Path.{_≡_}
@@ -28,14 +38,17 @@ use Rattle.board.specs.declared.Board.{Board}
 use Rattle.board.specs.Parts.{emptyBoard}
 use Rattle.state.specs.declared.State.{State}
 use Rattle.state.specs.States.{freshState}
+use Rattle.board_reader.specs.Editions.{Edition, currentEdition}
 use Rattle.board_reader.specs.Reading.{longestInput}
 use Rattle.lines.specs.Lines.{Line, closing, toldLine}
 use Rattle.session.specs.declared.Stage as code-stage
 use Rattle.session.specs.declared.Stage.the-variants as said
+use Rattle.session.specs.declared.Ahead as code-ahead
 use Rattle.session.specs.declared.Session as code-session
 use Rattle.session.specs.declared.next.Coming as code-coming
 use Rattle.session.specs.declared.next.Coming.the-variants as comes
 use Rattle.session.specs.declared.next.Next.{Next}
+use Rattle.events.specs.declared.Event.{Event}
 use Rattle.events.specs.Events.{Shown, eventAt, ranLine, eventLine}
 use Rattle.session.specs.Sessions.{Head, headAt}
 
@@ -43,29 +56,36 @@ pub data Stage : Type 0 where
   first events over : Stage
   refusing : ℕ → ℕ → Stage
 
-pub record Session : Type 0 where
-  pub board : Board
-  pub allowance : ℕ
+pub record Ahead : Type 0 where
   pub state : State
   pub event : ℕ
   pub place : ℕ
   pub stage : Stage
 
+pub record Session : Type 0 where
+  pub board : Board
+  pub allowance : ℕ
+  pub ahead : Ahead
+
+abbrev pub headWith : Board → ℕ → Head
+headWith b w = record { board = b; allowance = w }
+
+abbrev pub headOf : Session → Head
+headOf z = headWith (z .board) (z .allowance)
+
+abbrev pub onward : Session → Ahead → Session
+onward z a = record { board = z .board; allowance = z .allowance; ahead = a }
+
+abbrev pub freshAhead : ℕ → Stage → Ahead
+freshAhead at k = record { state = freshState; event = 0; place = at; stage = k }
+
 unfoldable pub begunFrom : Outcome (Found Head) → Session
 begunFrom (given h) =
-    record {
-      board = h .value .board;
-      allowance = h .value .allowance;
-      state = freshState;
-      event = 0;
-      place = h .next;
-      stage = first;
-    }
-begunFrom (refused n p) =
-    record { board = emptyBoard; allowance = 0; state = freshState; event = 0; place = 0; stage = refusing n p }
+    record { board = h .value .board; allowance = h .value .allowance; ahead = freshAhead (h .next) first }
+begunFrom (refused n p) = record { board = emptyBoard; allowance = 0; ahead = freshAhead 0 (refusing n p) }
 
 unfoldable pub beginning : List ℕ → Session
-beginning s = begunFrom (headAt s)
+beginning s = begunFrom (headAt currentEdition s)
 
 pub data Coming : Type 0 where
   line : Line → Coming
@@ -74,47 +94,33 @@ pub data Coming : Type 0 where
 unfoldable pub following : ℕ → ℕ
 following e = cond (leb e longestInput) (suc e) e
 
-abbrev pub goesOn : Session → Shown → ℕ → Session × Coming
-goesOn z x at = (
-  record {
-    board = z .board;
-    allowance = z .allowance;
-    state = x .1;
-    event = following (z .event);
-    place = at;
-    stage = events;
-  },
-  line (x .0),
-)
+abbrev pub goesOn : ℕ → Shown → ℕ → Ahead × Coming
+goesOn e x at = (record { state = x .1; event = following e; place = at; stage = events }, line (x .0))
 
-abbrev pub closes : Session → ℕ → ℕ → Session × Coming
-closes z n p = (
-  record {
-    board = z .board;
-    allowance = z .allowance;
-    state = z .state;
-    event = z .event;
-    place = z .place;
-    stage = over;
-  },
+abbrev pub closes : Ahead → ℕ → ℕ → Ahead × Coming
+closes a n p = (
+  record { state = a .state; event = a .event; place = a .place; stage = over },
   line (closing n p),
 )
 
-unfoldable pub eventOf : Session → Outcome (Found ℕ) → Session × Coming
-eventOf z (given v) = goesOn z (eventLine (z .board) (z .event) (z .state) (v .value) (z .allowance)) (v .next)
-eventOf z (refused n p) = closes z n p
+unfoldable pub makes : Head → Ahead → Outcome (Found Event) → Ahead × Coming
+makes h a (given v) =
+    goesOn (a .event) (eventLine (h .board) (a .event) (a .state) (v .value) (h .allowance)) (v .next)
+makes h a (refused n p) = closes a n p
 
-unfoldable pub nextEvent : Session → List ℕ → Session × Coming
-nextEvent z s = cond (leb (length s) (z .place)) (z, no-line) (eventOf z (eventAt (z .board) s (z .place)))
+unfoldable pub nextEvent : Edition → Head → Ahead → List ℕ → Ahead × Coming
+nextEvent ed h a s =
+    cond (leb (length s) (a .place)) (a, no-line) (makes h a (eventAt ed (h .board .counts .buttons) s (a .place)))
 
-unfoldable pub nextAt : Stage → Session → List ℕ → Session × Coming
-nextAt first z s = goesOn z (ranLine (z .board) (z .event) (z .state) (z .allowance)) (z .place)
-nextAt events z s = nextEvent z s
-nextAt over z s = (z, no-line)
-nextAt (refusing n p) z s = closes z n p
+unfoldable pub nextAt : Edition → Stage → Head → Ahead → List ℕ → Ahead × Coming
+nextAt ed first h a s =
+    goesOn (a .event) (ranLine (h .board) (a .event) (a .state) (h .allowance)) (a .place)
+nextAt ed events h a s = nextEvent ed h a s
+nextAt ed over h a s = (a, no-line)
+nextAt ed (refusing n p) h a s = closes a n p
 
-unfoldable pub nextOf : Session → List ℕ → Session × Coming
-nextOf z s = nextAt (z .stage) z s
+unfoldable pub nextOf : Edition → Head → Ahead → List ℕ → Ahead × Coming
+nextOf ed h a s = nextAt ed (a .stage) h a s
 
 abbrev pub toldStage : code-stage.Stage → Stage
 toldStage said.First = first
@@ -122,23 +128,21 @@ toldStage said.Events = events
 toldStage said.Over = over
 toldStage (said.Refused r) = refusing (r .number) (r .place)
 
+abbrev pub toldAhead : code-ahead.Ahead → Ahead
+toldAhead a = record { state = a .state; event = a .event; place = a .place; stage = toldStage (a .stage) }
+
 abbrev pub toldSession : code-session.Session → Session
-toldSession z =
-    record {
-      board = z .board;
-      allowance = z .allowance;
-      state = z .state;
-      event = z .event;
-      place = z .place;
-      stage = toldStage (z .stage);
-    }
+toldSession z = record { board = z .board; allowance = z .allowance; ahead = toldAhead (z .ahead) }
 
 abbrev pub toldComing : code-coming.Coming → Coming
 toldComing (comes.Line l) = line (toldLine l)
 toldComing comes.Over = no-line
 
-abbrev pub toldNext : Next → Session × Coming
-toldNext r = (toldSession (r .session), toldComing (r .coming))
+abbrev pub toldNext : Next → Ahead × Coming
+toldNext r = (toldAhead (r .ahead), toldComing (r .coming))
+
+abbrev pub nextIn : code-session.Session → List ℕ → Ahead × Coming
+nextIn z s = nextOf currentEdition (headWith (z .board) (z .allowance)) (toldAhead (z .ahead)) s
 
 abbrev pub Begins : List ℕ → code-session.Session → Type 0
 Begins s z = toldSession z ≡ beginning s

@@ -1,16 +1,18 @@
 -- Filling a lent buffer with the next lines of a session, as many as fit: a line is handed out as long as the longest
 -- line has room in what is left of the buffer. "Log and output buffer stay as lent"; "Written bytes begin the buffer;
 -- the rest stays."
---     fitsOn x go               the lines from x on, where x comes next: `go` has the lines after a line, and the
---                               session after them
---     fitting k z s n           the next lines of z on the input s that n bytes have room for, and the session after
---                               them; of at most k lines
---     filledBy x out            what is handed out where x are the lines that fit: their texts one after the other
---     nextLines z s out         the call: 16 if the longest line has no room in the buffer, and then the session as
---                               given. A line has at least one byte, so there are no more lines than bytes
+--     fitsOn x go               the lines from x on, where x comes next: `go` has the lines after a line, and what is
+--                               ahead after them
+--     fitting k h a s n         the next lines of the session with the head h and a ahead, on the input s, that n bytes
+--                               have room for, and what is ahead after them; of at most k lines
+--     filledBy x out            what is handed on where x are the lines that fit: their texts one after the other
+--     linesHanded h a s out     what is handed on of that session: 16 if the longest line has no room in the buffer,
+--                               and then a as given. A line has at least one byte, so there are no more lines than
+--                               bytes
+--     nextLines z s out         the call
 --     NextLines z s out r out′  promise: `next_lines` of session z on the input s, into the buffer `out`, answers r and
 --                               leaves the buffer out′
---     behind x h                what is handed out behind the bytes x; only for the inner function `line_at`
+--     behind x y                what is handed on behind the bytes x; only for the inner function `line_at`
 --     summed n o                the answer after lines of n bytes, where the next call came to o; only for the inner
 --                               function `sum_up`
 use Prim.Native.Nat.{ℕ, zero, suc, _-_}
@@ -20,40 +22,46 @@ use mathlib.Core.List.{List, [], _∷_, _++_}
 use lib.Dec.{leb}
 use lib.ListN.{length, drop}
 use Rattle.refusals.specs.Outcomes.{Outcome, given, refused}
-use Rattle.refusals.specs.Refusals.{bufferTooShort}
-use Rattle.lines.specs.Lines.{Line, longestLine, lineText}
+use Rattle.refusals.specs.Order.{firstNo, answering}
+use Rattle.board_reader.specs.Editions.{currentEdition}
+use Rattle.lines.specs.Lines.{Line, longestLine, lineText, lineLines}
 use Rattle.session.specs.declared.Session as code-session
 use Rattle.session.specs.declared.Handed as code-handed
-use Rattle.session.specs.Sessions.{lineTexts, printed}
-use Rattle.session.specs.Carried.{Session, Coming, line, no-line, nextOf, toldSession}
-use Rattle.session.specs.HandingOut.{HandOut, written, nothing, Handed, toldHanded}
+use Rattle.session.specs.Sessions.{Head, lineTexts, printed}
+use Rattle.session.specs.Carried.{Ahead, Session, headOf, Coming, line, no-line, nextOf, toldSession}
+use Rattle.session.specs.HandingOut.{HandOut, written, nothing, HandedAhead, Handed, carrying, toldHanded}
 
-abbrev pub fitsOn : Session × Coming → (Session → Line → Session × List Line) → Session × List Line
+abbrev pub fitsOn : Ahead × Coming → (Ahead → Line → Ahead × List Line) → Ahead × List Line
 fitsOn (y, line l) go = (go y l .0, l ∷ go y l .1)
 fitsOn (y, no-line) go = (y, [])
 
-unfoldable pub fitting : ℕ → Session → List ℕ → ℕ → Session × List Line
-fitting zero z s n = (z, [])
-fitting (suc k) z s n =
-    cond (leb longestLine n) (fitsOn (nextOf z s) (λ y l. fitting k y s (n - length (lineText l)))) (z, [])
+unfoldable pub fitting : ℕ → Head → Ahead → List ℕ → ℕ → Ahead × List Line
+fitting zero h a s n = (a, [])
+fitting (suc k) h a s n =
+    cond (leb longestLine n)
+    (fitsOn (nextOf currentEdition h a s) (λ y l. fitting k h y s (n - length (lineText l))))
+    (a, [])
 
-unfoldable pub filledBy : Session × List Line → List ℕ → Handed
-filledBy (z, []) out = record { session = z; answer = given nothing; out = out }
-filledBy (z, l ∷ ls) out =
+unfoldable pub filledBy : Ahead × List Line → List ℕ → HandedAhead
+filledBy (a, []) out = record { ahead = a; answer = given nothing; out = out }
+filledBy (a, l ∷ ls) out =
     let text = printed (lineTexts (l ∷ ls)) in
-    record { session = z; answer = given (written (length text)); out = text ++ drop (length text) out }
+    record { ahead = a; answer = given (written (length text)); out = text ++ drop (length text) out }
+
+unfoldable pub linesHanded : Head → Ahead → List ℕ → List ℕ → HandedAhead
+linesHanded h a s out =
+    answering (firstNo (lineLines out))
+    (λ n p. record { ahead = a; answer = refused n p; out = out })
+    (λ u. filledBy (fitting (length out) h a s (length out)) out)
 
 unfoldable pub nextLines : Session → List ℕ → List ℕ → Handed
-nextLines z s out =
-    cond (leb longestLine (length out))
-    (filledBy (fitting (length out) z s (length out)) out)
-    (record { session = z; answer = refused bufferTooShort 0; out = out })
+nextLines z s out = carrying z (linesHanded (headOf z) (z .ahead) s out)
 
 abbrev pub NextLines : code-session.Session → List ℕ → List ℕ → code-handed.Handed → List ℕ → Type 0
 NextLines z s out r out′ = toldHanded r out′ ≡ nextLines (toldSession z) s out
 
-abbrev pub behind : List ℕ → Handed → Handed
-behind x h = record { session = h .session; answer = h .answer; out = x ++ h .out }
+abbrev pub behind : List ℕ → HandedAhead → HandedAhead
+behind x y = record { ahead = y .ahead; answer = y .answer; out = x ++ y .out }
 
 abbrev pub summed : ℕ → Outcome HandOut → Outcome HandOut
 summed zero o = o

@@ -1,31 +1,33 @@
 -- A session's lines, on its bytes. Rule book: "A session file is a board, the allowance W, then events to the end"; "It
 -- reads a session from standard input, from a fresh state"; "Board and W are read before the first run. A bad file (10
 -- counts the whole session) or event (1, 2 or 7) prints `refused`, number, place, and ends; earlier lines stand."
---     Head                        what stands before the events: the board and the allowance
---     withAllowance b o           the board b, with what reading the allowance came to
---     headAt s                    the head of the session s, and the place of its first event, or the refusal
---     eventLines o tell go        the lines from an event on: `tell` is the event's own, `go` the lines after it; a
---                                 refused event ends the session
---     linesFrom k b s t e at w    the lines of the events from place `at` on, the first of them event e in state t; of
---                                 at most k events
---     headLines o s               the lines of the session s with the head o
---     sessionLines s              the lines of the session s: there are no more events than bytes
---     lineTexts                   lines as texts
---     printed                     texts one after the other
---     sessionText s               all that the session s prints
+--     Head                           what stands before the events: the board and the allowance
+--     withAllowance b o              the board b, with what reading the allowance came to
+--     headAt ed s                    the head of the session s by the edition ed, and the place of its first event, or
+--                                    the refusal
+--     eventLines o tell go           the lines from an event on: `tell` is the event's own, `go` the lines after it; a
+--                                    refused event ends the session
+--     linesFrom ed k b s t e at w    the lines of the events from place `at` on, the first of them event e in state t;
+--                                    of at most k events
+--     headLines ed o s               the lines of the session s with the head o
+--     sessionLines ed s              the lines of the session s: there are no more events than bytes
+--     lineTexts                      lines as texts
+--     printed                        texts one after the other
+--     sessionText ed s               all that the session s prints
 use Prim.Native.Nat.{ℕ, zero, suc}
 use mathlib.Core.Bool.{cond}
 use mathlib.Core.List.{List, [], _∷_, _++_}
 use lib.Dec.{leb}
 use lib.ListN.{length}
 use Rattle.refusals.specs.Outcomes.{Outcome, given, refused, Found, found, _>>=_}
-use Rattle.number.specs.Numbers.{currentWidth, numberAt}
+use Rattle.number.specs.Numbers.{numberAt}
 use Rattle.board.specs.declared.Board.{Board}
 use Rattle.state.specs.declared.State.{State}
 use Rattle.state.specs.States.{freshState}
-use Rattle.board_reader.specs.Editions.{currentEdition}
+use Rattle.board_reader.specs.Editions.{Edition}
 use Rattle.board_reader.specs.Reading.{reading}
 use Rattle.lines.specs.Lines.{Line, closing, lineText}
+use Rattle.events.specs.declared.Event.{Event}
 use Rattle.events.specs.Events.{Shown, eventAt, ranLine, eventLine}
 
 pub record Head : Type 0 where
@@ -37,30 +39,31 @@ withAllowance b o = do
   w ← o
   found (record { board = b; allowance = w .value }) (w .next)
 
-unfoldable pub headAt : List ℕ → Outcome (Found Head)
-headAt s = do
-  at ← reading currentEdition s .1
-  withAllowance (reading currentEdition s .0) (numberAt currentWidth s at)
+unfoldable pub headAt : Edition → List ℕ → Outcome (Found Head)
+headAt ed s = do
+  at ← reading ed s .1
+  withAllowance (reading ed s .0) (numberAt (ed .width) s at)
 
-abbrev pub eventLines : Outcome (Found ℕ) → (ℕ → Shown) → (State → ℕ → List Line) → List Line
+abbrev pub eventLines : Outcome (Found Event) → (Event → Shown) → (State → ℕ → List Line) → List Line
 eventLines (given v) tell go = tell (v .value) .0 ∷ go (tell (v .value) .1) (v .next)
 eventLines (refused n p) tell go = closing n p ∷ []
 
-unfoldable pub linesFrom : ℕ → Board → List ℕ → State → ℕ → ℕ → ℕ → List Line
-linesFrom zero b s t e at w = []
-linesFrom (suc k) b s t e at w =
+unfoldable pub linesFrom : Edition → ℕ → Board → List ℕ → State → ℕ → ℕ → ℕ → List Line
+linesFrom ed zero b s t e at w = []
+linesFrom ed (suc k) b s t e at w =
     cond (leb (length s) at)
     []
-    (eventLines (eventAt b s at) (λ v. eventLine b e t v w) (λ u next. linesFrom k b s u (suc e) next w))
+    (eventLines (eventAt ed (b .counts .buttons) s at) (λ v. eventLine b e t v w)
+    (λ u next. linesFrom ed k b s u (suc e) next w))
 
-unfoldable pub headLines : Outcome (Found Head) → List ℕ → List Line
-headLines (refused n p) s = closing n p ∷ []
-headLines (given h) s =
+unfoldable pub headLines : Edition → Outcome (Found Head) → List ℕ → List Line
+headLines ed (refused n p) s = closing n p ∷ []
+headLines ed (given h) s =
     let first = ranLine (h .value .board) 0 freshState (h .value .allowance) in
-    first .0 ∷ linesFrom (length s) (h .value .board) s (first .1) 1 (h .next) (h .value .allowance)
+    first .0 ∷ linesFrom ed (length s) (h .value .board) s (first .1) 1 (h .next) (h .value .allowance)
 
-unfoldable pub sessionLines : List ℕ → List Line
-sessionLines s = headLines (headAt s) s
+unfoldable pub sessionLines : Edition → List ℕ → List Line
+sessionLines ed s = headLines ed (headAt ed s) s
 
 unfoldable pub lineTexts : List Line → List (List ℕ)
 lineTexts [] = []
@@ -70,5 +73,5 @@ unfoldable pub printed : List (List ℕ) → List ℕ
 printed [] = []
 printed (x ∷ xs) = x ++ printed xs
 
-unfoldable pub sessionText : List ℕ → List ℕ
-sessionText s = printed (lineTexts (sessionLines s))
+unfoldable pub sessionText : Edition → List ℕ → List ℕ
+sessionText ed s = printed (lineTexts (sessionLines ed s))

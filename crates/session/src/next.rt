@@ -1,14 +1,17 @@
-// The line that comes next in a session, and the session after it.
+// The line that comes next in a session, and what is ahead after it.
 ghost use mathlib.Core.Path.{_≡_};
+ghost use Rattle.board_reader.specs.Editions.{currentEdition};
 ghost use Rattle.events.specs.Events.{toldShown};
-ghost use Rattle.session.specs.Carried.{following, goesOn, closes, nextEvent, nextOf, toldSession, toldNext};
-use crate::Session;
+ghost use Rattle.session.specs.Carried.{following, goesOn, closes, nextEvent, nextOf, headWith};
+ghost use Rattle.session.specs.Carried.{toldAhead, toldNext};
+use crate::Ahead;
 use crate::Stage;
+use crate::event;
+use crate::event::EventRead;
+use board::Board;
 use board_reader::LONGEST_INPUT;
 use events::Shown;
 use lines::Line;
-use number::Number;
-use refusals::NO_SUCH_NAME;
 use refusals::Refusal;
 
 // The next line, or that there is none.
@@ -17,9 +20,9 @@ pub enum Coming {
     Over,
 }
 
-// The next line and the session after it.
+// The next line and what is ahead after it.
 pub struct Next {
-    pub session: Session,
+    pub ahead: Ahead,
     pub coming: Coming,
 }
 
@@ -34,18 +37,15 @@ fn following(event: usize) -> usize
     }
 }
 
-// The session tells of an event, and goes on with the events from a place on.
-fn go_on(session: Session, shown: Shown, place: usize) -> Next
-    ensures { λ r. ⌜ toldNext r ≡ goesOn (toldSession session) (toldShown shown) place ⌝ }
+// The event of this number tells what is shown, and the session goes on with the events from a place on.
+fn go_on(event: usize, shown: Shown, place: usize) -> Next
+    ensures { λ r. ⌜ toldNext r ≡ goesOn event (toldShown shown) place ⌝ }
 {
-    let board = session.board;
     let state = shown.state;
     let line = shown.line;
-    let event = following(session.event);
+    let event = following(event);
     Next {
-        session: Session {
-            board,
-            allowance: session.allowance,
+        ahead: Ahead {
             state,
             event,
             place,
@@ -56,18 +56,15 @@ fn go_on(session: Session, shown: Shown, place: usize) -> Next
 }
 
 // The session tells of a refusal, and is over.
-fn close(session: Session, refusal: Refusal) -> Next
-    ensures { λ r. ⌜ toldNext r ≡ closes (toldSession session) (refusal .number) (refusal .place) ⌝ }
+fn close(ahead: Ahead, refusal: Refusal) -> Next
+    ensures { λ r. ⌜ toldNext r ≡ closes (toldAhead ahead) (refusal .number) (refusal .place) ⌝ }
 {
-    let board = session.board;
-    let state = session.state;
+    let state = ahead.state;
     Next {
-        session: Session {
-            board,
-            allowance: session.allowance,
+        ahead: Ahead {
             state,
-            event: session.event,
-            place: session.place,
+            event: ahead.event,
+            place: ahead.place,
             stage: Stage::Over,
         },
         coming: Coming::Line(Line::Closing(refusal)),
@@ -75,54 +72,47 @@ fn close(session: Session, refusal: Refusal) -> Next
 }
 
 // What comes of the event at the session's place in the input, or that the input ends there.
-fn next_event(session: Session, s: &[u8]) -> Next
-    ensures { λ r. ⌜ toldNext r ≡ nextEvent (toldSession session) (now (s .entry)) ⌝ }
+fn next_event(board: Board, allowance: u32, ahead: Ahead, s: &[u8]) -> Next
+    ensures { λ r. ⌜ toldNext r
+        ≡ nextEvent currentEdition (headWith board allowance) (toldAhead ahead) (now (s .entry)) ⌝ }
 {
-    let place = session.place;
+    let place = ahead.place;
     if s.len() <= place {
         return Next {
-            session,
+            ahead,
             coming: Coming::Over,
         };
     }
-    let read = number::read_number(s, place);
+    let counts = board.counts;
+    let read = event::event_at(counts.buttons, s, place);
     match read {
-        Number::Read(value, next) => {
-            let board = session.board;
-            let counts = board.counts;
-            if bits::wide(counts.buttons) <= value / 2 {
-                return close(
-                    session,
-                    Refusal {
-                        number: NO_SUCH_NAME,
-                        place,
-                    },
-                );
-            }
-            let state = session.state;
-            let shown = events::event_line(board, session.event, state, value, session.allowance);
-            go_on(session, shown, next)
+        EventRead::Read(event, next) => {
+            let state = ahead.state;
+            let number = ahead.event;
+            let shown = events::event_line(board, number, state, event, allowance);
+            go_on(number, shown, next)
         }
-        Number::Refused(refusal) => close(session, refusal),
+        EventRead::Refused(refusal) => close(ahead, refusal),
     }
 }
 
 // The next line of the session.
-pub fn advance(session: Session, s: &[u8]) -> Next
-    ensures { λ r. ⌜ toldNext r ≡ nextOf (toldSession session) (now (s .entry)) ⌝ }
+pub fn advance(board: Board, allowance: u32, ahead: Ahead, s: &[u8]) -> Next
+    ensures { λ r. ⌜ toldNext r
+        ≡ nextOf currentEdition (headWith board allowance) (toldAhead ahead) (now (s .entry)) ⌝ }
 {
-    let stage = session.stage;
+    let stage = ahead.stage;
     match stage {
         Stage::First => {
-            let board = session.board;
-            let state = session.state;
-            let shown = events::run_line(board, session.event, state, session.allowance);
-            go_on(session, shown, session.place)
+            let state = ahead.state;
+            let number = ahead.event;
+            let shown = events::run_line(board, number, state, allowance);
+            go_on(number, shown, ahead.place)
         }
-        Stage::Events => next_event(session, s),
-        Stage::Refused(refusal) => close(session, refusal),
+        Stage::Events => next_event(board, allowance, ahead, s),
+        Stage::Refused(refusal) => close(ahead, refusal),
         Stage::Over => Next {
-            session,
+            ahead,
             coming: Coming::Over,
         },
     }

@@ -4,6 +4,7 @@ ghost use Rattle.refusals.specs.Outcomes.{refused};
 ghost use Rattle.number.specs.Numbers.{toldNumber};
 ghost use Rattle.session.specs.Sessions.{withAllowance};
 ghost use Rattle.session.specs.Carried.{begunFrom, toldSession};
+use crate::Ahead;
 use crate::Session;
 use crate::Stage;
 use board::Board;
@@ -18,10 +19,12 @@ pub fn refuse(refusal: Refusal) -> Session
     Session {
         board: board::empty(),
         allowance: 0,
-        state: State::fresh(),
-        event: 0,
-        place: 0,
-        stage: Stage::Refused(refusal),
+        ahead: Ahead {
+            state: State::fresh(),
+            event: 0,
+            place: 0,
+            stage: Stage::Refused(refusal),
+        },
     }
 }
 
@@ -33,10 +36,12 @@ pub fn begin_with(board: Board, allowance: Number) -> Session
         Number::Read(allowance, place) => Session {
             board,
             allowance,
-            state: State::fresh(),
-            event: 0,
-            place,
-            stage: Stage::First,
+            ahead: Ahead {
+                state: State::fresh(),
+                event: 0,
+                place,
+                stage: Stage::First,
+            },
         },
         Number::Refused(refusal) => refuse(refusal),
     }

@@ -1,7 +1,7 @@
 -- A session that was begun has all its lines still to come, and numbers them as the definition does.
 use Prim.Native.Nat.{ℕ, _<_, _≤_}
 use native.Mathlib.Omega.{arith}
-use mathlib.Core.Path.{_≡_, refl, sym, ap, _∙_}
+use mathlib.Core.Path.{_≡_, refl, sym, ap, subst, _∙_}
 use mathlib.Core.Bool.{Bool, true, false}
 use mathlib.Core.List.{List}
 use lib.Dec.{leb}
@@ -16,18 +16,23 @@ use Rattle.board_reader.specs.Editions.{currentEdition}
 use Rattle.board_reader.specs.Reading.{longestInput, answered, reading}
 use Rattle.board_reader.proofs.ReadLaws.{reading-long}
 use Rattle.session.specs.Sessions.{Head, withAllowance, headAt, headLines, sessionLines}
-use Rattle.session.specs.Carried.{begunFrom, beginning}
+use Rattle.session.specs.declared.Session.{Session}
+use Rattle.session.specs.Carried as carried
+use Rattle.session.specs.Carried.{headOf, begunFrom, beginning, Begins}
 use Rattle.session.proofs.ToCome.{toComeAt, toCome}
-use Rattle.session_means.proofs.StillLaws.{stillAt, still, Numbered}
+use Rattle.session_means.proofs.StillLaws.{stillAt, still, stillIn, Numbered, NumberedIn}
 
-begun-still : (o : Outcome (Found Head)) (s : List ℕ) → still (begunFrom o) s ≡ headLines o s
+begun-still : (o : Outcome (Found Head)) (s : List ℕ)
+    → still currentEdition (headOf (begunFrom o)) (begunFrom o .ahead) s ≡ headLines currentEdition o s
 unfolding begunFrom headLines still stillAt
 begun-still (given h) s = refl
 begun-still (refused n p) s = refl
 
-pub beginning-still : (s : List ℕ) → still (beginning s) s ≡ sessionLines s
+pub beginning-still : (s : List ℕ) (z : Session) → Begins s z → stillIn z s ≡ sessionLines currentEdition s
 unfolding beginning sessionLines
-beginning-still s = begun-still (headAt s) s
+beginning-still s z begun =
+    ap (λ (x : carried.Session). still currentEdition (headOf x) (x .ahead) s) begun
+    ∙ begun-still (headAt currentEdition s) s
 
 long-refused : (s : List ℕ) → longestInput < length s → reading currentEdition s .1 ≡ refused inputTooLong 0
 unfolding answered
@@ -42,7 +47,7 @@ read-short s at read = by (leb (length s) longestInput) refl
     by false e =
         absurd (refused-never inputTooLong 0 at (sym (long-refused s (leb-false (length s) longestInput e)) ∙ read))
 
-head-short : (s : List ℕ) (h : Found Head) → headAt s ≡ given h → length s ≤ longestInput
+head-short : (s : List ℕ) (h : Found Head) → headAt currentEdition s ≡ given h → length s ≤ longestInput
 unfolding headAt
 head-short s h e =
     let board =
@@ -51,11 +56,13 @@ head-short s h e =
     read-short s (board .value) (board .first)
 
 begun-numbered : (o : Outcome (Found Head)) (s : List ℕ)
-    → ((h : Found Head) → o ≡ given h → length s ≤ longestInput) → Numbered (begunFrom o) s
+    → ((h : Found Head) → o ≡ given h → length s ≤ longestInput) → Numbered (begunFrom o .ahead) s
 unfolding begunFrom toCome toComeAt
 begun-numbered (given h) s short = omega (arith, short h refl)
 begun-numbered (refused n p) s short = omega arith
 
-pub beginning-numbered : (s : List ℕ) → Numbered (beginning s) s
+pub beginning-numbered : (s : List ℕ) (z : Session) → Begins s z → NumberedIn z s
 unfolding beginning
-beginning-numbered s = begun-numbered (headAt s) s (head-short s)
+beginning-numbered s z begun =
+    subst (λ (x : carried.Session). Numbered (x .ahead) s) (sym begun)
+    (begun-numbered (headAt currentEdition s) s (head-short s))

@@ -1,10 +1,10 @@
 -- One event on a board that breaks no rule, in a state that fits it: where its line tells of a refusal, it is 12; the
 -- line has the word of drawn relays of the state after it; and that state fits again.
-use Prim.Native.Nat.{ℕ, _/_, _%_, _≤_}
+use Prim.Native.Nat.{ℕ, _≤_}
 use native.Mathlib.Omega.{arith}
 use mathlib.Core.Path.{_≡_, refl, subst}
 use mathlib.Core.Bool.{Bool, true, false, not, cond}
-use lib.Dec.{ltb, eqb}
+use lib.Dec.{ltb}
 use lib.ListN.{length, length-replicate}
 use borrow.Author.Tests.{ltb-true}
 use Rattle.refusals.specs.Outcomes.{Outcome, given, refused, unless}
@@ -20,6 +20,7 @@ use Rattle.presses.proofs.PressLaws.{press-twelve}
 use Rattle.runs.specs.Running.{longestLog, ran}
 use Rattle.runs.proofs.RunningLaws.{runnable-log, running-by}
 use Rattle.lines.specs.Lines.{event, closing}
+use Rattle.events.specs.declared.Event.{Event}
 use Rattle.events.specs.Events.{pressing, sessionLog, Shown, tells, ranLine, pressedLine, eventLine}
 use Rattle.session_means.specs.EventRefusals.{OnlyTwelve}
 use Rattle.runs.proofs.RunFits.{run-fits}
@@ -79,14 +80,14 @@ module _ (b : Board) (fine : boardFine b ≡ true) where
         rw (press-twelve b t n (isPushed t n) (usable-fine b t fine fits) below)
         (left-fits t (withReleased t n) (isPushed t n) fits (state-fits-release (b .counts) t n fits))
 
-  press-fits : (t : State) (v : ℕ) → stateFine (b .counts) t ≡ true → ltb (v / 2) (b .counts .buttons) ≡ true
+  press-fits : (t : State) (v : Event) → stateFine (b .counts) t ≡ true → ltb (v .button) (b .counts .buttons) ≡ true
       → PressFits b (pressing b t v)
   unfolding pressing
-  press-fits t v fits below = by (eqb (v % 2) 1)
+  press-fits t v fits below = by (v .push)
     where
-      by : (odd : Bool) → PressFits b (cond odd (pushing b t (v / 2)) (releasing b t (v / 2)))
-      by true = push-fits t (v / 2) fits below
-      by false = release-fits t (v / 2) fits below
+      by : (push : Bool) → PressFits b (cond push (pushing b t (v .button)) (releasing b t (v .button)))
+      by true = push-fits t (v .button) fits below
+      by false = release-fits t (v .button) fits below
 
   -- ---- the event
 
@@ -95,7 +96,7 @@ module _ (b : Board) (fine : boardFine b ≡ true) where
   pressed-fits w e (t, given u) so = ran-fits w e t (so .fits)
   pressed-fits w e (t, refused n p) so = record { twelve = so .twelve; drawn = refl; fits = so .fits }
 
-  pub event-fits : (w e : ℕ) (t : State) (v : ℕ) → stateFine (b .counts) t ≡ true
-      → ltb (v / 2) (b .counts .buttons) ≡ true → ShownFits b (eventLine b e t v w)
+  pub event-fits : (w e : ℕ) (t : State) (v : Event) → stateFine (b .counts) t ≡ true
+      → ltb (v .button) (b .counts .buttons) ≡ true → ShownFits b (eventLine b e t v w)
   unfolding eventLine
   event-fits w e t v fits below = pressed-fits w e (pressing b t v) (press-fits t v fits below)

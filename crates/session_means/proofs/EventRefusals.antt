@@ -5,6 +5,7 @@ use mathlib.Core.Path.{subst}
 use mathlib.Core.List.{List, _∷_}
 use Rattle.lists.specs.Members.{All}
 use Rattle.refusals.specs.Outcomes.{Outcome, given, refused, Found}
+use Rattle.board_reader.specs.Editions.{currentEdition}
 use Rattle.file_means.proofs.GivesLaws.{Gives}
 use Rattle.session.specs.Sessions.{Head, headAt, headLines, sessionLines}
 use Rattle.lines.specs.Lines.{Line, event, closing}
@@ -17,14 +18,15 @@ along-twelve : (h : Head) → Along h (λ e t ls. All OnlyTwelve ls)
 along-twelve h =
     record { none = λ e t. tt; closes = λ e t n p by. (tt, tt); shown = λ e t x ls shows so on. (so .twelve, on) }
 
-head-lines-twelve : (o : Outcome (Found Head)) (s : List ℕ) → Gives HeadFine o → All OnlyTwelve (headLines o s)
+head-lines-twelve : (o : Outcome (Found Head)) (s : List ℕ) → Gives HeadFine o
+    → All OnlyTwelve (headLines currentEdition o s)
 unfolding headLines
 head-lines-twelve (refused n p) s fine = (tt, tt)
 head-lines-twelve (given h) s fine = head-walk h s fine (λ e t ls. All OnlyTwelve ls) (along-twelve (h .value))
 
 pub events-refused : EventsRefused
 unfolding sessionLines
-events-refused s = head-lines-twelve (headAt s) s (head-fine s)
+events-refused s = head-lines-twelve (headAt currentEdition s) s (head-fine s)
 
 shown-closes-none : (h : Head) (x : Shown) (ls : List Line) → ShownFits (h .board) x → All ClosedByEvent ls
     → All ClosedByEvent (x .0 ∷ ls)

@@ -1,70 +1,75 @@
 -- The theorems: what the calls have handed out so far are the first of the session's lines, and the next call hands out
 -- the next.
 use Prim.Native.Nat.{ℕ, _≤_}
-use mathlib.Core.Path.{_≡_, refl, sym, ap, subst, _∙_}
+use mathlib.Core.Path.{_≡_, refl, sym, ap, ap₂, subst, _∙_}
 use mathlib.Core.List.{List, [], _∷_, _++_, append-nil}
 use lib.ListN.{length}
-use Rattle.lines.specs.Lines.{longestLine}
+use Rattle.board_reader.specs.Editions.{currentEdition}
+use Rattle.lines.specs.Lines.{Line, longestLine}
 use Rattle.session.specs.declared.Session as code-session
 use Rattle.session.specs.declared.Handed as code-handed
 use Rattle.session.specs.declared.HandOut.the-variants.{Over}
 use Rattle.session.specs.HandingOut.{nothing, toldHandOut, NextLine}
-use Rattle.session.specs.Sessions.{lineTexts}
-use Rattle.session.specs.Carried.{Session, Coming, line, no-line, nextOf, toldSession}
+use Rattle.session.specs.Sessions.{Head, lineTexts}
+use Rattle.session.specs.Carried.{Ahead, headOf, Coming, line, no-line, nextIn, toldAhead, toldSession}
 use Rattle.session.proofs.CallLaws.{over-never, call-room, call-over, call-lent, call-line, call-stays}
-use Rattle.session.proofs.CallLaws.{came}
+use Rattle.session.proofs.CallLaws.{call-head, came}
 use Rattle.session_means.specs.HandedLines.{Hands, HandsOut, Tells, LinesHandedOut, AllHandedOut}
-use Rattle.session_means.proofs.StillLaws.{still, Numbered, still-next, numbered-next}
+use Rattle.session_means.proofs.StillLaws.{still, stillIn, NumberedIn, still-next, numbered-next}
 use Rattle.session_means.proofs.BeginningLaws.{beginning-still, beginning-numbered}
 
 -- the texts of the lines that z has still to tell
 abbrev ahead : code-session.Session → List ℕ → List (List ℕ)
-ahead z s = lineTexts (still (toldSession z) s)
+ahead z s = lineTexts (stillIn z s)
 
 record From (s : List ℕ) (z : code-session.Session) (ts : List (List ℕ)) (z′ : code-session.Session) : Type 0 where
   pub told : ahead z s ≡ ts ++ ahead z′ s
-  pub numbered : Numbered (toldSession z′) s
+  pub numbered : NumberedIn z′ s
 
 module _ (s : List ℕ) where
-  hands-first : (z y : code-session.Session) (t : List ℕ) → Numbered (toldSession z) s → Hands NextLine s z t y
+  hands-first : (z y : code-session.Session) (t : List ℕ) → NumberedIn z s → Hands NextLine s z t y
       → From s z (t ∷ []) y
   unfolding lineTexts
   hands-first z y t numbered h =
       let c = came z s (h .out) (h .out′) (h .answer) (h .called) (h .bytes) (h .wrote) in
-      let next : nextOf (toldSession z) s ≡ (toldSession y, line (c .its-line)) =
-      c .next ∙ ap {B = Session × Coming} (λ (x : code-session.Session). (toldSession x, line (c .its-line)))
-      (h .after) in
+      let after : Ahead = toldAhead (h .answer .session .ahead) in
+      let rest : still currentEdition (headOf (toldSession z)) after s ≡ stillIn y s =
+      ap (λ (k : Head). still currentEdition k after s) (sym (call-head z s (h .out) (h .out′) (h .answer) (h .called)))
+      ∙ ap (λ (x : code-session.Session). stillIn x s) (h .after) in
       record {
         told =
-            ap lineTexts (still-next (toldSession z) s numbered _ next) ∙ ap (λ (x : List ℕ). x ∷ ahead y s)
-            (sym (c .text) ∙ h .text);
-        numbered = numbered-next (toldSession z) s numbered _ _ next;
+            ap lineTexts (still-next currentEdition _ (toldAhead (z .ahead)) s numbered _ (c .next))
+            ∙ ap₂ {C = List (List ℕ)} (λ (x : List ℕ) (ls : List Line). x ∷ lineTexts ls) (sym (c .text) ∙ h .text)
+            rest;
+        numbered =
+            subst (λ (x : code-session.Session). NumberedIn x s) (h .after)
+            (numbered-next currentEdition _ (toldAhead (z .ahead)) s numbered _ _ (c .next));
       }
 
-  from-start : (ts : List (List ℕ)) (z z′ : code-session.Session) → Numbered (toldSession z) s
+  from-start : (ts : List (List ℕ)) (z z′ : code-session.Session) → NumberedIn z s
       → HandsOut NextLine s z ts z′ → From s z ts z′
   from-start [] z z′ numbered same =
       record {
         told = ap (λ (x : code-session.Session). ahead x s) same;
-        numbered = subst (λ (x : code-session.Session). Numbered (toldSession x) s) same numbered;
+        numbered = subst (λ (x : code-session.Session). NumberedIn x s) same numbered;
       }
   from-start (t ∷ ts) z z′ numbered (y, (h, after)) =
       let one = hands-first z y t numbered h in
       let rest = from-start ts y z′ (one .numbered) after in
       record { told = one .told ∙ ap {B = List (List ℕ)} (λ ls. t ∷ ls) (rest .told); numbered = rest .numbered }
 
-  tells-by : (z : code-session.Session) (out out′ : List ℕ) (r : code-handed.Handed) → Numbered (toldSession z) s
-      → longestLine ≤ length out → NextLine z s out r out′ → (x : Session × Coming) → nextOf (toldSession z) s ≡ x
+  tells-by : (z : code-session.Session) (out out′ : List ℕ) (r : code-handed.Handed) → NumberedIn z s
+      → longestLine ≤ length out → NextLine z s out r out′ → (x : Ahead × Coming) → nextIn z s ≡ x
       → Tells (ahead z s) out r out′
   unfolding lineTexts
   tells-by z out out′ r numbered room called (y, no-line) is =
-      rw (still-next (toldSession z) s numbered _ is) (
+      rw (still-next currentEdition _ (toldAhead (z .ahead)) s numbered _ is) (
         call-over z s out out′ r called room y is,
         call-lent z s out out′ r called room y is,
       )
   tells-by z out out′ r numbered room called (y, line l) is =
       let handed = call-line z s out out′ r called room y l is in
-      rw (still-next (toldSession z) s numbered _ is)
+      rw (still-next currentEdition _ (toldAhead (z .ahead)) s numbered _ is)
       (record {
         answer = handed .0;
         begins = handed .1;
@@ -73,14 +78,12 @@ module _ (s : List ℕ) where
 
 pub lines-handed-out : LinesHandedOut
 lines-handed-out s z z′ ts begun out =
-    let start : Numbered (toldSession z) s = subst (λ (x : Session). Numbered x s) (sym begun) (beginning-numbered s) in
-    let so = from-start s ts z z′ start out in
+    let so = from-start s ts z z′ (beginning-numbered s z begun) out in
     record {
       rest = ahead z′ s;
-      all = ap lineTexts (sym (beginning-still s) ∙ ap (λ (x : Session). still x s) (sym begun)) ∙ so .told;
+      all = ap lineTexts (sym (beginning-still s z begun)) ∙ so .told;
       next =
-          λ out out′ r room called. tells-by s z′ out out′ r (so .numbered) room called (nextOf (toldSession z′) s)
-          refl;
+          λ out out′ r room called. tells-by s z′ out out′ r (so .numbered) room called (nextIn z′ s) refl;
     }
 
 none-left : (rest : List (List ℕ)) (out out′ : List ℕ) (r : code-handed.Handed) → Tells rest out r out′

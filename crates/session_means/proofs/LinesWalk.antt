@@ -7,7 +7,7 @@ use mathlib.Core.Bool.{Bool, true, false, cond}
 use mathlib.Core.List.{List, [], _∷_}
 use lib.Dec.{leb, ltb}
 use lib.ListN.{length}
-use Rattle.refusals.specs.Outcomes.{Outcome, given, refused, Found, _>>=_, _>>_, unless}
+use Rattle.refusals.specs.Outcomes.{Outcome, given, refused, Found, found, _>>=_, _>>_, unless}
 use Rattle.refusals.specs.Refusals.{inputEnds, badForm, noSuchName}
 use Rattle.number.specs.Numbers.{currentWidth, numberAt}
 use Rattle.number.proofs.NumberLaws.{number-refusal}
@@ -22,7 +22,8 @@ use Rattle.file_means.proofs.GivesLaws.{Gives, gives-then, gives-after}
 use Rattle.file_means.proofs.BoardTrip.{BoardIsFine}
 use Rattle.file_means.proofs.ReadFine.{read-fine}
 use Rattle.lines.specs.Lines.{Line, closing}
-use Rattle.events.specs.Events.{Shown, eventAt, eventLine}
+use Rattle.events.specs.declared.Event.{Event}
+use Rattle.events.specs.Events.{Shown, eventOf, eventAt, eventLine}
 use Rattle.session.specs.Sessions.{Head, withAllowance, headAt, eventLines, linesFrom, headLines}
 use Rattle.session_means.specs.LinesDrawn.{EventShows}
 use Rattle.session_means.specs.EventRefusals.{ClosedByEvent}
@@ -41,21 +42,22 @@ pub record Along (h : Head) (Q : ℕ → State → List Line → Type 0) : Type 
 module _ (h : Head) (s : List ℕ) (fine : boardFine (h .board) ≡ true) (Q : ℕ → State → List Line → Type 0)
     (so : Along h Q) where
   -- the event's button is one of the board's; or the event is refused by 1, 2 or 7
-  abbrev EventRead : Outcome (Found ℕ) → Type 0
-  EventRead (given v) = ltb (v .value / 2) (h .board .counts .buttons) ≡ true
+  abbrev EventRead : Outcome (Found Event) → Type 0
+  EventRead (given v) = ltb (v .value .button) (h .board .counts .buttons) ≡ true
   EventRead (refused n p) = ClosedByEvent (closing n p)
 
-  event-read : (at : ℕ) → EventRead (eventAt (h .board) s at)
+  event-read : (at : ℕ) → EventRead (eventAt currentEdition (h .board .counts .buttons) s at)
   unfolding eventAt wanted
   event-read at = by (numberAt currentWidth s at) refl
     where
       below : (v : Found ℕ) (t : Bool) → ltb (v .value / 2) (h .board .counts .buttons) ≡ t
-          → EventRead (unless t noSuchName at >> given v)
+          → EventRead (unless t noSuchName at >> given v >>= λ v. found (eventOf (v .value)) (v .next))
       below v true e = e
       below v false e = inr (inr refl)
 
       by : (o : Outcome (Found ℕ)) → numberAt currentWidth s at ≡ o
-          → EventRead (o >>= λ v. unless (ltb (v .value / 2) (h .board .counts .buttons)) noSuchName at >> given v)
+          → EventRead ((o >>= λ v. unless (ltb (v .value / 2) (h .board .counts .buttons)) noSuchName at >> given v)
+          >>= λ v. found (eventOf (v .value)) (v .next))
       by (given v) is = below v _ refl
       by (refused n p) is = either (number-refusal currentWidth s at n p is)
         where
@@ -64,7 +66,7 @@ module _ (h : Head) (s : List ℕ) (fine : boardFine (h .board) ≡ true) (Q : �
           either (inr bad) = inr (inl (bad .0))
 
   -- event e, in state t that fits, and the lines after it
-  event-walk : (e : ℕ) (t : State) (o : Outcome (Found ℕ)) (go : State → ℕ → List Line)
+  event-walk : (e : ℕ) (t : State) (o : Outcome (Found Event)) (go : State → ℕ → List Line)
       → stateFine (h .board .counts) t ≡ true → EventRead o
       → ((u : State) (next : ℕ) → stateFine (h .board .counts) u ≡ true → Q (suc (suc e)) u (go u next))
       → Q (suc e) t (eventLines o (λ v. eventLine (h .board) (suc e) t v (h .allowance)) go)
@@ -79,13 +81,13 @@ module _ (h : Head) (s : List ℕ) (fine : boardFine (h .board) ≡ true) (Q : �
   unless-over e t false ls all = all
 
   lines-walk : (k : ℕ) (t : State) (e at : ℕ) → stateFine (h .board .counts) t ≡ true
-      → Q (suc e) t (linesFrom k (h .board) s t (suc e) at (h .allowance))
+      → Q (suc e) t (linesFrom currentEdition k (h .board) s t (suc e) at (h .allowance))
   unfolding linesFrom
   lines-walk zero t e at fits = so .none (suc e) t
   lines-walk (suc k) t e at fits =
       unless-over (suc e) t (leb (length s) at) _
-      (event-walk e t (eventAt (h .board) s at)
-      (λ u next. linesFrom k (h .board) s u (suc (suc e)) next (h .allowance)) fits (event-read at)
+      (event-walk e t (eventAt currentEdition (h .board .counts .buttons) s at)
+      (λ u next. linesFrom currentEdition k (h .board) s u (suc (suc e)) next (h .allowance)) fits (event-read at)
       (λ u next after. lines-walk k u (suc e) next after))
 
 -- ---- the session
@@ -93,7 +95,7 @@ module _ (h : Head) (s : List ℕ) (fine : boardFine (h .board) ≡ true) (Q : �
 abbrev pub HeadFine : Found Head → Type 0
 HeadFine h = boardFine (h .value .board) ≡ true
 
-pub head-fine : (s : List ℕ) → Gives HeadFine (headAt s)
+pub head-fine : (s : List ℕ) → Gives HeadFine (headAt currentEdition s)
 unfolding headAt withAllowance
 head-fine s =
     gives-then (BoardIsFine currentEdition s (reading currentEdition s .0)) HeadFine (reading currentEdition s .1) _
@@ -101,7 +103,7 @@ head-fine s =
     (λ at was. gives-after HeadFine (numberAt currentWidth s at) _ (λ w read. was .fine))
 
 pub head-walk : (h : Found Head) (s : List ℕ) → HeadFine h → (Q : ℕ → State → List Line → Type 0)
-    → Along (h .value) Q → Q 0 freshState (headLines (given h) s)
+    → Along (h .value) Q → Q 0 freshState (headLines currentEdition (given h) s)
 unfolding headLines
 head-walk h s fine Q so =
     let first =

@@ -13,6 +13,7 @@ use mathlib.Core.List.{List}
 use Rattle.lists.specs.Members.{All}
 use Rattle.refusals.specs.Outcomes.{given, refused, Found}
 use Rattle.refusals.specs.Refusals.{inputEnds, badForm, noSuchName, alreadySo}
+use Rattle.board_reader.specs.Editions.{currentEdition}
 use Rattle.lines.specs.Lines.{Line, event, closing}
 use Rattle.session.specs.Sessions.{Head, headAt, sessionLines}
 
@@ -22,11 +23,14 @@ OnlyTwelve (event e (refused n p) m d) = n ≡ alreadySo
 OnlyTwelve (closing n p) = Unit {0}
 
 abbrev pub EventsRefused : Type 0
-EventsRefused = (s : List ℕ) → All OnlyTwelve (sessionLines s)
+EventsRefused = (s : List ℕ) → All OnlyTwelve (sessionLines currentEdition s)
 
 abbrev pub ClosedByEvent : Line → Type 0
 ClosedByEvent (event e o m d) = Unit {0}
 ClosedByEvent (closing n p) = (n ≡ inputEnds) ⊎ ((n ≡ badForm) ⊎ (n ≡ noSuchName))
 
 abbrev pub EventsClosed : Type 0
-EventsClosed = (s : List ℕ) (h : Found Head) → headAt s ≡ given h → All ClosedByEvent (sessionLines s)
+EventsClosed =
+    (s : List ℕ) (h : Found Head)
+    → headAt currentEdition s ≡ given h
+    → All ClosedByEvent (sessionLines currentEdition s)

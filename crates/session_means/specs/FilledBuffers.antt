@@ -13,6 +13,7 @@ use mathlib.Core.Path.{_≡_}
 use mathlib.Core.List.{List, [], _∷_, _++_}
 use mathlib.Core.Logic.{_⊎_}
 use lib.ListN.{length}
+use Rattle.board_reader.specs.Editions.{currentEdition}
 use Rattle.lines.specs.Lines.{Line, longestLine}
 use Rattle.session.specs.declared.Session.{Session}
 use Rattle.session.specs.declared.Handed.{Handed}
@@ -36,7 +37,7 @@ HandsSome (l ∷ ls) out r out′ = SomeLines l ls out r out′
 pub record FilledSoFar (s : List ℕ) (z : Session) (t : List ℕ) : Type 0 where
   pub told : List Line
   pub rest : List Line
-  pub all : sessionLines s ≡ told ++ rest
+  pub all : sessionLines currentEdition s ≡ told ++ rest
   pub text : t ≡ printed (lineTexts told)
   pub next : (out out′ : List ℕ) (r : Handed) → longestLine ≤ length out → NextLines z s out r out′
       → HandsSome rest out r out′
@@ -55,4 +56,4 @@ AllFilled =
     → HandsOut NextLines s z ts z′
     → NextLines z′ s out r out′
     → r .answer ≡ Over
-    → printed ts ≡ sessionText s
+    → printed ts ≡ sessionText currentEdition s

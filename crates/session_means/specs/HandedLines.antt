@@ -16,6 +16,7 @@ use Prim.Native.Nat.{ℕ, _≤_}
 use mathlib.Core.Path.{_≡_}
 use mathlib.Core.List.{List, [], _∷_, _++_}
 use lib.ListN.{length, take, drop}
+use Rattle.board_reader.specs.Editions.{currentEdition}
 use Rattle.lines.specs.Lines.{longestLine}
 use Rattle.session.specs.declared.Session.{Session}
 use Rattle.session.specs.declared.Handed.{Handed}
@@ -52,7 +53,7 @@ Tells (t ∷ ts) out r out′ = PutsText t out r out′
 
 pub record SoFar (s : List ℕ) (z : Session) (ts : List (List ℕ)) : Type 0 where
   pub rest : List (List ℕ)
-  pub all : lineTexts (sessionLines s) ≡ ts ++ rest
+  pub all : lineTexts (sessionLines currentEdition s) ≡ ts ++ rest
   pub next : (out out′ : List ℕ) (r : Handed) → longestLine ≤ length out → NextLine z s out r out′
       → Tells rest out r out′
 
@@ -67,4 +68,4 @@ AllHandedOut =
     → HandsOut NextLine s z ts z′
     → NextLine z′ s out r out′
     → r .answer ≡ Over
-    → ts ≡ lineTexts (sessionLines s)
+    → ts ≡ lineTexts (sessionLines currentEdition s)

@@ -17,14 +17,16 @@ use mathlib.Core.List.{List, [], _∷_}
 use Rattle.refusals.specs.Outcomes.{given, Found}
 use Rattle.state.specs.declared.State.{State}
 use Rattle.state.specs.States.{freshState, stateFine}
+use Rattle.board_reader.specs.Editions.{currentEdition}
 use Rattle.lines.specs.Lines.{Line, event, closing}
+use Rattle.events.specs.declared.Event.{Event}
 use Rattle.events.specs.Events.{Shown, ranLine, eventLine}
 use Rattle.events.specs.Drawn.{sumBelow}
 use Rattle.session.specs.Sessions.{Head, headAt, sessionLines}
 
 abbrev pub EventShows : Head → ℕ → State → Shown → Type 0
 EventShows h zero t x = x ≡ ranLine (h .board) 0 t (h .allowance)
-EventShows h (suc e) t x = (v : ℕ) × (x ≡ eventLine (h .board) (suc e) t v (h .allowance))
+EventShows h (suc e) t x = (v : Event) × (x ≡ eventLine (h .board) (suc e) t v (h .allowance))
 
 pub record PrintsSum (h : Head) (e : ℕ) (t : State) (l : Line) (d : ℕ) (u : State) : Type 0 where
   pub shows : EventShows h e t (l, u)
@@ -37,4 +39,7 @@ SumsFrom h e t (event n o m d ∷ ls) = (u : State) × (PrintsSum h e t (event n
 SumsFrom h e t (closing n p ∷ ls) = ls ≡ []
 
 abbrev pub LinesDrawn : Type 0
-LinesDrawn = (s : List ℕ) (h : Found Head) → headAt s ≡ given h → SumsFrom (h .value) 0 freshState (sessionLines s)
+LinesDrawn =
+    (s : List ℕ) (h : Found Head)
+    → headAt currentEdition s ≡ given h
+    → SumsFrom (h .value) 0 freshState (sessionLines currentEdition s)

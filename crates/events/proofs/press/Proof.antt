@@ -1,4 +1,4 @@
--- `events::press` meets its contract: an odd event pushes, an even one releases.
+-- `events::press` meets its contract: the button is pushed or released, as the event says.
 use borrow.Author.Needs.{needs}
 use Rattle.events.proofs.press.Statement.{statement}
 use Rattle.events.proofs.press.Tie as tie

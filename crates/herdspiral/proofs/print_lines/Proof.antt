@@ -6,8 +6,7 @@ use native.Mathlib.Omega.{arith}
 use lib.ListN.{length}
 use borrow.Author.Needs.{needs}
 use borrow.Author.Tests.{not-true}
-use Rattle.session.specs.Carried.{toldSession}
-use Rattle.session.proofs.ToCome.{toCome}
+use Rattle.session.proofs.ToCome.{leftOf}
 use Rattle.session.proofs.FilledCalls.{filled-advances, filled-ends}
 use Rattle.session.proofs.FillLaws.{tag-never-line}
 use Rattle.herdspiral.proofs.print_lines.Statement.{statement}
@@ -17,7 +16,7 @@ abbrev Inv-loop : tie.InvT-loop
 Inv-loop input lines₀ session₀ lines session = length lines ≡ length lines₀
 
 abbrev μ-loop : tie.MeasureT-loop
-μ-loop input lines₀ session₀ lines session = toCome (toldSession session) input
+μ-loop input lines₀ session₀ lines session = leftOf session input
 
 returns : tie.Need-returns Inv-loop μ-loop
 returns c =

@@ -2,25 +2,20 @@
 use borrow.Author.Needs.{needs}
 use Rattle.neighbours.proofs.bridge.Statement.{statement}
 use Rattle.neighbours.proofs.bridge.Tie as tie
-use Prim.Native.Nat.{ℕ}
-use mathlib.Core.Path.{sym, ap, _∙_}
-use mathlib.Core.List.{List}
-use Rattle.neighbours.specs.Neighbours.{joining}
-use Rattle.neighbours.proofs.GatherLaws.{bridged-conducting, bridged-open}
+use mathlib.Core.Path.{sym, _∙_}
+use Rattle.neighbours.proofs.SetAtLaws.{bridge-conducting, bridge-open}
 
 returns : tie.Need-returns
 returns c =
     let args = c .before .before .before .before .args in
-    c .join2 .ensures
-    ∙ ap (λ (k : List ℕ). joining k (args .part .b) (args .part .a)) (c .before .join .ensures)
-    ∙ sym (bridged-conducting (args .state) (args .near) (args .part)
-    (sym (c .before .before .before .conducts .ensures) ∙ c .before .before .if1 .taken))
+    bridge-conducting (args .state) (args .part) _ _ _
+    (sym (c .before .before .before .conducts .ensures) ∙ c .before .before .if1 .taken)
+    (c .before .join .ensures) (c .join2 .ensures)
 
 returns-2 : tie.Need-returns-2
 returns-2 c =
-    let entry = c .before .before in
-    sym (bridged-open (entry .args .state) (entry .args .near) (entry .args .part)
-    (sym (c .before .conducts .ensures) ∙ c .if1 .left))
+    let args = c .before .before .args in
+    bridge-open (args .state) (args .part) _ (sym (c .before .conducts .ensures) ∙ c .if1 .left)
 
 pub bridge-spec : {M : Type 1} → statement M
 bridge-spec =

@@ -2,15 +2,17 @@
 use borrow.Author.Needs.{needs}
 use Rattle.neighbours.proofs.join.Statement.{statement}
 use Rattle.neighbours.proofs.join.Tie as tie
-use mathlib.Core.Path.{sym}
-use native.Mathlib.Omega.{arith}
-use lib.Seq.{set-out}
+use mathlib.Core.Path.{ap, _∙_}
+use Rattle.bits.specs.Sets.{including}
+use Rattle.neighbours.proofs.SetAtLaws.{join-beyond, join-inside}
 
 returns : tie.Need-returns
-returns c = sym (set-out _ _ _ (omega (arith, c .if1 .taken, c .before .good .0 .1 .0 .1)))
+returns c = join-beyond _ _ _ (c .if1 .taken)
 
 returns-2 : tie.Need-returns-2
-returns-2 c = simp (c .with .ensures, c .before .wide .ensures .0)
+returns-2 c =
+    join-inside _ _ _ _ (c .before .before .before .good .0 .1 .0 .1)
+    (c .with .ensures ∙ ap (including _) (c .before .wide .ensures .0))
 
 pub join-spec : {M : Type 1} → statement M
 join-spec =

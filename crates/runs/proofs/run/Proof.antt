@@ -1,63 +1,43 @@
--- `runs::run` meets its contract: each refusal leaves at once, in the order 15, 14, 13, and what is left is the course.
+-- `runs::run` meets its contract: what stands against it is asked in the order of the definition's lines, and where
+-- nothing does it is the course.
 use borrow.Author.Needs.{needs}
 use Rattle.runs.proofs.run.Statement.{statement}
 use Rattle.runs.proofs.run.Tie as tie
-use mathlib.Core.Path.{sym, _∙_}
-use borrow.Author.Tests.{not-true, not-false}
+use denote.Ref.{now}
+use mathlib.Core.Path.{ap, _∙_}
+use Rattle.refusals.specs.Order.{toldAgainst}
 use Rattle.board.proofs.FineLaws.{fine-range}
-use Rattle.state.proofs.StateLaws.{usable-broken, usable-beyond, usable-fine}
-use Rattle.runs.proofs.RunningLaws.{runnable-unusable, runnable-long, runnable-log, running-refused, running-ran}
-
-returns : tie.Need-returns
-returns c =
-    running-refused _ _ _ _ (c .refuse .result) _ _ (c .refuse .ensures)
-    (runnable-unusable _ _ _ _ _
-    (usable-broken _ _ (sym (c .before .before .check .ensures) ∙ not-true _ (c .before .if1 .taken))))
-
-returns-2 : tie.Need-returns-2
-returns-2 c =
-    running-refused _ _ _ _ (c .refuse2 .result) _ _ (c .refuse2 .ensures)
-    (runnable-unusable _ _ _ _ _
-    (usable-beyond _ _ (sym (c .before .before .before .before .before .check .ensures)
-    ∙ not-false _ (c .before .before .before .before .if1 .left))
-    (sym (c .before .before .fits2 .ensures) ∙ not-true _ (c .before .if2 .taken))))
-
-returns-3 : tie.Need-returns-3
-returns-3 c =
-    let at-check = c .before .before .before .before .before .before in
-    running-refused _ _ _ _ (c .refuse3 .result) _ _ (c .refuse3 .ensures)
-    (runnable-long _ _ _
-    (usable-fine _ _ (sym (at-check .check .ensures)
-    ∙ not-false _ (c .before .before .before .before .before .if1 .left))
-    (sym (c .before .before .before .fits2 .ensures) ∙ not-false _ (c .before .before .if2 .left)))
-    (c .before .if3 .taken))
+use Rattle.runs.proofs.RunningLaws.{runnable-given, runnable-asked, running-refused, running-ran}
 
 follow-requires : tie.Need-follow-requires
 follow-requires c κs =
-    let at-check = c .before .before .before .before .before .before in
-    fine-range _ (sym (at-check .check .ensures)
-    ∙ not-false _ (c .before .before .before .before .before .if1 .left)) .most-relays
+    let at-unless = c .before .before .before in
+    fine-range _ (runnable-given _ _ (now (at-unless .before .before .before .args .log))
+    (runnable-asked _ _ _ (at-unless .before .usable .ensures) (at-unless .unless .ensures)
+    ∙ ap toldAgainst (c .before .enum-told .given .1)) .0) .most-relays
 
-returns-4 : tie.Need-returns-4
-returns-4 c =
-    let at-fits2 = c .before .before .before .before .before .before in
-    let at-if1 = at-fits2 .before .before in
-    let at-check = at-if1 .before in
+returns : tie.Need-returns
+returns c =
+    let at-enum-told = c .before .before .before .before in
+    let at-unless = at-enum-told .before .before in
     running-ran _ _ _ _ _ (c .before .before .follow .ensures)
-    (runnable-log _ _ _ (usable-fine _ _ (sym (at-check .check .ensures) ∙ not-false _ (at-if1 .if1 .left))
-    (sym (at-fits2 .fits2 .ensures) ∙ not-false _ (c .before .before .before .before .before .if2 .left)))
-    (c .before .before .before .before .if3 .left))
+    (runnable-asked _ _ _ (at-unless .before .usable .ensures) (at-unless .unless .ensures)
+    ∙ ap toldAgainst (at-enum-told .enum-told .given .1))
+
+returns-2 : tie.Need-returns-2
+returns-2 c =
+    let at-against = c .before .before in
+    let at-unless = at-against .before .before in
+    running-refused _ _ _ _ (c .refuse .result) _ _ (c .refuse .ensures)
+    (runnable-asked _ _ _ (at-unless .before .usable .ensures) (at-unless .unless .ensures)
+    ∙ ap toldAgainst (at-against .against .given .1))
 
 pub run-spec : {M : Type 1} → statement M
 run-spec =
     tie.close
     (tie.spec
-    (λ c κs. search needs) (λ c κs. search needs)
-    returns
-    (λ c κs. search needs) (λ c κs. search needs)
-    returns-2
-    (λ c κs. search needs)
-    returns-3
+    (λ c κs. search needs) (λ c κs. search needs) (λ c. search needs)
     follow-requires
-    (λ c. search needs)
-    returns-4)
+    (λ c. search needs) (λ c κs. search needs) (λ c. search needs)
+    returns
+    returns-2)

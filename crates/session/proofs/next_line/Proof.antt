@@ -1,34 +1,15 @@
--- `session::next_line` meets its contract: 16 leaves at once; else what comes next is written, or nothing does.
+-- `session::next_line` meets its contract: the board and the allowance beside what `hand_line` hands on.
 use borrow.Author.Needs.{needs}
 use Rattle.session.proofs.next_line.Statement.{statement}
 use Rattle.session.proofs.next_line.Tie as tie
-use Rattle.session.proofs.NextLineLaws.{next-line-short, next-line-written, next-line-over}
+use Rattle.session.proofs.NextLineLaws.{next-line-carried}
 
 returns : tie.Need-returns
-returns c = next-line-short _ _ _ (c .if1 .taken)
-
-returns-2 : tie.Need-returns-2
-returns-2 c =
-    let at-write-line = c .before .before .before in
-    let at-coming = at-write-line .before .before .before in
-    let at-advance = at-coming .before .before .before in
-    next-line-written _ _ _ (at-advance .advance .result) (at-advance .before .if1 .left)
-    (at-advance .advance .ensures) _
-    (at-write-line .write-line .result) (c .answer-of .result) _ (at-coming .coming .given .1)
-    (at-write-line .write-line .ensures) (c .answer-of .ensures)
-
-returns-3 : tie.Need-returns-3
-returns-3 c =
-    let at-advance = c .before .before .before in
-    next-line-over _ _ _ (at-advance .advance .result) (at-advance .before .if1 .left)
-    (at-advance .advance .ensures) (c .enum-told .given .1)
+returns c =
+    let at-hand-line = c .before .before .before in
+    let entry = at-hand-line .before .before .before .before .before .before in
+    next-line-carried (entry .args .session) _ _ (at-hand-line .hand-line .result) _
+    (at-hand-line .hand-line .ensures)
 
 pub next-line-spec : {M : Type 1} → statement M
-next-line-spec =
-    tie.close
-    (tie.spec
-    returns
-    (λ c κs. search needs) (λ c. search needs) (λ c κs. search needs) (λ c κs. search needs) (λ c. search needs)
-    (λ c. search needs)
-    returns-2
-    returns-3)
+next-line-spec = tie.close (tie.spec (λ c κs. search needs) (λ c. search needs) returns)

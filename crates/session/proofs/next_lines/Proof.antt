@@ -4,45 +4,49 @@ use mathlib.Core.Path.{_≡_, _∙_}
 use native.Mathlib.Omega.{arith}
 use lib.ListN.{length}
 use borrow.Author.Needs.{needs}
-use Rattle.session.specs.Carried.{toldSession}
+use Rattle.session.specs.Carried.{headWith, toldAhead}
 use Rattle.session.proofs.next_lines.Statement.{statement}
 use Rattle.session.proofs.next_lines.Tie as tie
 use Rattle.session.proofs.FillLaws.{FilledTo, filled-none, filled-to-length, line-goes, line-ends}
-use Rattle.session.proofs.FillLaws.{Goes, tag-never-line}
+use Rattle.session.proofs.FillLaws.{Goes, tag-never-line, next-lines-carried}
 
 abbrev Inv-loop : tie.InvT-loop
-Inv-loop s out₀ session₀ used₀ out session used = FilledTo (toldSession session₀) s out₀ (toldSession session) out used
+Inv-loop s out₀ board allowance ahead₀ used₀ out ahead used =
+    FilledTo (headWith board allowance) (toldAhead ahead₀) s out₀ (toldAhead ahead) out used
 
 abbrev μ-loop : tie.MeasureT-loop
-μ-loop s out₀ session₀ used₀ out session used = length out₀ - used
+μ-loop s out₀ board allowance ahead₀ used₀ out ahead used = length out₀ - used
 
 line-at-requires : tie.Need-line-at-requires Inv-loop μ-loop
 line-at-requires c κs =
     let inv = c .before .loop .inv in
-    omega (arith, filled-to-length _ _ _ _ _ _ inv, inv .within)
+    omega (arith, filled-to-length _ _ _ _ _ _ _ inv, inv .within)
 
 same-length : tie.Need-same-length Inv-loop μ-loop
 same-length c =
     let at-line-at = c .before .before .before .before .before in
     let at-loop = at-line-at .before .before in
-    let kept : length (at-line-at .line-at .last .1 .1 .0) ≡ length (at-loop .loop .out) = search needs in
-    kept ∙ filled-to-length _ _ _ _ _ _ (at-loop .loop .inv)
+    let kept : length (at-line-at .line-at .last .1 .1 .1 .1 .0) ≡ length (at-loop .loop .out) = search needs in
+    kept ∙ filled-to-length _ _ _ _ _ _ _ (at-loop .loop .inv)
 
 returns : tie.Need-returns Inv-loop μ-loop
 returns c =
     let at-line-at = c .before .before .before .before .before in
     let at-loop = at-line-at .before .before in
-    line-ends _ _ _ _ _ _ (at-loop .loop .inv) (at-line-at .line-at .result) _ (at-line-at .line-at .ensures)
-    (tag-never-line _ (c .before .match .keys2)) (c .sum-up .result) (c .sum-up .ensures)
+    let entry = at-loop .before .before .before .before .before in
+    next-lines-carried (entry .args .session) _ _
+    (record { ahead = at-line-at .line-at .result .ahead; answer = c .sum-up .result }) _
+    (line-ends _ _ _ _ _ _ _ (at-loop .loop .inv) (at-line-at .line-at .result) _ (at-line-at .line-at .ensures)
+    (tag-never-line _ (c .before .match .keys2)) (c .sum-up .result) (c .sum-up .ensures))
 
 -- a line was handed out
 abbrev line-call : tie.After-known-told Inv-loop μ-loop → tie.After-line-at Inv-loop μ-loop
 line-call c = c .before .before .before .before .before .before
 
 goes : (c : tie.After-known-told Inv-loop μ-loop)
-    → Goes _ _ _ _ _ _ (line-call c .before .before .loop .inv) (line-call c .line-at .result) _
+    → Goes _ _ _ _ _ _ _ (line-call c .before .before .loop .inv) (line-call c .line-at .result) _
     (line-call c .line-at .ensures) (c .before .answer .given .0 .0)
-goes c = line-goes _ _ _ _ _ _ _ _ _ (line-call c .line-at .ensures) _ (c .before .answer .given .1)
+goes c = line-goes _ _ _ _ _ _ _ _ _ _ (line-call c .line-at .ensures) _ (c .before .answer .given .1)
 
 add-used : tie.Need-add-used Inv-loop μ-loop
 add-used c = omega (arith, goes c .filled-on .within)
@@ -56,7 +60,7 @@ next-lines-spec =
     (tie.spec
     Inv-loop
     μ-loop
-    (λ c. filled-none _ _ _)
+    (λ c. filled-none _ _ _ _)
     line-at-requires
     (λ c. search needs) (λ c κs. search needs)
     same-length

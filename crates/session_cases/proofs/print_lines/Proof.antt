@@ -3,8 +3,7 @@ use native.Mathlib.Omega.{arith}
 use lib.ListN.{length}
 use borrow.Author.Needs.{needs}
 use Rattle.lines.specs.Lines.{longestLine}
-use Rattle.session.specs.Carried.{toldSession}
-use Rattle.session.proofs.ToCome.{toCome}
+use Rattle.session.proofs.ToCome.{leftOf}
 use Rattle.session.proofs.CallLaws.{call-advances}
 use Rattle.session_cases.proofs.print_lines.Statement.{statement}
 use Rattle.session_cases.proofs.print_lines.Tie as tie
@@ -15,7 +14,7 @@ abbrev Inv-loop : tie.InvT-loop
 Inv-loop input line₀ session₀ line session = length line ≡ longestLine
 
 abbrev μ-loop : tie.MeasureT-loop
-μ-loop input line₀ session₀ line session = toCome (toldSession session) input
+μ-loop input line₀ session₀ line session = leftOf session input
 
 array-share-prefix-line : tie.Need-array-share-prefix-line Inv-loop μ-loop
 array-share-prefix-line c =

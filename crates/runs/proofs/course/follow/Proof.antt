@@ -15,11 +15,11 @@ use Rattle.runs.proofs.CourseLaws.{Course, ScanSoFar, course-starts, sc
 use Rattle.runs.proofs.CourseLaws.{course-idle, course-undecided, course-conflict, course-spent, course-moves}
 
 abbrev Inv-scan : tie.InvT-scan
-Inv-scan board log₀ allowance relays state₀ moves₀ near relay₀ log state moves relay =
-    ScanSoFar (stepper board allowance) (seeing board near allowance) relays log₀ moves₀ state₀ log moves state relay
+Inv-scan board log₀ allowance relays state₀ moves₀ sets relay₀ log state moves relay =
+    ScanSoFar (stepper board allowance) (seeing board sets allowance) relays log₀ moves₀ state₀ log moves state relay
 
 abbrev μ-scan : tie.MeasureT-scan
-μ-scan board log₀ allowance relays state₀ moves₀ near relay₀ log state moves relay = relays - relay
+μ-scan board log₀ allowance relays state₀ moves₀ sets relay₀ log state moves relay = relays - relay
 
 abbrev Inv-run : tie.InvT-run
 Inv-run board log₀ allowance relays state₀ moves₀ log state moves =
@@ -37,13 +37,13 @@ scan-holds c = scan-starts _ _ _ _ _ _ (step-seen _ _ _ _ (c .neighbours .ensure
 
 scan-again : tie.Need-scan-again Inv-scan μ-scan Inv-run μ-run
 scan-again c =
-    let at-if1 = c .before .before .before .before .before in
+    let at-if1 = c .before .before .before .before in
     scan-rests (at-if1 .before .scan .inv) (at-if1 .if1 .left) (c .before .before .before .wide .ensures .0)
     (c .before .before .step .ensures) (ap toldMove (c .enum-told .given .1))
 
 run-less : tie.Need-run-less Inv-scan μ-scan Inv-run μ-run
 run-less c =
-    let at-scan = c .before .before .before .before .before .before .before .before .before in
+    let at-scan = c .before .before .before .before .before .before .before .before in
     omega (
       arith,
       at-scan .scan .inv .same-moves,
@@ -54,7 +54,7 @@ run-less c =
 run-again : tie.Need-run-again Inv-scan μ-scan Inv-run μ-run
 run-again c =
     let at-step = c .before .before .before .before .before in
-    let at-if1 = at-step .before .before .before in
+    let at-if1 = at-step .before .before in
     let at-scan = at-if1 .before in
     course-moves (at-scan .scan .inv) (at-scan .before .before .run .inv) (at-if1 .if1 .left)
     (at-step .before .wide .ensures .0) (at-step .step .ensures)
@@ -70,12 +70,12 @@ returns c = course-idle (c .before .scan .inv) (c .before .before .before .run .
 
 same-length-2 : tie.Need-same-length-2 Inv-scan μ-scan Inv-run μ-run
 same-length-2 c =
-    let at-scan = c .before .before .before .before .before .before in
+    let at-scan = c .before .before .before .before .before in
     scan-long (at-scan .scan .inv) (at-scan .before .before .run .inv)
 
 returns-2 : tie.Need-returns-2 Inv-scan μ-scan Inv-run μ-run
 returns-2 c =
-    let at-if1 = c .before .before .before .before .before in
+    let at-if1 = c .before .before .before .before in
     let at-scan = at-if1 .before in
     course-undecided (at-scan .scan .inv) (at-scan .before .before .run .inv) (at-if1 .if1 .left)
     (c .before .before .before .wide .ensures .0) (c .before .before .step .ensures)
@@ -83,12 +83,12 @@ returns-2 c =
 
 same-length-3 : tie.Need-same-length-3 Inv-scan μ-scan Inv-run μ-run
 same-length-3 c =
-    let at-scan = c .before .before .before .before .before .before in
+    let at-scan = c .before .before .before .before .before in
     scan-long (at-scan .scan .inv) (at-scan .before .before .run .inv)
 
 returns-3 : tie.Need-returns-3 Inv-scan μ-scan Inv-run μ-run
 returns-3 c =
-    let at-if1 = c .before .before .before .before .before in
+    let at-if1 = c .before .before .before .before in
     let at-scan = at-if1 .before in
     course-conflict (at-scan .scan .inv) (at-scan .before .before .run .inv) (at-if1 .if1 .left)
     (c .before .before .before .wide .ensures .0) (c .before .before .step .ensures)
@@ -96,13 +96,13 @@ returns-3 c =
 
 same-length-4 : tie.Need-same-length-4 Inv-scan μ-scan Inv-run μ-run
 same-length-4 c =
-    let at-scan = c .before .before .before .before .before .before in
+    let at-scan = c .before .before .before .before .before in
     scan-long (at-scan .scan .inv) (at-scan .before .before .run .inv)
 
 returns-4 : tie.Need-returns-4 Inv-scan μ-scan Inv-run μ-run
 returns-4 c =
     let at-step = c .before .before in
-    let at-if1 = at-step .before .before .before in
+    let at-if1 = at-step .before .before in
     let at-scan = at-if1 .before in
     course-spent (at-scan .scan .inv) (at-scan .before .before .run .inv) (at-if1 .if1 .left)
     (at-step .before .wide .ensures .0) (at-step .step .ensures)

@@ -1,17 +1,17 @@
--- `session::fill::line_at` meets its contract: what `next_line` does with the buffer's part from a place on.
+-- `session::fill::line_at` meets its contract: what `hand_line` does with the buffer's part from a place on.
 use mathlib.Core.Path.{refl}
 use borrow.Author.Needs.{needs}
 use Rattle.session.proofs.fill.line_at.Statement.{statement}
 use Rattle.session.proofs.fill.line_at.Tie as tie
-use Rattle.session.specs.Carried.{toldSession}
+use Rattle.session.specs.Carried.{toldAhead}
 use Rattle.session.proofs.FillLaws.{line-at-by}
 
 returns : tie.Need-returns
 returns c =
-    let at-next-line = c .before .before in
-    let entry = at-next-line .before .before .before .before in
-    line-at-by (entry .args .out .now) (entry .args .at) (toldSession (entry .args .session)) (entry .args .s .now) _ _
-    (at-next-line .next-line .result) (at-next-line .next-line .ensures) refl
+    let at-hand-line = c .before .before in
+    let entry = at-hand-line .before .before .before .before in
+    line-at-by (entry .args .out .now) (entry .args .at) _ (toldAhead (entry .args .ahead)) (entry .args .s .now) _ _
+    (at-hand-line .hand-line .result) (at-hand-line .hand-line .ensures) refl
 
 pub line-at-spec : {M : Type 1} → statement M
 line-at-spec =

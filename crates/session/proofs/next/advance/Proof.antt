@@ -7,22 +7,22 @@ use Rattle.session.proofs.AdvanceLaws.{next-first, next-events, next-re
 
 returns : tie.Need-returns
 returns c =
-    let entry = c .before .before .before .before .before .before .before in
-    c .go-on .ensures ∙ next-first (entry .args .session) _ _
-    (c .before .before .before .before .enum-told .given .1) (c .before .run-line .ensures)
+    let at-stage = c .before .before .before in
+    c .go-on .ensures ∙ next-first _ (at-stage .before .before .before .args .ahead) _ _
+    (at-stage .enum-told .given .1) (c .before .run-line .ensures)
 
 returns-2 : tie.Need-returns-2
 returns-2 c =
-    c .next-event .ensures ∙ next-events (c .before .before .before .before .args .session) _
+    c .next-event .ensures ∙ next-events _ (c .before .before .before .before .args .ahead) _
     (c .before .enum-told2 .given .1)
 
 returns-3 : tie.Need-returns-3
 returns-3 c =
-    c .close .ensures ∙ next-refusing (c .before .before .before .before .before .args .session) _ _
+    c .close .ensures ∙ next-refusing _ (c .before .before .before .before .before .args .ahead) _ _
     (c .before .before .stage .given .1)
 
 returns-4 : tie.Need-returns-4
-returns-4 c = next-over (c .before .before .before .args .session) _ (c .enum-told3 .given .1)
+returns-4 c = next-over _ (c .before .before .before .args .ahead) _ (c .enum-told3 .given .1)
 
 pub advance-spec : {M : Type 1} → statement M
 advance-spec =

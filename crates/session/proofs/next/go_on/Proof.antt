@@ -6,9 +6,7 @@ use Rattle.session.proofs.next.go_on.Tie as tie
 use Rattle.session.proofs.AdvanceLaws.{goes-on-told}
 
 returns : tie.Need-returns
-returns c =
-    let entry = c .before .before .before in
-    goes-on-told (entry .args .session) (entry .args .shown) _ _ (c .following .ensures)
+returns c = goes-on-told (c .before .before .args .shown) _ _ _ (c .following .ensures)
 
 pub go-on-spec : {M : Type 1} → statement M
 go-on-spec = tie.close (tie.spec (λ c κs. search needs) returns)

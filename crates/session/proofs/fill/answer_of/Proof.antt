@@ -1,7 +1,7 @@
--- `session::answer_of` meets its contract: a length is a line of that length, a refusal stays one.
+-- `session::fill::answer_of` meets its contract: a length is a line of that length, a refusal stays one.
 use borrow.Author.Needs.{needs}
-use Rattle.session.proofs.answer_of.Statement.{statement}
-use Rattle.session.proofs.answer_of.Tie as tie
+use Rattle.session.proofs.fill.answer_of.Statement.{statement}
+use Rattle.session.proofs.fill.answer_of.Tie as tie
 use mathlib.Core.Path.{ap, sym}
 use Rattle.lines.specs.Lines.{toldLineWritten}
 use Rattle.session.specs.HandingOut.{writtenAnswer}

@@ -1,0 +1,201 @@
+-- What stands against each call is the first of its lines whose test fails, and what it leaves where that is a refusal:
+-- each call is defined by its lines, so one law of `refusals` has it for most of them.
+use Prim.Native.Nat.{ℕ}
+use mathlib.Core.Path.{_≡_, refl, sym, ap, subst, _∙_}
+use mathlib.Core.Bool.{Bool, true, false, cond}
+use mathlib.Core.List.{List, [], _∷_}
+use mathlib.Core.Option.{Option, none, some}
+use lib.Dec.{leb}
+use Rattle.refusals.specs.Outcomes.{Outcome, given, refused, _>>_}
+use Rattle.refusals.specs.Refusals.{noSuchWinding}
+use Rattle.refusals.specs.Order.{Order, firstNo, answering, against}
+use Rattle.refusals.proofs.OutcomeLaws.{refused-never}
+use Rattle.refusals.proofs.OrderLaws.{StandsAgainst, answering-stands, asks-append}
+use Rattle.number.specs.Numbers.{numberLines, numberWriting}
+use Rattle.board.specs.declared.Board.{Board}
+use Rattle.board.specs.Parts.{partsOf}
+use Rattle.state.specs.declared.State.{State}
+use Rattle.state.specs.States.{withPushed, withReleased, usableLines, left}
+use Rattle.presses.specs.Presses.{pushLines, releaseLines, pushing, releasing}
+use Rattle.board_writer.specs.declared.Written.{Written}
+use Rattle.board_writer.specs.declared.Written.the-variants.{Bytes, Refused}
+use Rattle.board_writer.specs.Writing.{writeLines, writing, toldWritten, bytesWritten}
+use Rattle.search.specs.declared.Winding.{Winding}
+use Rattle.search.specs.Verdicts.{Verdict, settled, unsettled, firstShown, effort, weighed, verdictBy, places}
+use Rattle.judge.specs.declared.Which.{Which}
+use Rattle.judge.specs.RelayWindings.{windingOf, isThere, orNoSuchWinding}
+use Rattle.judge.specs.Judging.{judgeLines, windingFor, verdictOn, judgedBy, judging}
+use Rattle.moves.specs.Steps.{Move, made, stepOf}
+use Rattle.moves.specs.Moving.{moveLines, movable, moving}
+use Rattle.runs.specs.Runs.{noRelay}
+use Rattle.runs.specs.Running.{Ran, runLines, ran, running}
+use Rattle.lines.specs.Lines.{Line, lineLines, lineWriting}
+use Rattle.session.specs.Carried.{Ahead, Session, Coming, line, no-line}
+use Rattle.session.specs.HandingOut.{HandedAhead, Handed, carrying, handedBy, lineHanded, nextLine}
+use Rattle.session.specs.Filling.{filledBy, linesHanded, nextLines}
+
+-- ---- writing into a buffer, which stays as lent where it is refused
+
+abbrev pub WriteStands : List ℕ → Order → Outcome ℕ × List ℕ → Type 0
+WriteStands out ls = StandsAgainst (λ x. x .0) (λ x. x .1 ≡ out) (firstNo ls)
+
+-- k bytes are written and the buffer becomes l, unless a line stands against it
+write-stands : (out l : List ℕ) (k : ℕ) (ls : Order)
+    → WriteStands out ls (answering (firstNo ls) (λ n p. (refused n p, out)) (λ u. (given k, l)))
+write-stands out l k ls = answering-stands _ _ _ _ (λ n p. (refl, refl)) refl (firstNo ls)
+
+pub writing-stands : (b : Board) (out : List ℕ) → WriteStands out (writeLines b out) (writing b out)
+unfolding writing
+writing-stands b out = write-stands out _ _ (writeLines b out)
+
+pub number-writing-stands : (v : ℕ) (out : List ℕ) (at : ℕ) → WriteStands out (numberLines v out at)
+    (numberWriting v out at)
+unfolding numberWriting
+number-writing-stands v out at = write-stands out _ _ (numberLines v out at)
+
+pub line-writing-stands : (l : Line) (out : List ℕ) → WriteStands out (lineLines out) (lineWriting l out)
+unfolding lineWriting
+line-writing-stands l out = write-stands out _ _ (lineLines out)
+
+pub nothing-written : (w : Written) (n p : ℕ) → toldWritten w ≡ refused n p → bytesWritten w ≡ 0
+nothing-written (Bytes k) n p e = absurd (refused-never n p k (sym e))
+nothing-written (Refused r) n p e = refl
+
+-- ---- a button, and a single move: what is left beside what the call came to
+
+abbrev pub LeftStands : {A : Type 0} → State → Outcome (Unit {0}) → State × Outcome A → Type 0
+LeftStands s = StandsAgainst (λ x. x .1) (λ x. x .0 ≡ s)
+
+left-stands : {A : Type 0} (s : State) (f : A → State) (o : Outcome A) → LeftStands s (against o) (left s f o)
+unfolding left
+left-stands s f (given a) = record { first = refl; left = λ n p e. absurd (refused-never n p a (sym e)) }
+left-stands s f (refused n p) = record { first = refl; left = λ m q e. refl }
+
+pub against-itself : (o : Outcome (Unit {0})) → against o ≡ o
+against-itself (given u) = refl
+against-itself (refused n p) = refl
+
+against-then : {A : Type 0} (o : Outcome (Unit {0})) (a : A) → against (o >> given a) ≡ o
+against-then (given u) a = refl
+against-then (refused n p) a = refl
+
+pub push-stands : (b : Board) (s : State) (n : ℕ) → LeftStands s (firstNo (pushLines b s n)) (pushing b s n)
+unfolding pushing
+push-stands b s n =
+    subst (λ o. LeftStands s o (pushing b s n)) (against-itself (firstNo (pushLines b s n)))
+    (left-stands s (λ u. withPushed s n) (firstNo (pushLines b s n)))
+
+pub release-stands : (b : Board) (s : State) (n : ℕ) → LeftStands s (firstNo (releaseLines b s n)) (releasing b s n)
+unfolding releasing
+release-stands b s n =
+    subst (λ o. LeftStands s o (releasing b s n)) (against-itself (firstNo (releaseLines b s n)))
+    (left-stands s (λ u. withReleased s n) (firstNo (releaseLines b s n)))
+
+pub move-stands : (b : Board) (s : State) (r w : ℕ) → LeftStands s (firstNo (moveLines b s r)) (moving b s r w)
+unfolding moving movable
+move-stands b s r w =
+    subst (λ o. LeftStands s o (moving b s r w)) (against-then (firstNo (moveLines b s r)) (stepOf b s r w))
+    (left-stands s (made s r) (firstNo (moveLines b s r) >> given (stepOf b s r w)))
+
+-- ---- judging
+
+settled-given : (e : ℕ) (c : Option (List ℕ)) → against (settled e c .finding) ≡ given tt
+settled-given e (some c) = refl
+settled-given e none = refl
+
+weighed-given : (t : List ℕ → Bool) (cs : List (List ℕ)) (w : ℕ) → against (weighed t cs w .finding) ≡ given tt
+unfolding weighed
+weighed-given t cs w = by (leb (effort t cs) w)
+  where
+    by : (within : Bool)
+        → against ((cond within (settled (effort t cs) (firstShown t cs)) (unsettled w)) .finding) ≡ given tt
+    by true = settled-given (effort t cs) (firstShown t cs)
+    by false = refl
+
+-- a refused judgement has no verdict, effort 0 and length 0
+abbrev pub NoVerdict : Verdict → Type 0
+NoVerdict v = (v .effort ≡ 0) × ((v .length ≡ 0) × (v .places ≡ places []))
+
+verdict-stands : (b : Board) (s : State) (w : ℕ) (o : Outcome Winding)
+    → StandsAgainst (λ (v : Verdict). v .finding) NoVerdict (against o) (verdictOn b s o w)
+unfolding judgedBy verdictBy
+verdict-stands b s w (given v) =
+    let gives = weighed-given _ _ w in
+    record { first = gives; left = λ n p e. absurd (refused-never n p tt (sym (ap against e) ∙ gives)) }
+verdict-stands b s w (refused n p) = record { first = refl; left = λ m q e. (refl, (refl, refl)) }
+
+-- 11 is asked as the last line, so the winding is there once it has passed
+asked-last : (o : Outcome (Unit {0})) (v : Option Winding)
+    → against ((o >> firstNo ((isThere v, noSuchWinding) ∷ [])) >> orNoSuchWinding v)
+    ≡ (o >> firstNo ((isThere v, noSuchWinding) ∷ []))
+unfolding firstNo
+asked-last (given u) (some v) = refl
+asked-last (given u) none = refl
+asked-last (refused n p) v = refl
+
+pub judge-stands : (b : Board) (s : State) (r : ℕ) (k : Which) (w : ℕ)
+    → StandsAgainst (λ (v : Verdict). v .finding) NoVerdict (firstNo (judgeLines b s r k)) (judging b s r k w)
+unfolding judging windingFor
+judge-stands b s r k w =
+    subst (λ o. StandsAgainst (λ (v : Verdict). v .finding) NoVerdict o (judging b s r k w)) lines
+    (verdict-stands b s w (windingFor b s r k))
+  where
+    winding : Option Winding
+    winding = windingOf k r (partsOf b)
+
+    split : firstNo (judgeLines b s r k)
+        ≡ (firstNo (usableLines b s) >> firstNo ((isThere winding, noSuchWinding) ∷ []))
+    split = asks-append (usableLines b s) ((isThere winding, noSuchWinding) ∷ [])
+
+    lines : against (firstNo (judgeLines b s r k) >> orNoSuchWinding winding) ≡ firstNo (judgeLines b s r k)
+    lines =
+        ap (λ (o : Outcome (Unit {0})). against (o >> orNoSuchWinding winding)) split
+        ∙ asked-last (firstNo (usableLines b s)) winding ∙ sym split
+
+-- ---- running
+
+-- a refused run leaves the state and the log as they were, with no moves and no relay
+abbrev pub NotRun : State → List ℕ → Ran → Type 0
+NotRun s log x = (x .state ≡ s) × ((x .moves ≡ 0) × ((x .relay ≡ noRelay) × (x .log ≡ log)))
+
+pub run-stands : (b : Board) (s : State) (log : List ℕ) (w : ℕ)
+    → StandsAgainst (λ (x : Ran). x .word) (NotRun s log) (firstNo (runLines b s log)) (running b s log w)
+unfolding running ran
+run-stands b s log w = answering-stands _ _ _ _ (λ n p. (refl, (refl, (refl, (refl, refl))))) refl (firstNo (runLines b s log))
+
+-- ---- the next line, and the next lines
+
+handed-given : (out : List ℕ) (x : Ahead × Coming) → against (handedBy x out .answer) ≡ given tt
+unfolding handedBy
+handed-given out (a, line l) = refl
+handed-given out (a, no-line) = refl
+
+filled-given : (out : List ℕ) (x : Ahead × List Line) → against (filledBy x out .answer) ≡ given tt
+unfolding filledBy
+filled-given out (a, []) = refl
+filled-given out (a, l ∷ ls) = refl
+
+-- x is handed out where the longest line has room; else the session z and the buffer stay
+abbrev pub HandStands : Session → List ℕ → Handed → Type 0
+HandStands z out =
+    StandsAgainst (λ (h : Handed). h .answer) (λ h. (h .session ≡ z) × (h .out ≡ out)) (firstNo (lineLines out))
+
+hand-stands : (z : Session) (out : List ℕ) (x : HandedAhead) → against (x .answer) ≡ given tt
+    → HandStands z out
+    (carrying z
+    (answering (firstNo (lineLines out)) (λ n p. record { ahead = z .ahead; answer = refused n p; out = out }) (λ u. x)))
+hand-stands z out x gives = by (firstNo (lineLines out))
+  where
+    by : (o : Outcome (Unit {0}))
+        → StandsAgainst (λ (h : Handed). h .answer) (λ h. (h .session ≡ z) × (h .out ≡ out)) o
+        (carrying z (answering o (λ n p. record { ahead = z .ahead; answer = refused n p; out = out }) (λ u. x)))
+    by (given u) = record { first = gives; left = λ n p e. absurd (refused-never n p tt (sym (ap against e) ∙ gives)) }
+    by (refused n p) = record { first = refl; left = λ m q e. (refl, refl) }
+
+pub next-line-stands : (z : Session) (s out : List ℕ) → HandStands z out (nextLine z s out)
+unfolding nextLine lineHanded
+next-line-stands z s out = hand-stands z out _ (handed-given out _)
+
+pub next-lines-stand : (z : Session) (s out : List ℕ) → HandStands z out (nextLines z s out)
+unfolding nextLines linesHanded
+next-lines-stand z s out = hand-stands z out _ (filled-given out _)
