@@ -12,7 +12,7 @@
 --     partFine c w p                   5 to 8 of the part p after parts that gave the windings w
 --     gainedAll w ps                   the windings once the parts ps have come too
 --     partsFine c w ps                 5 to 8 of each of the parts ps after parts that gave the windings w
---     rowAfter c w ps                  the windings after the parts ps, if 5 to 8 hold of none of them
+--     rowAfter c w ps                  the windings after the parts ps, where they are fine after the windings w
 --     boardFine b                      a board breaks no rule of refusals 3 to 9: 15 does not hold. 9 is asked once,
 --                                      after the last part
 --     toldRow                          the cases of a row that was checked, as `rowAfter` has them

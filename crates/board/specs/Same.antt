@@ -1,11 +1,11 @@
 -- When two boards are the same. Rule book: "Boards are compared by their counts and first C parts, each part by its
 -- kind and the fields the table gives it."
---     sameCounts           the same counts, field by field
---     alike same xs ys     the members of xs and ys are the same one by one, by the test `same`
---     samePart             the same part, by its kind and its fields
---     sameParts            the same parts one by one
---     sameBoard x y        boards x and y are the same
---     SameBoards x y r     promise: `same` of boards x and y answers r
+--     sameCounts          the same counts, field by field
+--     alike same xs ys    the members of xs and ys are the same one by one, by the test `same`
+--     samePart            the same part, by its kind and its fields
+--     sameParts           the same parts one by one
+--     sameBoard x y       boards x and y are the same
+--     SameBoards x y r    promise: `same` of boards x and y answers r
 use mathlib.Core.Path.{_≡_}
 use mathlib.Core.Bool.{Bool, true, false, _&&_}
 use mathlib.Core.List.{List, [], _∷_}

@@ -12,7 +12,7 @@
 --                           for a dropping winding
 --     fields k a b          the fields that the table gives a part of kind k on the terminals a and b, in its order
 --     mostFields            the most fields that a part has
---     inPlaces vs           numbers in the first of as many places, the unused ones 0
+--     inPlaces vs           the numbers vs in the first of as many places, the unused ones 0
 --     KindOf k n r          promise: `Kind::of` the number k and the name n answers r
 --     KindNumber k r        promise: `number` of kind k answers r
 --     KindName k r          promise: `name` of kind k answers r
