@@ -1,9 +1,10 @@
 -- Laws of a kind that carries a relay, and of a relay's windings among the parts: what the scan of a board's first C
 -- parts needs.
 use Prim.Native.Nat.{ℕ, _+_, _≤_, _<_}
+use native.Mathlib.Omega.{arith}
 use mathlib.Core.Path.{_≡_, refl, sym, ap, _∙_}
 use mathlib.Core.Logic.{_⊎_, ⊎-elim}
-use mathlib.Core.Bool.{Bool, true, false, cond}
+use mathlib.Core.Bool.{Bool, true, false, cond, _||_}
 use mathlib.Core.List.{List, [], _∷_}
 use mathlib.Core.Option.{Option, none, some}
 use lib.Dec.{eqb}
@@ -14,6 +15,7 @@ use Rattle.refusals.specs.Refusals.{noSuchWinding}
 use Rattle.refusals.proofs.OutcomeLaws.{refused-never, given-injective}
 use Rattle.refusals.proofs.Told.{Told}
 use Rattle.kinds.specs.declared.Kind.{Kind}
+use Rattle.kinds.specs.declared.Kind.the-variants as kind
 use Rattle.kinds.specs.Kinds.{kindNumber, nameOf}
 use Rattle.board.specs.declared.Part.{Part}
 use Rattle.board.specs.Parts.{blank}
@@ -24,7 +26,8 @@ use Rattle.judge.specs.declared.Which.{Which}
 use Rattle.judge.specs.declared.Which.the-variants.{First, Second}
 use Rattle.judge.specs.declared.Windings.{Windings}
 use Rattle.judge.specs.declared.Windings.the-variants.{Regular, Steel, Absent}
-use Rattle.judge.specs.RelayWindings.{isWinding, endsOf, windingOf, OfRelay, regular, steel, absent, ofRelay}
+use Rattle.judge.specs.RelayWindings.{isFirst, isSecond, isWinding, endsOf, windingOf, OfRelay, regular}
+use Rattle.judge.specs.RelayWindings.{steel, absent, ofRelay}
 use Rattle.judge.specs.RelayWindings.{windingsAt, windingNamed, orNoSuchWinding, toldWindings, seenWith}
 
 -- ---- a kind that carries a relay, by its number n and its name m
@@ -36,6 +39,53 @@ carries-same j r k n m number name e = rw (name, eq-eqb (kindNumber k) j (sym nu
 pub carries-other : (j r : ℕ) (k : Kind) (n : ℕ) → n ≡ kindNumber k → ¬ (n ≡ j) → false ≡ carries j r k
 unfolding carries
 carries-other j r k n number d = rw (ne-eqb (kindNumber k) j (λ e. d (number ∙ e))) refl
+
+-- ---- a kind that is a winding of a relay, by the name w that it carries
+
+or-none : (x : Bool) → x ≡ (x || false)
+or-none true = refl
+or-none false = refl
+
+abbrev winding : ℕ → Kind → Bool
+winding r k = isFirst r k || isSecond r k
+
+module _ (r n w : ℕ) (k : Kind) (name : w ≡ n) where
+  pub winds-regular : k ≡ kind.Regular n → eqb w r ≡ winding r k
+  unfolding carries
+  winds-regular is = rw (is, name) (or-none _ ∙ or-none _)
+
+  pub winds-drawing : k ≡ kind.Drawing n → eqb w r ≡ winding r k
+  unfolding carries
+  winds-drawing is = rw (is, name) (or-none _)
+
+  pub winds-dropping : k ≡ kind.Dropping n → eqb w r ≡ winding r k
+  unfolding carries
+  winds-dropping is = rw (is, name) refl
+
+-- what winds no relay
+pub winds-wire : (r : ℕ) (k : Kind) → k ≡ kind.Wire → false ≡ winding r k
+unfolding carries
+winds-wire r k is = rw is refl
+
+module _ (r n : ℕ) (k : Kind) where
+  pub winds-upper : k ≡ kind.Upper n → false ≡ winding r k
+  unfolding carries
+  winds-upper is = rw is refl
+
+  pub winds-lower : k ≡ kind.Lower n → false ≡ winding r k
+  unfolding carries
+  winds-lower is = rw is refl
+
+  pub winds-button : k ≡ kind.Button n → false ≡ winding r k
+  unfolding carries
+  winds-button is = rw is refl
+
+pub winds-neither : (r : ℕ) (k : Kind) → winding r k ≡ false → (false ≡ isFirst r k) × (false ≡ isSecond r k)
+winds-neither r k off = by (isFirst r k) (isSecond r k) off
+  where
+    by : (x y : Bool) → (x || y) ≡ false → (false ≡ x) × (false ≡ y)
+    by true y e = (sym e, cc)
+    by false y e = (refl, sym e)
 
 -- ---- the winding among the parts
 
@@ -81,6 +131,10 @@ seen-on t (some v) p rest = refl
 seen-on true none p rest = refl
 seen-on false none p rest = refl
 
+seen-still : (o : Option Winding) (p : Part) → o ≡ seenWith o p false
+seen-still (some v) p = refl
+seen-still none p = refl
+
 pub seen-all : (o : Option Winding) → orElse o none ≡ o
 seen-all (some v) = refl
 seen-all none = refl
@@ -96,6 +150,11 @@ module _ (n : Which) (r : ℕ) (l : List Part) (k i : ℕ) (all seen : Option Wi
       ∙ seen-on (isWinding n r (getD l i blank .kind)) seen (getD l i blank) (windingOf n r (drop (i + 1) (take k l)))
       ∙ ap (λ (o : Option Winding). orElse o (windingOf n r (drop (i + 1) (take k l))))
       (sym (more ∙ ap (seenWith seen (getD l i blank)) is))
+
+  -- a part that is no winding of the relay is passed
+  pub scan-past : i < k → i < length l → false ≡ isWinding n r (getD l i blank .kind)
+      → all ≡ orElse seen (windingOf n r (drop (i + 1) (take k l)))
+  scan-past below there is = scan-on seen false below there is (seen-still seen (getD l i blank))
 
   -- all the parts that count, or all the places of the array, have been passed
   scan-end : (k ≤ i) ⊎ (length l ≤ i) → all ≡ seen

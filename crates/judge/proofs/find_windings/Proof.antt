@@ -3,6 +3,7 @@
 use Rattle.judge.proofs.find_windings.Statement.{statement}
 use Rattle.judge.proofs.find_windings.Tie as tie
 use borrow.Author.Needs.{needs}
+use borrow.Author.Tests.{not-true}
 use native.Mathlib.Omega.{arith}
 use Prim.Native.Nat.{_-_}
 use mathlib.Core.Path.{_≡_, refl, sym, _∙_}
@@ -11,7 +12,7 @@ use lib.ListN.{length, length-map, take, drop}
 use Rattle.board.specs.Parts.{mostParts}
 use Rattle.judge.specs.declared.Which.the-variants.{First, Second}
 use Rattle.judge.specs.RelayWindings.{windingOf, toldSeen}
-use Rattle.judge.proofs.SoughtLaws.{orElse, scan-on, scan-windings}
+use Rattle.judge.proofs.SoughtLaws.{winds-neither, orElse, scan-on, scan-past, scan-windings}
 
 abbrev Inv-loop : tie.InvT-loop
 Inv-loop relay parts count first₀ second₀ i₀ first second i =
@@ -36,16 +37,31 @@ returns c =
     (loop .inv .1) (loop .inv .2)
     (inr (omega (arith, loop .inv .0, c .before .if1 .taken))) (c .of-relay .ensures)
 
+-- a part that is no winding of the relay is passed
 loop-again : tie.Need-loop-again Inv-loop μ-loop
 loop-again c =
-    let at-else = c .before .before .before .before .before in
+    let at-else = c .before .before .before in
+    let below = at-else .before .loop-test .taken in
+    let loop = at-else .before .before .loop in
+    let neither = winds-neither _ _ (sym (c .before .winds .ensures) ∙ not-true _ (c .if2 .taken)) in (
+      loop .inv .0,
+      scan-past First _ _ _ _ _ (toldSeen (loop .first)) (loop .inv .1) below
+          (omega (arith, loop .inv .0, at-else .if1 .left)) (neither .0),
+      scan-past Second _ _ _ _ _ (toldSeen (loop .second)) (loop .inv .2) below
+          (omega (arith, loop .inv .0, at-else .if1 .left)) (neither .1),
+    )
+
+loop-again-2 : tie.Need-loop-again-2 Inv-loop μ-loop
+loop-again-2 c =
+    let at-first = c .before .before .before in
+    let at-else = at-first .before .before .before .before in
     let below = at-else .before .loop-test .taken in
     let loop = at-else .before .before .loop in (
       loop .inv .0,
-      scan-on _ _ _ _ _ _ (toldSeen (loop .first)) (loop .inv .1) _ _ below
+      scan-on First _ _ _ _ _ (toldSeen (loop .first)) (loop .inv .1) _ _ below
           (omega (arith, loop .inv .0, at-else .if1 .left))
-          (c .before .before .before .is-first .ensures) (c .before .before .seen-with .ensures),
-      scan-on _ _ _ _ _ _ (toldSeen (loop .second)) (loop .inv .2) _ _ below
+          (at-first .is-first .ensures) (c .before .before .seen-with .ensures),
+      scan-on Second _ _ _ _ _ (toldSeen (loop .second)) (loop .inv .2) _ _ below
           (omega (arith, loop .inv .0, at-else .if1 .left))
           (c .before .carries .ensures) (c .seen-with2 .ensures),
     )
@@ -65,8 +81,9 @@ find-windings-spec =
     loop-holds
     (λ c κs. search needs)
     returns
-    (λ c. omega arith) (λ c. omega arith) (λ c κs. search needs) (λ c κs. search needs) (λ c κs. search needs)
-    (λ c κs. search needs) (λ c. omega arith) (λ c. omega arith)
+    (λ c. omega arith) (λ c. omega arith) (λ c. omega arith) (λ c κs. search needs) (λ c. omega arith)
     loop-again
+    (λ c κs. search needs) (λ c κs. search needs) (λ c κs. search needs) (λ c κs. search needs) (λ c. omega arith)
+    loop-again-2
     (λ c κs. search needs)
     returns-2)
