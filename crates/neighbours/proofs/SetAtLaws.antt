@@ -167,6 +167,9 @@ module _ (s : State) (l : List Part) (n i : ℕ) where
             (omega (arith, so .long, so .inside, more))));
       }
 
+  pub sets-walk-long : (near : List ℕ) → SetsFrom s l n i near → length near ≡ mostTerminals
+  sets-walk-long near so = ap length (so .here) ∙ sets-length s (drop i (take n l))
+
   pub sets-walk-ends : (near : List ℕ) → SetsFrom s l n i near → i ≤ 0 → near ≡ setsAt s (take n l)
   sets-walk-ends near so end =
       let none : i ≡ 0 = omega (arith, end) in

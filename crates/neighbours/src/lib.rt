@@ -1,4 +1,7 @@
 // Which parts of a board conduct in a state, and which terminals they join.
+ghost use mathlib.Core.Path.{_≡_};
+ghost use lib.ListN.{length};
+ghost use Rattle.board.specs.Rules.{mostTerminals};
 ghost use Rattle.neighbours.specs.Conduction.{Conducts};
 ghost use Rattle.neighbours.specs.Neighbours.{withOther, withPart, EachSet, Neighbours};
 use board::Board;
@@ -28,28 +31,26 @@ pub fn conducts(kind: Kind, state: State) -> bool
     }
 }
 
-// The sets with y joined to x besides; as they are where they have no place for x.
-fn join(near: [u64; 64], x: u8, y: u8) -> [u64; 64]
-    ensures { λ r. ⌜ EachSet near r (withOther x y) ⌝ }
+// Joins y to x besides; the sets stay as they are where they have no place for x.
+fn join(near: &mut [u64; 64], x: u8, y: u8)
+    requires { ⌜ length (now near) ≡ mostTerminals ⌝ }
+    ensures { λ _. ⌜ EachSet (now (near .entry)) (now (near .exit)) (withOther x y) ⌝ }
 {
-    if MOST_TERMINALS <= x {
-        return near;
+    if x < MOST_TERMINALS {
+        let place = x as usize;
+        near[place] = bits::with(near[place], bits::wide(y));
     }
-    let place = x as usize;
-    let mut next = near;
-    next[place] = bits::with(near[place], bits::wide(y));
-    next
 }
 
-// The sets with the ends of a part joined besides, in both directions, if it conducts.
-fn bridge(near: [u64; 64], part: Part, state: State) -> [u64; 64]
-    ensures { λ r. ⌜ EachSet near r (withPart state part) ⌝ }
+// Joins the ends of a part besides, in both directions, if it conducts.
+fn bridge(near: &mut [u64; 64], part: Part, state: State)
+    requires { ⌜ length (now near) ≡ mostTerminals ⌝ }
+    ensures { λ _. ⌜ EachSet (now (near .entry)) (now (near .exit)) (withPart state part) ⌝ }
 {
     let kind = part.kind;
     if conducts(kind, state) {
-        join(join(near, part.a, part.b), part.b, part.a)
-    } else {
-        near
+        join(near, part.a, part.b);
+        join(near, part.b, part.a);
     }
 }
 
@@ -68,8 +69,7 @@ pub fn neighbours(board: Board, state: State) -> Sets
     while 0 < i {
         i -= 1;
         let part = parts[i];
-        let next = bridge(near, part, state);
-        near = next;
+        bridge(&mut near, part, state);
     }
     Sets { near }
 }

@@ -7,10 +7,12 @@ use Rattle.neighbours.proofs.SetAtLaws.{bridge-conducting, bridge-open}
 
 returns : tie.Need-returns
 returns c =
-    let args = c .before .before .before .before .args in
+    let at-join = c .before .before in
+    let at-then = at-join .before .before in
+    let args = at-then .before .before .args in
     bridge-conducting (args .state) (args .part) _ _ _
-    (sym (c .before .before .before .conducts .ensures) ∙ c .before .before .if1 .taken)
-    (c .before .join .ensures) (c .join2 .ensures)
+    (sym (at-then .before .conducts .ensures) ∙ at-then .if1 .taken)
+    (at-join .join .ensures) (c .join2 .ensures)
 
 returns-2 : tie.Need-returns-2
 returns-2 c =
@@ -19,4 +21,9 @@ returns-2 c =
 
 pub bridge-spec : {M : Type 1} → statement M
 bridge-spec =
-    tie.close (tie.spec (λ c κs. search needs) (λ c κs. search needs) (λ c κs. search needs) returns returns-2)
+    tie.close (tie.spec
+    (λ c κs. search needs)
+    (λ c κs. c .before .before .before .pre)
+    (λ c κs. c .before .join .ensures .many ∙ c .before .before .before .before .before .pre)
+    returns
+    returns-2)

@@ -7,18 +7,18 @@ use Rattle.bits.specs.Sets.{including}
 use Rattle.neighbours.proofs.SetAtLaws.{join-beyond, join-inside}
 
 returns : tie.Need-returns
-returns c = join-beyond _ _ _ (c .if1 .taken)
+returns c =
+    join-inside _ _ _ _ (c .before .before .before .before .pre)
+    (c .with .ensures ∙ ap (including _) (c .before .wide .ensures .0))
 
 returns-2 : tie.Need-returns-2
-returns-2 c =
-    join-inside _ _ _ _ (c .before .before .before .good .0 .1 .0 .1)
-    (c .with .ensures ∙ ap (including _) (c .before .wide .ensures .0))
+returns-2 c = join-beyond _ _ _ (c .if1 .left)
 
 pub join-spec : {M : Type 1} → statement M
 join-spec =
     tie.close
     (tie.spec
-    returns
     (λ c. search needs) (λ c. search needs) (λ c κs. search needs) (λ c κs. search needs) (λ c. search needs)
     (λ c. search needs)
+    returns
     returns-2)

@@ -7,7 +7,7 @@ use mathlib.Core.Logic.{⊎-map}
 use mathlib.Core.List.{List}
 use lib.ListN.{length-map}
 use Rattle.neighbours.proofs.SetAtLaws.{neighbours-sets, SetsFrom, sets-walk-starts, sets-walk-on}
-use Rattle.neighbours.proofs.SetAtLaws.{sets-walk-ends}
+use Rattle.neighbours.proofs.SetAtLaws.{sets-walk-long, sets-walk-ends}
 use Rattle.neighbours.proofs.neighbours.Statement.{statement}
 use Rattle.neighbours.proofs.neighbours.Tie as tie
 
@@ -25,7 +25,7 @@ loop-holds c =
 
 loop-again : tie.Need-loop-again Inv-loop μ-loop
 loop-again c =
-    let in-loop = c .before .before .before in
+    let in-loop = c .before .before .before .before in
     sets-walk-on _ _ _ _ _ _ (in-loop .before .loop .inv) (omega (arith, in-loop .loop-test .taken))
     (c .bridge .ensures)
 
@@ -42,6 +42,7 @@ neighbours-spec =
     μ-loop
     loop-holds
     (λ c. omega arith) (λ c. omega arith) (λ c. omega (arith, c .before .before .loop .inv .inside))
-    (λ c κs. search needs) (λ c. omega arith)
+    (λ c κs. sets-walk-long _ _ _ _ _ (c .before .before .before .before .loop .inv))
+    (λ c. omega arith)
     loop-again
     returns)
