@@ -1,6 +1,6 @@
 -- Laws of a session's next line: each way out of `event_at`, of `advance` and of the functions under it, as the
 -- definition has it.
-use Prim.Native.Nat.{ℕ, suc, _+_, _/_, _%_, _<_, _≤_}
+use Prim.Native.Nat.{ℕ, suc, _+_, _/_, _<_, _≤_}
 use native.Mathlib.Omega.{arith}
 use mathlib.Core.Path.{_≡_, sym, ap, _∙_}
 use mathlib.Core.Bool.{Bool, true, false, cond}
@@ -9,7 +9,7 @@ use lib.Dec.{leb}
 use lib.ListN.{length}
 use borrow.Author.Tests.{le-leb, lt-leb, lt-ltb, le-ltb}
 use Rattle.refusals.specs.declared.Refusal.{Refusal}
-use Rattle.refusals.specs.Outcomes.{Outcome, Found, found, refused}
+use Rattle.refusals.specs.Outcomes.{found, refused}
 use Rattle.refusals.specs.Refusals.{noSuchName}
 use Rattle.number.specs.declared.Number.{Number}
 use Rattle.number.specs.declared.Number.the-variants as number-was

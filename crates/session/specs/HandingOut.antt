@@ -1,18 +1,19 @@
 -- Handing out a session's lines, one at a time, into a lent buffer. "Log and output buffer stay as lent"; "Written
 -- bytes begin the buffer; the rest stays."
---     HandOut                     so many bytes of a line or of lines, or none
---     HandedAhead                    what is ahead after a call, the answer, and the buffer afterwards
---     Handed                      the session to carry on, the answer, and the buffer afterwards
---     carrying z x                what is handed out with the session z to carry on, where x is handed on
---     writtenAnswer o             the answer where writing the line came to o; only for the inner function `answer_of`
---     handedBy x out              what is handed on where x comes next
---     lineHanded h a s out        what is handed on of the session with the head h and a ahead, by the current edition:
---                                 16 if the longest line has no room in the buffer, and then a as given
---     nextLine z s out            the call
---     toldHandOut                 the answer's cases in these words and the rule book's numbers
---     toldHandedAhead, toldHanded    the answer and the buffer afterwards
---     NextLine z s out r out′     promise: `next_line` of session z on the input s, into the buffer `out`, answers r
---                                 and leaves the buffer out′
+--     HandOut                    so many bytes of a line or of lines, or none
+--     HandedAhead                what is ahead after a call, the answer, and the buffer afterwards
+--     Handed                     the session to carry on, the answer, and the buffer afterwards
+--     carrying z x               what is handed out with the session z to carry on, where x is handed on
+--     writtenAnswer o            the answer where writing the line came to o; only for the inner function `answer_of`
+--     handedBy x out             what is handed on where x comes next
+--     lineHanded h a s out       what is handed on of the session with the head h and a ahead, by the current edition:
+--                                16 if the longest line has no room in the buffer, and then a as given
+--     nextLine z s out           the call
+--     toldHandOut                the answer's cases in these words and the rule book's numbers
+--     toldHandedAhead r o        the answer r of an inner function, with the buffer o afterwards
+--     toldHanded r o             the answer r, with the buffer o afterwards
+--     NextLine z s out r out′    promise: `next_line` of session z on the input s, into the buffer `out`, answers r and
+--                                leaves the buffer out′
 use Prim.Native.Nat.{ℕ}
 use mathlib.Core.Path.{_≡_}
 use mathlib.Core.List.{List, _++_}
