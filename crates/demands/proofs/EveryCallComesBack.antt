@@ -27,7 +27,8 @@ use Rattle.session.specs.declared.Session as code-session
 use Rattle.session.specs.declared.Handed as code-handed
 use Rattle.session.proofs.ToldLaws.{session-told}
 use Rattle.demands.specs.EveryCallComesBack.{InOrder, AsLent, EveryCallComesBack, wordOf}
-use Rattle.demands.proofs.StandsLaws.{writing-stands, number-writing-stands, line-writing-stands, nothing-written}
+use Rattle.demands.proofs.StandsLaws.{writing-stands, number-writing-stands, line-writing-stands}
+use Rattle.demands.proofs.StandsLaws.{nothing-written}
 use Rattle.demands.proofs.StandsLaws.{against-itself, push-stands, release-stands, move-stands, judge-stands}
 use Rattle.demands.proofs.StandsLaws.{run-stands, next-line-stands, next-lines-stand}
 use Rattle.demands.proofs.EventLineLaws.{ran-line-stands, event-line-stands, shown-untouched}

@@ -161,7 +161,8 @@ NotRun s log x = (x .state ≡ s) × ((x .moves ≡ 0) × ((x .relay ≡ noRelay
 pub run-stands : (b : Board) (s : State) (log : List ℕ) (w : ℕ)
     → StandsAgainst (λ (x : Ran). x .word) (NotRun s log) (firstNo (runLines b s log)) (running b s log w)
 unfolding running ran
-run-stands b s log w = answering-stands _ _ _ _ (λ n p. (refl, (refl, (refl, (refl, refl))))) refl (firstNo (runLines b s log))
+run-stands b s log w =
+    answering-stands _ _ _ _ (λ n p. (refl, (refl, (refl, (refl, refl))))) refl (firstNo (runLines b s log))
 
 -- ---- the next line, and the next lines
 
@@ -183,7 +184,8 @@ HandStands z out =
 hand-stands : (z : Session) (out : List ℕ) (x : HandedAhead) → against (x .answer) ≡ given tt
     → HandStands z out
     (carrying z
-    (answering (firstNo (lineLines out)) (λ n p. record { ahead = z .ahead; answer = refused n p; out = out }) (λ u. x)))
+    (answering (firstNo (lineLines out)) (λ n p. record { ahead = z .ahead; answer = refused n p; out = out })
+    (λ u. x)))
 hand-stands z out x gives = by (firstNo (lineLines out))
   where
     by : (o : Outcome (Unit {0}))

@@ -33,7 +33,8 @@ asks-then ls t n o so =
     ∙ sym (asks-append ls ((t, n) ∷ []))
 
 -- where nothing stands against a call, each of its tests holds
-pub first-holds : (t : Bool) (n : ℕ) (ls : Order) → firstNo ((t, n) ∷ ls) ≡ given tt → (t ≡ true) × (firstNo ls ≡ given tt)
+pub first-holds : (t : Bool) (n : ℕ) (ls : Order) → firstNo ((t, n) ∷ ls) ≡ given tt
+    → (t ≡ true) × (firstNo ls ≡ given tt)
 unfolding firstNo
 first-holds true n ls h = (refl, h)
 first-holds false n ls h = absurd (refused-never n 0 tt h)

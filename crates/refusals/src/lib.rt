@@ -48,8 +48,8 @@ pub enum Against {
 }
 
 impl Against {
-    // The next line of a call, after what stands against it so far: refused by its number unless its test holds. A call's
-    // place is 0.
+    // The next line of a call, after what stands against it so far: refused by its number unless its test holds. A
+    // call's place is 0.
     pub fn unless(self, holds: bool, number: u32) -> Self
         ensures { λ r. ⌜ AsksNext self holds number r ⌝ }
     {

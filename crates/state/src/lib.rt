@@ -1,7 +1,7 @@
 // The state of a board: which relays are drawn and which buttons are pushed, and its methods; and what every call on a
 // board and a state asks first.
-ghost use Rattle.state.specs.States.{StateFresh, StateDraws, StateDrops, StatePushes, StateReleases, StateIsDrawn};
-ghost use Rattle.state.specs.States.{StateIsPushed, StateFits, Usable};
+ghost use Rattle.state.specs.States.{StateFresh, StateDraws, StateDrops, StatePushes, StateReleases};
+ghost use Rattle.state.specs.States.{StateIsDrawn, StateIsPushed, StateFits, Usable};
 use board::Board;
 use board::Counts;
 use refusals::Against;

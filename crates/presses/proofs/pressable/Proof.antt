@@ -12,5 +12,6 @@ pressable-spec =
     (tie.spec
     (λ c κs. search needs) (λ c κs. search needs) (λ c κs. search needs) (λ c κs. search needs)
     (λ c.
-    pressable-asked _ _ _ _ (c .before .before .before .usable .ensures) (ap (ltb _) (c .before .before .wide .ensures .0))
+    pressable-asked _ _ _ _ (c .before .before .before .usable .ensures)
+    (ap (ltb _) (c .before .before .wide .ensures .0))
     (c .before .unless .ensures) (c .unless2 .ensures)))
