@@ -235,4 +235,4 @@ the-winding b s r n e = (
 )
 
 pub every-relay-wound : EveryRelayWound
-every-relay-wound b r fine = (regular-wound b r, steel-wound b r)
+every-relay-wound b r = (regular-wound b r, steel-wound b r)

@@ -12,8 +12,7 @@
 --                           winding of the relay
 --     RegularWound b r      relay r has a first winding, of kind regular, and no second
 --     SteelWound b r        relay r has a first winding, of kind drawing, and a second, of kind dropping
---     EveryRelayWound       of a board that breaks no rule, each regular relay is wound the one way and each steel-core
---                           relay the other
+--     EveryRelayWound       each regular relay is wound the one way and each steel-core relay the other
 use Prim.Native.Nat.{ℕ, _≤_}
 use mathlib.Core.Path.{_≡_}
 use mathlib.Core.Logic.{_⊎_, _↔_}
@@ -77,5 +76,4 @@ pub record SteelWound (b : Board) (r : ℕ) : Type 0 where
 abbrev pub EveryRelayWound : Type 0
 EveryRelayWound =
     (b : Board) (r : ℕ)
-    → boardFine b ≡ true
     → (isRegular r (partsOf b) → RegularWound b r) × (isSteel r (partsOf b) → SteelWound b r)

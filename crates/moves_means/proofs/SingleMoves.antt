@@ -93,7 +93,7 @@ module _ (b : Board) (s : State) (r w : ℕ) (a : Moved) (moves : Moves b s r w 
 -- ---- the theorems
 
 pub step-exactly : StepExactly
-step-exactly b w s r m fine fits below =
+step-exactly b w s r m fine below =
     let means = step-means b w s r fine below in (
       λ is. subst (λ (m : Move). Comes b s r m w) is means,
       λ comes. comes-exclusive b w s r (stepOf b s r w) m means comes,
@@ -102,7 +102,7 @@ step-exactly b w s r m fine fits below =
 pub move-exactly : MoveExactly
 move-exactly b s r w a m moves taken =
     let fit = movable-given b s r taken in
-    let exactly = step-exactly b w s r m (fit .0) (fit .1) (fit .2) in
+    let exactly = step-exactly b w s r m (fit .0) (fit .2) in
     let told = call-moved b s r w a moves taken in
     let answers : toldMoveAnswer (a .answer) ≡ given (stepOf b s r w) = λ i. told i .1 in
     let leaves : a .state ≡ made s r (stepOf b s r w) = λ i. told i .0 in

@@ -44,7 +44,6 @@ abbrev pub StepExactly : Type 0
 StepExactly =
     (b : Board) (w : ℕ) (s : State) (r : ℕ) (m : Move)
     → boardFine b ≡ true
-    → stateFine (b .counts) s ≡ true
     → r < b .counts .relays
     → stepOf b s r w ≡ m ↔ Comes b s r m w
 

@@ -1,14 +1,14 @@
 -- Laws of the calls that push and release a button: that an answer is known by what it tells, when 12 alone can stand
 -- against it, and what the proofs of `pressable`, `leave`, `push` and `release` need.
 use Prim.Native.Nat.{ℕ}
-use mathlib.Core.Path.{_≡_, refl, sym, ap, _∙_}
+use mathlib.Core.Path.{_≡_, refl}
 use mathlib.Core.Bool.{Bool, true}
 use mathlib.Core.List.{[], _∷_, _++_}
 use lib.Dec.{ltb}
 use Rattle.refusals.specs.declared.Refusal.{Refusal}
 use Rattle.refusals.specs.declared.Against.{Against}
 use Rattle.refusals.specs.declared.Against.the-variants as stands
-use Rattle.refusals.specs.Outcomes.{Outcome, given, refused, unless, _>>_}
+use Rattle.refusals.specs.Outcomes.{Outcome, given, unless, _>>_}
 use Rattle.refusals.specs.Refusals.{noSuchName, alreadySo}
 use Rattle.refusals.specs.Order.{firstNo, toldAgainst}
 use Rattle.refusals.proofs.OrderLaws.{asks-first, asks-then}
@@ -41,11 +41,9 @@ pub pressable-asked : (b : Board) (s : State) (n : ℕ) (settable : Bool) {t : B
     → o ≡ usable b s → t ≡ ltb n (b .counts .buttons) → p ≡ (o >> unless t noSuchName 0)
     → q ≡ (p >> unless settable alreadySo 0) → q ≡ firstNo (pressLines b s n settable)
 unfolding usable
-pressable-asked b s n settable {t} {o} {p} first there second third =
-    third
-    ∙ asks-then (usableLines b s ++ ((t, noSuchName) ∷ [])) settable alreadySo p
-    (second ∙ asks-then (usableLines b s) t noSuchName o first)
-    ∙ ap (λ (x : Bool). firstNo (usableLines b s ++ ((x, noSuchName) ∷ (settable, alreadySo) ∷ []))) there
+pressable-asked b s n settable first there second third =
+    asks-then (usableLines b s ++ ((ltb n (b .counts .buttons), noSuchName) ∷ [])) alreadySo
+    (asks-then (usableLines b s) noSuchName first there second) refl third
 
 -- ---- on a board and in a state that a call can use, with a button that is there, nothing stands against it but 12
 

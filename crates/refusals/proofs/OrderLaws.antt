@@ -3,8 +3,7 @@
 use Prim.Native.Nat.{ℕ}
 use mathlib.Core.Path.{_≡_, refl, sym, ap, _∙_}
 use mathlib.Core.Bool.{Bool, true, false}
-use mathlib.Core.List.{List, [], _∷_, _++_}
-use Rattle.refusals.specs.declared.Refusal.{Refusal}
+use mathlib.Core.List.{[], _∷_, _++_}
 use Rattle.refusals.specs.declared.Against.{Against}
 use Rattle.refusals.specs.declared.Against.the-variants.{Nothing, Refused}
 use Rattle.refusals.specs.Outcomes.{Outcome, given, refused, _>>_, unless}
@@ -24,13 +23,15 @@ asks-append [] ms = refl
 asks-append ((true, n) ∷ ls) ms = asks-append ls ms
 asks-append ((false, n) ∷ ls) ms = refl
 
--- what stands so far, o, after which one line more is asked and then those that follow
-pub asks-then : (ls : Order) (t : Bool) (n : ℕ) (o : Outcome (Unit {0})) → o ≡ firstNo ls
-    → (o >> unless t n 0) ≡ firstNo (ls ++ ((t, n) ∷ []))
-asks-then ls t n o so =
-    ap (λ (x : Outcome (Unit {0})). x >> unless t n 0) so
-    ∙ ap (λ (x : Outcome (Unit {0})). firstNo ls >> x) (sym (asks-first t n))
-    ∙ sym (asks-append ls ((t, n) ∷ []))
+-- what stands so far, o, after which one line more is asked, by a test t that is the line's test u
+pub asks-then : (ls : Order) (n : ℕ) {t u : Bool} {o q : Outcome (Unit {0})} → o ≡ firstNo ls → t ≡ u
+    → q ≡ (o >> unless t n 0) → q ≡ firstNo (ls ++ ((u, n) ∷ []))
+asks-then ls n {t} {u} first same next =
+    next
+    ∙ ap (λ (x : Outcome (Unit {0})). x >> unless t n 0) first
+    ∙ ap (λ (x : Bool). firstNo ls >> unless x n 0) same
+    ∙ ap (λ (x : Outcome (Unit {0})). firstNo ls >> x) (sym (asks-first u n))
+    ∙ sym (asks-append ls ((u, n) ∷ []))
 
 -- where nothing stands against a call, each of its tests holds
 pub first-holds : (t : Bool) (n : ℕ) (ls : Order) → firstNo ((t, n) ∷ ls) ≡ given tt

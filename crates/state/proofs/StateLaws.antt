@@ -12,7 +12,7 @@ use Rattle.bits.proofs.SetLaws.{within-excluding}
 use Rattle.refusals.specs.Outcomes.{Outcome, given, refused, _>>_, unless}
 use Rattle.refusals.specs.Refusals.{stateBeyondBoard, brokenBoard}
 use Rattle.refusals.specs.Order.{Order, firstNo}
-use Rattle.refusals.proofs.OrderLaws.{asks-first, asks-append, asks-then, first-holds}
+use Rattle.refusals.proofs.OrderLaws.{asks-append, asks-then, first-holds}
 use Rattle.board.specs.declared.Counts.{Counts}
 use Rattle.board.specs.declared.Board.{Board}
 use Rattle.board.specs.Rules.{boardFine}
@@ -115,14 +115,6 @@ module _ (c : Counts) (s : State) (n : ℕ) (fine : stateFine c s ≡ true) wher
 -- ---- a board and a state that a call can use
 
 module _ (b : Board) (s : State) where
-  pub usable-broken : boardFine b ≡ false → usable b s ≡ refused brokenBoard 0
-  unfolding usable firstNo
-  usable-broken off = rw off refl
-
-  pub usable-beyond : boardFine b ≡ true → stateFine (b .counts) s ≡ false → usable b s ≡ refused stateBeyondBoard 0
-  unfolding usable firstNo
-  usable-beyond fine off = rw (fine, off) refl
-
   pub usable-fine : boardFine b ≡ true → stateFine (b .counts) s ≡ true → usable b s ≡ given tt
   unfolding usable firstNo
   usable-fine fine fits = rw (fine, fits) refl
@@ -166,11 +158,8 @@ module _ (c : Counts) (s : State) (r : ℕ) (relays : r ≡ c .relays) where
 -- ---- the two lines one after the other, for the proof of `usable`
 
 pub usable-asked : (b : Board) (s : State) {t u : Bool} {o q : Outcome (Unit {0})} → t ≡ boardFine b
-    → o ≡ unless t brokenBoard 0 → u ≡ stateFine (b .counts) s → q ≡ (o >> unless u stateBeyondBoard 0)
+    → u ≡ stateFine (b .counts) s → o ≡ unless t brokenBoard 0 → q ≡ (o >> unless u stateBeyondBoard 0)
     → q ≡ usable b s
-unfolding usable
-usable-asked b s {t} {u} {o} {q} board first state second =
-    second
-    ∙ asks-then ((t, brokenBoard) ∷ []) u stateBeyondBoard o (first ∙ sym (asks-first t brokenBoard))
-    ∙ ap (λ (x : Bool). firstNo ((x, brokenBoard) ∷ (u, stateBeyondBoard) ∷ [])) board
-    ∙ ap (λ (x : Bool). firstNo ((boardFine b, brokenBoard) ∷ (x, stateBeyondBoard) ∷ [])) state
+unfolding usable firstNo
+usable-asked b s board state first second =
+    asks-then ((boardFine b, brokenBoard) ∷ []) stateBeyondBoard (asks-then [] brokenBoard refl board first) state second

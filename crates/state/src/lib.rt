@@ -99,6 +99,9 @@ impl State {
 pub fn usable(board: Board, state: State) -> Against
     ensures { λ r. ⌜ Usable board state r ⌝ }
 {
-    let fine = Against::Nothing.unless(board::check(board), BROKEN_BOARD);
-    fine.unless(state.fits(board.counts), STATE_BEYOND_BOARD)
+    let sound = board::check(board);
+    let fits = state.fits(board.counts);
+    Against::Nothing
+        .unless(sound, BROKEN_BOARD)
+        .unless(fits, STATE_BEYOND_BOARD)
 }

@@ -10,7 +10,6 @@ usable-spec =
     (tie.spec
     (λ c κs. search needs) (λ c κs. search needs) (λ c κs. search needs) (λ c κs. search needs)
     (λ c.
-    let at-fits = c .before in
-    let at-unless = at-fits .before in
-    usable-asked _ _ (at-unless .before .check .ensures) (at-unless .unless .ensures) (at-fits .fits2 .ensures)
+    let at-fits = c .before .before in
+    usable-asked _ _ (at-fits .before .check .ensures) (at-fits .fits2 .ensures) (c .before .unless .ensures)
     (c .unless2 .ensures)))
