@@ -25,10 +25,10 @@ use Rattle.search.specs.Verdicts.{Verdict, settled, unsettled, firstShown, effo
 use Rattle.judge.specs.declared.Which.{Which}
 use Rattle.judge.specs.RelayWindings.{windingOf, isThere, orNoSuchWinding}
 use Rattle.judge.specs.Judging.{judgeLines, windingFor, verdictOn, judgedBy, judging}
-use Rattle.moves.specs.Steps.{Move, made, stepOf}
+use Rattle.moves.specs.Steps.{made, stepOf}
 use Rattle.moves.specs.Moving.{moveLines, movable, moving}
 use Rattle.runs.specs.Runs.{noRelay}
-use Rattle.runs.specs.Running.{Ran, runLines, ran, running}
+use Rattle.runs.specs.Running.{Ran, runLines, runnable, ran, running}
 use Rattle.lines.specs.Lines.{Line, lineLines, lineWriting}
 use Rattle.session.specs.Carried.{Ahead, Session, Coming, line, no-line}
 use Rattle.session.specs.HandingOut.{HandedAhead, Handed, carrying, handedBy, lineHanded, nextLine}
@@ -160,7 +160,7 @@ NotRun s log x = (x .state ≡ s) × ((x .moves ≡ 0) × ((x .relay ≡ noRelay
 
 pub run-stands : (b : Board) (s : State) (log : List ℕ) (w : ℕ)
     → StandsAgainst (λ (x : Ran). x .word) (NotRun s log) (firstNo (runLines b s log)) (running b s log w)
-unfolding running ran
+unfolding running runnable ran
 run-stands b s log w =
     answering-stands _ _ _ _ (λ n p. (refl, (refl, (refl, (refl, refl))))) refl (firstNo (runLines b s log))
 

@@ -21,7 +21,7 @@ use Rattle.moves.specs.Steps.{regularMove, steelMove, decide, findingsOn, stepB
 use Rattle.moves.specs.Moving.{movable, moving}
 use Rattle.runs.specs.Looks.{lookFrom}
 use Rattle.runs.specs.Runs.{runOf}
-use Rattle.runs.specs.Running.{ran, running}
+use Rattle.runs.specs.Running.{runnable, ran, running}
 use Rattle.lines.specs.Texts.{digitsOf, decimal}
 use Rattle.lines.specs.Lines.{lineText}
 use Rattle.events.specs.Events.{eventAt, pressing, ranLine, pressedLine, eventLine}
@@ -40,7 +40,7 @@ unfolding firstNo kindOf below form placed numberAt member including excluding w
     wanted countsAt nameAt partAt partsAt boardFrom boardAt answered reading setAt tableFrom setsAt neighbours isIn
     canFollow tries beyond chains crosses someCrosses beside shows firstShown effort places weighed verdictBy inSets
     windingOf windingsAt judgedBy windingFor judging regularMove steelMove decide findingsOn stepBy stepOf movable
-    moving lookFrom runOf ran running digitsOf decimal lineText eventAt pressing ranLine pressedLine eventLine
+    moving lookFrom runOf runnable ran running digitsOf decimal lineText eventAt pressing ranLine pressedLine eventLine
     withAllowance headAt linesFrom headLines sessionLines lineTexts printed sessionText
 starred-boards =
     (λ x told. told) & (λ a k told. told) & (λ v told. told) & (λ v told. told) & (λ v told. told)

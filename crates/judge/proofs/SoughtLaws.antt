@@ -1,7 +1,6 @@
 -- Laws of a kind that carries a relay, and of a relay's windings among the parts: what the scan of a board's first C
 -- parts needs.
 use Prim.Native.Nat.{ℕ, _+_, _≤_, _<_}
-use native.Mathlib.Omega.{arith}
 use mathlib.Core.Path.{_≡_, refl, sym, ap, _∙_}
 use mathlib.Core.Logic.{_⊎_, ⊎-elim}
 use mathlib.Core.Bool.{Bool, true, false, cond, _||_}
@@ -15,7 +14,6 @@ use Rattle.refusals.specs.Refusals.{noSuchWinding}
 use Rattle.refusals.proofs.OutcomeLaws.{refused-never, given-injective}
 use Rattle.refusals.proofs.Told.{Told}
 use Rattle.kinds.specs.declared.Kind.{Kind}
-use Rattle.kinds.specs.declared.Kind.the-variants as kind
 use Rattle.kinds.specs.Kinds.{kindNumber, nameOf}
 use Rattle.board.specs.declared.Part.{Part}
 use Rattle.board.specs.Parts.{blank}
@@ -40,47 +38,9 @@ pub carries-other : (j r : ℕ) (k : Kind) (n : ℕ) → n ≡ kindNumber k → 
 unfolding carries
 carries-other j r k n number d = rw (ne-eqb (kindNumber k) j (λ e. d (number ∙ e))) refl
 
--- ---- a kind that is a winding of a relay, by the name w that it carries
+-- ---- a kind that is no winding of a relay is neither its first nor its second
 
-or-none : (x : Bool) → x ≡ (x || false)
-or-none true = refl
-or-none false = refl
-
-abbrev winding : ℕ → Kind → Bool
-winding r k = isFirst r k || isSecond r k
-
-module _ (r n w : ℕ) (k : Kind) (name : w ≡ n) where
-  pub winds-regular : k ≡ kind.Regular n → eqb w r ≡ winding r k
-  unfolding carries
-  winds-regular is = rw (is, name) (or-none _ ∙ or-none _)
-
-  pub winds-drawing : k ≡ kind.Drawing n → eqb w r ≡ winding r k
-  unfolding carries
-  winds-drawing is = rw (is, name) (or-none _)
-
-  pub winds-dropping : k ≡ kind.Dropping n → eqb w r ≡ winding r k
-  unfolding carries
-  winds-dropping is = rw (is, name) refl
-
--- what winds no relay
-pub winds-wire : (r : ℕ) (k : Kind) → k ≡ kind.Wire → false ≡ winding r k
-unfolding carries
-winds-wire r k is = rw is refl
-
-module _ (r n : ℕ) (k : Kind) where
-  pub winds-upper : k ≡ kind.Upper n → false ≡ winding r k
-  unfolding carries
-  winds-upper is = rw is refl
-
-  pub winds-lower : k ≡ kind.Lower n → false ≡ winding r k
-  unfolding carries
-  winds-lower is = rw is refl
-
-  pub winds-button : k ≡ kind.Button n → false ≡ winding r k
-  unfolding carries
-  winds-button is = rw is refl
-
-pub winds-neither : (r : ℕ) (k : Kind) → winding r k ≡ false → (false ≡ isFirst r k) × (false ≡ isSecond r k)
+pub winds-neither : (r : ℕ) (k : Kind) → (isFirst r k || isSecond r k) ≡ false → (false ≡ isFirst r k) × (false ≡ isSecond r k)
 winds-neither r k off = by (isFirst r k) (isSecond r k) off
   where
     by : (x y : Bool) → (x || y) ≡ false → (false ≡ x) × (false ≡ y)

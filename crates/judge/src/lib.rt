@@ -75,14 +75,10 @@ fn is_first(kind: Kind, relay: u32) -> bool
 fn winds(kind: Kind, relay: u32) -> bool
     ensures { λ r. ⌜ r ≡ (isFirst relay kind || isSecond relay kind) ⌝ }
 {
-    match kind {
-        Kind::Wire => false,
-        Kind::Upper(_) => false,
-        Kind::Lower(_) => false,
-        Kind::Button(_) => false,
-        Kind::Regular(own) => bits::wide(own) == relay,
-        Kind::Drawing(own) => bits::wide(own) == relay,
-        Kind::Dropping(own) => bits::wide(own) == relay,
+    if is_first(kind, relay) {
+        true
+    } else {
+        carries(kind, DROPPING_KIND, relay)
     }
 }
 

@@ -72,9 +72,7 @@ module _ (b : Board) (s : State) (r : ℕ) {t : Bool} {o : Outcome (Unit {0})} {
     (there : t ≡ ltb r (b .counts .relays)) (next : toldAgainst a ≡ (o >> unless t noSuchWinding 0)) where
   movable-asked : (x : Against) → a ≡ x → movable b s r ≡ toldAgainst x
   unfolding movable usable
-  movable-asked x is =
-      sym (ap (λ (y : Bool). firstNo (usableLines b s ++ ((y, noSuchWinding) ∷ []))) there)
-      ∙ sym (asks-then (usableLines b s) t noSuchWinding o first) ∙ sym next ∙ ap toldAgainst is
+  movable-asked x is = sym (asks-then (usableLines b s) noSuchWinding first there next) ∙ ap toldAgainst is
 
   pub movable-nothing : a ≡ stands.Nothing → movable b s r ≡ given tt
   movable-nothing is = movable-asked stands.Nothing is

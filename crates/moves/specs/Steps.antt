@@ -6,7 +6,7 @@
 --     regularMove d l           what a regular relay does, drawn if d, its winding live if l; what is not live is dead
 --     steelMove d x y           what a steel relay does, drawn if d, its drawing winding live if x and its dropping
 --                               winding live if y
---     isLive, isUndecided o     the winding was judged live, undecided
+--     isLive, isUndecided o     the winding was judged live, undecided; a refusal is neither, so it counts as dead
 --     anyUndecided f            some winding of a relay was judged undecided, by what was found on its windings, f
 --     moveBy d f                what a relay does by its sort, drawn if d, where nothing is undecided; what the board
 --                               lacks rests
@@ -39,7 +39,7 @@ use Rattle.search.specs.Verdicts as verdict
 use Rattle.judge.specs.RelayWindings.{OfRelay, regular, steel, absent, windingsAt}
 use Rattle.judge.specs.Judging.{judgedBy}
 use Rattle.moves.specs.declared.Findings.{Findings}
-use Rattle.moves.specs.declared.Findings.the-variants as found
+use Rattle.moves.specs.declared.Findings.the-variants as finds
 use Rattle.moves.specs.declared.Move as code-move
 use Rattle.moves.specs.declared.Move.the-variants as said
 
@@ -105,9 +105,9 @@ made s r undecided = s
 made s r conflict = s
 
 abbrev pub toldFindings : Findings → OfRelay (Outcome verdict.Finding)
-toldFindings (found.Regular x) = regular (verdict.toldFinding x)
-toldFindings (found.Steel x y) = steel (verdict.toldFinding x) (verdict.toldFinding y)
-toldFindings found.Absent = absent
+toldFindings (finds.Regular x) = regular (verdict.toldFinding x)
+toldFindings (finds.Steel x y) = steel (verdict.toldFinding x) (verdict.toldFinding y)
+toldFindings finds.Absent = absent
 
 abbrev pub toldMove : code-move.Move → Move
 toldMove said.Drew = drew

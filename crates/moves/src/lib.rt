@@ -152,9 +152,9 @@ fn findings_on(sets: Sets, board: Board, relay: u32, allowance: u32) -> Findings
             Findings::Regular(finding_by(sets, terminals, winding, allowance))
         }
         Windings::Steel(drawing, dropping) => {
-            let draws = finding_by(sets, terminals, drawing, allowance);
-            let drops = finding_by(sets, terminals, dropping, allowance);
-            Findings::Steel(draws, drops)
+            let on_drawing = finding_by(sets, terminals, drawing, allowance);
+            let on_dropping = finding_by(sets, terminals, dropping, allowance);
+            Findings::Steel(on_drawing, on_dropping)
         }
         Windings::Absent => Findings::Absent,
     }

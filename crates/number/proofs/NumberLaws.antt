@@ -242,12 +242,9 @@ pub number-asked : (v : ℕ) (out : List ℕ) (at : ℕ) {bytes : ℕ} {room : B
     → bytes ≡ length (numberBytes v) → room ≡ leb (at + bytes) (length out)
     → o ≡ unless (leb v (currentWidth .largest)) badForm 0 → p ≡ (o >> unless room bufferTooShort 0)
     → p ≡ firstNo (numberLines v out at)
-number-asked v out at {bytes} {room} {o} long fits first second =
-    second
-    ∙ asks-then ((leb v (currentWidth .largest), badForm) ∷ []) room bufferTooShort o
-    (first ∙ sym (asks-first _ badForm))
-    ∙ ap (λ (t : Bool). firstNo ((leb v (currentWidth .largest), badForm) ∷ (t, bufferTooShort) ∷ []))
-    (fits ∙ ap (λ (n : ℕ). leb (at + n) (length out)) long)
+number-asked v out at long fits first second =
+    asks-then ((leb v (currentWidth .largest), badForm) ∷ []) bufferTooShort (first ∙ sym (asks-first _ badForm))
+    (fits ∙ ap (λ (n : ℕ). leb (at + n) (length out)) long) second
 
 -- and each way out of it, by what stands against it
 module _ (v : ℕ) (out : List ℕ) (at : ℕ) (x : Against) (asked : toldAgainst x ≡ firstNo (numberLines v out at)) where

@@ -37,7 +37,7 @@ module _ (b : Board) (s : State) (log : List ℕ) where
   -- what the call tells goes by what stands against it
   pub running-by : (w : ℕ) (o : Outcome (Unit {0})) → runnable b s log ≡ o
       → answering o (λ n p. unrun n p s log) (λ u. ranOver b s log w) ≡ running b s log w
-  unfolding running runnable
+  unfolding running
   running-by w o e = rw e refl
 
   -- ---- for the proof of `run`
@@ -46,8 +46,7 @@ module _ (b : Board) (s : State) (log : List ℕ) where
   pub runnable-asked : {o q : Outcome (Unit {0})} → o ≡ usable b s
       → q ≡ (o >> unless (leb (length log) longestLog) logTooLong 0) → runnable b s log ≡ q
   unfolding runnable usable
-  runnable-asked {o} first second =
-      sym (second ∙ asks-then (usableLines b s) (leb (length log) longestLog) logTooLong o first)
+  runnable-asked first second = sym (asks-then (usableLines b s) logTooLong first refl second)
 
   -- a refused run tells the same over every log
   pub running-refused : (w : ℕ) (r : Ran) (n p : ℕ) → toldRan r [] ≡ unrun n p s [] → runnable b s log ≡ refused n p

@@ -69,7 +69,7 @@ abbrev pub ranOver : Board → State → List ℕ → ℕ → Ran
 ranOver b s log w = ran (runOn b (length log) s w) log
 
 unfoldable pub running : Board → State → List ℕ → ℕ → Ran
-running b s log w = answering (firstNo (runLines b s log)) (λ n p. unrun n p s log) (λ u. ranOver b s log w)
+running b s log w = answering (runnable b s log) (λ n p. unrun n p s log) (λ u. ranOver b s log w)
 
 abbrev pub toldEnding : code-ending.Ending → Outcome Ending
 toldEnding said.Idle = given idle

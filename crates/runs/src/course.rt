@@ -1,4 +1,4 @@
-// The course of a run on a board that breaks no rule: look, move, and look again.
+// The course of a run on a board of no more than 32 relays: look, move, and look again.
 ghost use mathlib.Core.Path.{_≡_};
 ghost use Prim.Native.Nat.{_<_, _≤_};
 ghost use Rattle.board.specs.Rules.{mostRelays};

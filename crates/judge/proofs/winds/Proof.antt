@@ -1,20 +1,14 @@
--- `judge::winds` meets its contract, kind by kind: a winding that carries the relay, and nothing else.
+-- `judge::winds` meets its contract: the kind is the relay's first winding, or else its second.
 use borrow.Author.Needs.{needs}
 use Rattle.judge.proofs.winds.Statement.{statement}
 use Rattle.judge.proofs.winds.Tie as tie
-use Rattle.judge.proofs.SoughtLaws.{winds-wire, winds-upper, winds-lower, winds-button, winds-regular}
-use Rattle.judge.proofs.SoughtLaws.{winds-drawing, winds-dropping}
+use mathlib.Core.Path.{refl, sym, _∙_}
+
+returns : tie.Need-returns
+returns c = rw (sym (c .before .is-first .ensures) ∙ c .if1 .taken) refl
+
+returns-2 : tie.Need-returns-2
+returns-2 c = rw (sym (c .before .before .is-first .ensures) ∙ c .before .if1 .left) (c .carries .ensures)
 
 pub winds-spec : {M : Type 1} → statement M
-winds-spec =
-    tie.close
-    (tie.spec
-    (λ c. search needs) (λ c. search needs) (λ c. search needs) (λ c. search needs) (λ c. search needs)
-    (λ c κs. search needs) (λ c. search needs) (λ c κs. search needs) (λ c. search needs) (λ c κs. search needs)
-    (λ c. winds-wire _ _ (c .enum-told .given .1))
-    (λ c. winds-upper _ _ _ (c .enum-told2 .given .1))
-    (λ c. winds-lower _ _ _ (c .enum-told3 .given .1))
-    (λ c. winds-button _ _ _ (c .enum-told4 .given .1))
-    (λ c. winds-regular _ _ _ _ (c .wide .ensures .0) (c .before .before .kind .given .1))
-    (λ c. winds-drawing _ _ _ _ (c .wide2 .ensures .0) (c .before .before .kind2 .given .1))
-    (λ c. winds-dropping _ _ _ _ (c .wide3 .ensures .0) (c .before .before .kind3 .given .1)))
+winds-spec = tie.close (tie.spec (λ c κs. search needs) (λ c κs. search needs) returns returns-2)
