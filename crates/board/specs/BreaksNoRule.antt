@@ -1,6 +1,6 @@
 -- What it is for a board to break no rule, in the rule book's own sentences. Refusal 15 is "board handed in breaks a
 -- rule of refusals 3 to 9": the calls test `boardFine`, and that stands for these sentences exactly. 1 and 2 are of
--- bytes, and a board handed in has no kind above 6 (4).
+-- bytes, and a board handed in has no kind above the last (4).
 --     InRange c         3: "T terminals (2 to 64), R relays (0 to 32), B buttons (0 to 32), C parts (0 to 256)"
 --     Names c k         7: the relay that kind k carries is below R, or its button below B; a wire carries none
 --     Fits c p          5 to 7 of the part p: both ends are below T, they differ, and its relay or button is there

@@ -13,11 +13,14 @@
 --     gainedAll w ps                   the windings once the parts ps have come too
 --     partsFine c w ps                 5 to 8 of each of the parts ps after parts that gave the windings w
 --     rowAfter c w ps                  the windings after the parts ps, where they are fine after the windings w
---     boardFine b                      a board breaks no rule of refusals 3 to 9: 15 does not hold. 9 is asked once,
---                                      after the last part
---     toldRow                          the cases of a row that was checked, as `rowAfter` has them
+--     allWound c ps                    9: after the parts ps no relay lacks a winding. It is asked once, after the last
+--                                      part
+--     boardFine b                      a board breaks no rule of refusals 3 to 9: 15 does not hold
 --     NameLimit c k r                  promise: `limit` of a kind of number k answers r
 --     Checks b r                       promise: `check` of board b answers r
+-- What the functions of this crate promise each other:
+--     rowAfter c w ps                  the windings after the parts ps, if 5 to 8 hold of none of them
+--     toldRow                          the cases of a row that was checked, as `rowAfter` has them
 use Prim.Native.Nat.{ℕ}
 use mathlib.Core.Path.{_≡_}
 use mathlib.Core.Bool.{Bool, true, cond, not, _&&_, _||_}
@@ -86,10 +89,12 @@ partsFine c w (p ∷ ps) = partFine c w p && partsFine c (gained w (p .kind)) ps
 unfoldable pub rowAfter : Counts → WoundSoFar → List Part → Option WoundSoFar
 rowAfter c w ps = cond (partsFine c w ps) (some (gainedAll w ps)) none
 
+abbrev pub allWound : Counts → List Part → Bool
+allWound c ps = complete (c .relays) (gainedAll noneWound ps)
+
 unfoldable pub boardFine : Board → Bool
 boardFine b =
-    countsFine (b .counts) && partsFine (b .counts) noneWound (partsOf b)
-    && complete (b .counts .relays) (gainedAll noneWound (partsOf b))
+    countsFine (b .counts) && partsFine (b .counts) noneWound (partsOf b) && allWound (b .counts) (partsOf b)
 
 abbrev pub toldRow : RowChecked → Option WoundSoFar
 toldRow (Fine w) = some w

@@ -139,7 +139,7 @@ fn part_fine(counts: Counts, windings: WoundSoFar, part: Part) -> bool
 }
 
 // The windings after the first C parts, which come after parts that gave these windings, if each breaks none of 5 to 8.
-fn parts_fine(parts: [Part; 256], counts: Counts, windings: WoundSoFar) -> RowChecked
+fn row_after(parts: [Part; 256], counts: Counts, windings: WoundSoFar) -> RowChecked
     requires { ⌜ counts .parts ≤ mostParts ⌝ }
     ensures { λ r. ⌜ toldRow r ≡ rowAfter counts windings (take (counts .parts) parts) ⌝ }
 {
@@ -167,7 +167,7 @@ pub fn check(board: Board) -> bool
         return false;
     }
     let parts = board.parts;
-    let row = parts_fine(parts, counts, WoundSoFar::none());
+    let row = row_after(parts, counts, WoundSoFar::none());
     let RowChecked::Fine(windings) = row else {
         return false;
     };

@@ -104,8 +104,8 @@ wanted-below e n s at l m same = ap (λ (k : ℕ). wanted e (λ v. ltb v k) n s 
 module _ (e : Edition) (c : Counts) (k : ℕ) (s : List ℕ) (at : ℕ) where
   pub name-wire : k ≡ wireKind → found 0 at ≡ nameAt e c k s at
   unfolding nameAt
-  name-wire wire = rw (eq-eqb k 0 wire)
+  name-wire wire = rw (eq-eqb k wireKind wire)
 
   pub name-carried : (k ≡ wireKind → ⊥) → wanted e (λ v. ltb v (limitOf c k)) noSuchName s at ≡ nameAt e c k s at
   unfolding nameAt
-  name-carried carried = rw (ne-eqb k 0 carried)
+  name-carried carried = rw (ne-eqb k wireKind carried)

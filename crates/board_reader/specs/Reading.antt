@@ -1,6 +1,6 @@
 -- Reading a board. Rule book: "Order: 10 first; then left to right, each number's form (1, 2) before its meaning, and
 -- for a part 4, 5, 5, 6, 7, 8 as its fields come; then 9." Each line of a `do` block that has a refusal leaves with it.
--- Each definition is first given the edition e that it reads by.
+-- What reads takes first the edition e that it reads by.
 --     wanted e ok n s at               the number at a place, which must pass the test ok, else n at that place
 --     countsAt e s                     T, R, B and C at the start of the input
 --     nameAt e c k s at                the relay or button of a part of kind number k; a wire has none
@@ -27,13 +27,13 @@ use Rattle.refusals.specs.Refusals.{windingLacking, inputTooLong}
 use Rattle.number.specs.Numbers.{numberAt}
 use Rattle.windings.specs.declared.WoundSoFar.{WoundSoFar}
 use Rattle.kinds.specs.Kinds.{wireKind, kindOf}
-use Rattle.windings.specs.Windings.{noneWound, windingFree, gained, complete}
+use Rattle.windings.specs.Windings.{noneWound, windingFree, gained}
 use Rattle.board.specs.declared.Part.{Part}
 use Rattle.board.specs.declared.Counts.{Counts}
 use Rattle.board.specs.declared.Board.{Board}
 use Rattle.board.specs.Parts.{padded, emptyBoard, mostParts}
 use Rattle.board.specs.Rules.{leastTerminals, mostTerminals, mostRelays, mostButtons, inRange, terminalFine, endsFine}
-use Rattle.board.specs.Rules.{limitOf, gainedAll}
+use Rattle.board.specs.Rules.{limitOf, allWound}
 use Rattle.board_reader.specs.Editions.{Edition, currentEdition}
 use Rattle.board_reader.specs.declared.BoardRead.{BoardRead}
 use Rattle.board_reader.specs.declared.ReadAnswer.{ReadAnswer}
@@ -79,7 +79,7 @@ boardOf c ps = record { counts = c; parts = padded ps }
 unfoldable pub boardFrom : Counts → Outcome (Found (List Part)) → Outcome (Found Board)
 boardFrom c o = do
   ps ← o
-  unless (complete (c .relays) (gainedAll noneWound (ps .value))) windingLacking (ps .next)
+  unless (allWound c (ps .value)) windingLacking (ps .next)
   found (boardOf c (ps .value)) (ps .next)
 
 unfoldable pub boardAt : Edition → List ℕ → Outcome (Found Board)

@@ -12,7 +12,7 @@ use Rattle.presses.proofs.PressLaws.{pressed-told}
 use Rattle.board_reader.proofs.ToldLaws.{board-read-told}
 use Rattle.board_writer.proofs.FileLaws.{written-told}
 use Rattle.search.proofs.VerdictLaws.{verdict-told}
-use Rattle.judge.proofs.SoughtLaws.{windings-told}
+use Rattle.judge.proofs.ScannedLaws.{windings-told}
 use Rattle.moves.proofs.MovingLaws.{move-told, moved-told}
 use Rattle.runs.proofs.RunningLaws.{ran-told}
 use Rattle.lines.proofs.ToldLaws.{line-written-told}

@@ -14,7 +14,7 @@ use Rattle.refusals.specs.Outcomes.{refused}
 use Rattle.refusals.specs.Refusals.{outOfRange, noSuchKind, noSuchTerminal, endsEqual, noSuchName, windingTaken}
 use Rattle.refusals.specs.Refusals.{windingLacking}
 use Rattle.number.specs.Numbers.{numberAt}
-use Rattle.kinds.specs.Kinds.{buttonKind, lastKind}
+use Rattle.kinds.specs.Kinds.{buttonKind}
 use Rattle.windings.specs.declared.WoundSoFar.{WoundSoFar}
 use Rattle.windings.specs.Windings.{wound, complete}
 use Rattle.windings.proofs.EveryLaws.{every-fails}

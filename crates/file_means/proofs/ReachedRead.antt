@@ -17,7 +17,7 @@ use lib.ListN.{length, length-append}
 use borrow.Author.Tests.{lt-ltb, ne-eqb}
 use Rattle.refusals.specs.Outcomes.{Outcome, given, refused, Found, found, _>>=_, _>>_, unless}
 use Rattle.refusals.specs.Refusals.{outOfRange, noSuchKind, noSuchTerminal, noSuchName, windingLacking}
-use Rattle.kinds.specs.Kinds.{buttonKind, lastKind, kindOf}
+use Rattle.kinds.specs.Kinds.{wireKind, buttonKind, lastKind, kindOf}
 use Rattle.windings.specs.declared.WoundSoFar.{WoundSoFar}
 use Rattle.windings.specs.Windings.{noneWound, windingFree, gained, wound, every, complete}
 use Rattle.windings.proofs.EveryLaws.{below-every}
@@ -156,7 +156,8 @@ module _ (e : Edition) (known : Known e) (s : List ℕ) where
         omega (arith, range-bounds 0 (e .lastKind) k fine .1, known)
 
   -- a relay or button below its limit
-  pub name-found : (c : Counts) (k at limit v next : ℕ) → ¬ (k ≡ 0) → limitOf c k ≡ limit → StandsAt e s at v next
+  pub name-found : (c : Counts) (k at limit v next : ℕ) → ¬ (k ≡ wireKind) → limitOf c k ≡ limit
+      → StandsAt e s at v next
       → v < limit → nameAt e c k s at ≡ found v next
   name-found c k at limit v next carries same stands below =
       sym (name-carried e c k s at carries) ∙ wanted-below e noSuchName s at (limitOf c k) limit same

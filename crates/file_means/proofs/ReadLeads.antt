@@ -15,7 +15,7 @@ use Rattle.refusals.specs.Refusals.{inputEnds, badForm, outOfRange, noSuchKind,
 use Rattle.refusals.specs.Refusals.{windingTaken, windingLacking}
 use Rattle.number.specs.Numbers.{numberAt}
 use Rattle.number.proofs.NumberLaws.{number-refusal}
-use Rattle.kinds.specs.Kinds.{buttonKind, lastKind, kindOf}
+use Rattle.kinds.specs.Kinds.{wireKind, buttonKind, lastKind, kindOf}
 use Rattle.windings.specs.declared.WoundSoFar.{WoundSoFar}
 use Rattle.windings.specs.Windings.{noneWound, windingFree, gained, wound, every, complete}
 use Rattle.windings.proofs.EveryLaws.{every-below, every-lacks}
@@ -118,7 +118,7 @@ module _ (e : Edition) (known : Known e) (s : List ℕ) where
     PartGiven p = Reached e s (at-part c (ps ++ (p .value ∷ []))) (p .next)
 
     -- a relay or button is wanted, and then 8 is tested
-    module _ (k a b at : ℕ) (here : Reached e s (at-name c ps k a b) at) (carries : ¬ (k ≡ 0)) (limit : ℕ) where
+    module _ (k a b at : ℕ) (here : Reached e s (at-name c ps k a b) at) (carries : ¬ (k ≡ wireKind)) (limit : ℕ) where
       carried-leads : ((v : ℕ) → NumberStands e s (at-name c ps k a b) at v → limit ≤ v → LineHolds e s noSuchName at)
           → ((v : ℕ) → NumberStands e s (at-name c ps k a b) at v → v < limit → windingFree w (kindOf k v) ≡ false
           → LineHolds e s windingTaken at)
@@ -140,11 +140,12 @@ module _ (e : Edition) (known : Known e) (s : List ℕ) where
         nameAt e c k s at >>= λ n. unless (windingFree w (kindOf k (n .value))) windingTaken at
         >> found (record { a = a; b = b; kind = kindOf k (n .value) }) (n .next)
 
-    relay-leads : (k a b at : ℕ) → k ≤ lastKind → ¬ (k ≡ 0) → ¬ (k ≡ buttonKind) → Reached e s (at-name c ps k a b) at
+    relay-leads : (k a b at : ℕ) → k ≤ lastKind → ¬ (k ≡ wireKind) → ¬ (k ≡ buttonKind)
+        → Reached e s (at-name c ps k a b) at
         → Leads (LineHolds e s) PartGiven (nameOn k a b at)
     unfolding nameAt
     relay-leads k a b at most carries relay here =
-        rw (ne-eqb k 0 carries, ne-eqb k buttonKind relay) (carried-leads k a b at here carries (c .relays)
+        rw (ne-eqb k wireKind carries, ne-eqb k buttonKind relay) (carried-leads k a b at here carries (c .relays)
         (λ v comes over. line7-relay comes relay over)
         (λ v comes below off. line8 comes below (barred-taken w ps v (so-far v) k most off))
         (λ v next stands below free. relay-fine here carries relay stands below

@@ -27,7 +27,7 @@ use Rattle.search.proofs.VerdictLaws.{in-sets-all}
 use Rattle.judge.specs.declared.Which.{Which}
 use Rattle.judge.specs.RelayWindings.{OfRelay, windingOf, windingsAt, windingNamed, isThere, orNoSuchWinding}
 use Rattle.judge.specs.Judging.{judgedBy, windingFor, verdictOn, judging}
-use Rattle.judge.proofs.SoughtLaws.{asked-given, asked-refused}
+use Rattle.judge.proofs.ScannedLaws.{asked-given, asked-refused}
 use Rattle.judge.proofs.WoundLaws.{windings-named}
 
 -- ---- judging by the sets

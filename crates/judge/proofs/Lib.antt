@@ -1,4 +1,4 @@
 -- Laws of windings and of judging, for this crate's proofs and those of later crates.
-pub mod SoughtLaws
+pub mod ScannedLaws
 pub mod WoundLaws
 pub mod JudgeLaws

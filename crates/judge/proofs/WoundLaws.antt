@@ -27,7 +27,7 @@ use Rattle.search.specs.declared.Winding.{Winding}
 use Rattle.judge.specs.declared.Which.{Which}
 use Rattle.judge.specs.declared.Which.the-variants.{First, Second}
 use Rattle.judge.specs.RelayWindings.{isFirst, isWinding, endsOf, windingOf, ofRelay, windingsAt, windingNamed}
-use Rattle.judge.proofs.SoughtLaws.{winding-here, winding-past, winding-none}
+use Rattle.judge.proofs.ScannedLaws.{winding-here, winding-past, winding-none}
 
 -- ---- how many parts are winding n of relay r
 --     its n r p       part p is it

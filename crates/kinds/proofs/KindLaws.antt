@@ -1,18 +1,18 @@
--- Laws of a kind as its number and name: the two determine it, and each kind's number is 0 to 6. What the reader and
--- the writer of board files need of a part's kind. And of the fields that the table gives a part: how many they are,
--- what they are, and that with the kind's number they determine the part.
-use Prim.Native.Nat.{ℕ, zero, suc, _-_, _≤_}
+-- Laws of a kind as its number and name: the two determine it, and each kind's number is at most the last. What the
+-- reader and the writer of board files need of a part's kind. And of the fields that the table gives a part: how many
+-- they are, what they are, and that with the kind's number they determine the part.
+use Prim.Native.Nat.{ℕ, zero, suc, _-_, _≤_, _<_}
 use native.Mathlib.Omega.{arith}
 use mathlib.Core.Path.{_≡_, refl, sym, ap, ap₂, _∙_}
-use mathlib.Core.List.{List, [], _∷_, _++_}
+use mathlib.Core.List.{List, [], _∷_}
 use mathlib.Core.Bool.{cond}
 use lib.Dec.{eqb}
 use lib.ListN.{length, getD, take, replicate}
 use lib.Seq.{take-append-seam}
 use Rattle.kinds.specs.declared.Kind.{Kind}
 use Rattle.kinds.specs.declared.Kind.the-variants.{Wire, Upper, Lower, Button, Regular, Drawing, Dropping}
-use Rattle.kinds.specs.Kinds.{wireKind, lastKind, kindNumber, nameOf, kindOf, fields, mostFields}
-use Rattle.kinds.specs.Kinds.{inPlaces}
+use Rattle.kinds.specs.Kinds.{wireKind, upperKind, lowerKind, buttonKind, regularKind, drawingKind, droppingKind}
+use Rattle.kinds.specs.Kinds.{lastKind, kindNumber, nameOf, kindOf, fields, mostFields, inPlaces}
 
 pub kind-of-parts : (k : Kind) → kindOf (kindNumber k) (nameOf k) ≡ k
 unfolding kindOf
@@ -28,8 +28,9 @@ pub kind-of-wire : (n : ℕ) → kindOf wireKind n ≡ Wire
 unfolding kindOf
 kind-of-wire n = refl
 
--- what holds of each of 0 to 6 holds of any number up to 6
-up-to-last : (P : ℕ → Type 0) → P 0 → P 1 → P 2 → P 3 → P 4 → P 5 → P 6 → (k : ℕ) → k ≤ lastKind → P k
+-- what holds of each kind's number holds of any number up to the last
+up-to-last : (P : ℕ → Type 0) → P wireKind → P upperKind → P lowerKind → P buttonKind → P regularKind → P drawingKind
+    → P droppingKind → (k : ℕ) → k ≤ lastKind → P k
 up-to-last P p₀ p₁ p₂ p₃ p₄ p₅ p₆ zero most = p₀
 up-to-last P p₀ p₁ p₂ p₃ p₄ p₅ p₆ (suc zero) most = p₁
 up-to-last P p₀ p₁ p₂ p₃ p₄ p₅ p₆ (suc (suc zero)) most = p₂
@@ -43,11 +44,11 @@ pub kind-number-of : (k n : ℕ) → k ≤ lastKind → kindNumber (kindOf k n) 
 unfolding kindOf
 kind-number-of k n = up-to-last (λ (j : ℕ). kindNumber (kindOf j n) ≡ j) refl refl refl refl refl refl refl k
 
-pub kind-name-of : (k n : ℕ) → 1 ≤ k → k ≤ lastKind → nameOf (kindOf k n) ≡ n
+pub kind-name-of : (k n : ℕ) → wireKind < k → k ≤ lastKind → nameOf (kindOf k n) ≡ n
 unfolding kindOf
 kind-name-of k n least most =
-    up-to-last (λ (j : ℕ). 1 ≤ j → nameOf (kindOf j n) ≡ n) (λ none. absurd (omega arith)) (λ _. refl) (λ _. refl)
-    (λ _. refl) (λ _. refl) (λ _. refl) (λ _. refl) k most least
+    up-to-last (λ (j : ℕ). wireKind < j → nameOf (kindOf j n) ≡ n) (λ none. absurd (omega arith)) (λ _. refl)
+    (λ _. refl) (λ _. refl) (λ _. refl) (λ _. refl) (λ _. refl) k most least
 
 pub kind-number-most : (k : Kind) → kindNumber k ≤ lastKind
 kind-number-most Wire = omega arith

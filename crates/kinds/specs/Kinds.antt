@@ -1,6 +1,8 @@
 -- What a kind of part is. Rule book, "Parts of a board": the table of kinds. Whatever goes by a kind's number, its
 -- fields or the relay or button among them goes by these.
 --     wireKind              the number of a wire, the kind that carries no relay or button
+--     upperKind             the number of an upper contact
+--     lowerKind             the number of a lower contact
 --     buttonKind            the number of the kind that carries a button
 --     regularKind           the number of a regular relay's winding
 --     drawingKind           the number of a steel-core relay's drawing winding
@@ -30,6 +32,12 @@ use Rattle.kinds.specs.declared.Kind.the-variants.{Wire, Upper, Lower, B
 abbrev pub wireKind : ℕ
 wireKind = 0
 
+abbrev pub upperKind : ℕ
+upperKind = 1
+
+abbrev pub lowerKind : ℕ
+lowerKind = 2
+
 abbrev pub buttonKind : ℕ
 buttonKind = 3
 
@@ -47,8 +55,8 @@ lastKind = droppingKind
 
 abbrev pub kindNumber : Kind → ℕ
 kindNumber Wire = wireKind
-kindNumber (Upper r) = 1
-kindNumber (Lower r) = 2
+kindNumber (Upper r) = upperKind
+kindNumber (Lower r) = lowerKind
 kindNumber (Button b) = buttonKind
 kindNumber (Regular r) = regularKind
 kindNumber (Drawing r) = drawingKind
@@ -66,8 +74,8 @@ nameOf (Dropping r) = r
 unfoldable pub kindOf : ℕ → ℕ → Kind
 kindOf k n =
     cond (eqb k wireKind) Wire
-    (cond (eqb k 1) (Upper n)
-    (cond (eqb k 2) (Lower n)
+    (cond (eqb k upperKind) (Upper n)
+    (cond (eqb k lowerKind) (Lower n)
     (cond (eqb k buttonKind) (Button n)
     (cond (eqb k regularKind) (Regular n)
     (cond (eqb k drawingKind) (Drawing n)

@@ -15,9 +15,12 @@ pub enum Kind {
     Dropping(u8),
 }
 
-// The numbers of the kinds that rules speak of, a wire's among them, which carries no relay or button; and the highest
-// kind number.
+// The numbers of the kinds in the table's order; a wire carries no relay or button. And the highest kind number.
 pub const WIRE_KIND: u32 = 0;
+
+pub const UPPER_KIND: u32 = 1;
+
+pub const LOWER_KIND: u32 = 2;
 
 pub const BUTTON_KIND: u32 = 3;
 
@@ -27,7 +30,7 @@ pub const DRAWING_KIND: u32 = 5;
 
 pub const DROPPING_KIND: u32 = 6;
 
-pub const LAST_KIND: u32 = 6;
+pub const LAST_KIND: u32 = DROPPING_KIND;
 
 // A part's fields in the table's order: the first `count` of the numbers. The unused places are 0.
 pub struct Fields {
@@ -58,7 +61,7 @@ impl Fields {
 }
 
 impl Kind {
-    // The kind of this number, up to 6, that carries a relay or button.
+    // The kind of this number, up to the last, that carries a relay or button.
     pub fn of(number: u32, name: u8) -> Self
         ensures { λ r. ⌜ KindOf number name r ⌝ }
     {
@@ -79,8 +82,8 @@ impl Kind {
     {
         match self {
             Kind::Wire => WIRE_KIND,
-            Kind::Upper(_) => 1,
-            Kind::Lower(_) => 2,
+            Kind::Upper(_) => UPPER_KIND,
+            Kind::Lower(_) => LOWER_KIND,
             Kind::Button(_) => BUTTON_KIND,
             Kind::Regular(_) => REGULAR_KIND,
             Kind::Drawing(_) => DRAWING_KIND,
@@ -102,6 +105,7 @@ impl Kind {
             Kind::Dropping(relay) => relay,
         }
     }
+
     // The fields that the table gives a part of this kind on the terminals a and b.
     pub fn fields(self, a: u8, b: u8) -> Fields
         ensures { λ r. ⌜ KindFields self a b r ⌝ }

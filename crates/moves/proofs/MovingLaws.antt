@@ -12,7 +12,7 @@ use Rattle.refusals.specs.declared.Against.{Against}
 use Rattle.refusals.specs.declared.Against.the-variants as stands
 use Rattle.refusals.specs.Outcomes.{Outcome, given, refused, _>>_, unless}
 use Rattle.refusals.specs.Refusals.{noSuchWinding}
-use Rattle.refusals.specs.Order.{firstNo, toldAgainst}
+use Rattle.refusals.specs.Order.{toldAgainst}
 use Rattle.refusals.proofs.OutcomeLaws.{refused-never, both-given, asked}
 use Rattle.refusals.proofs.OrderLaws.{asks-first, asks-then}
 use Rattle.refusals.proofs.Told.{Told, answerOf, given-or-refused, beside-told}

@@ -2,7 +2,7 @@
 -- undecided; so what `Comes` says of a relay, by its sort, is what the rule book says of it by chains.
 use Prim.Native.Nat.{ℕ, _<_}
 use native.Mathlib.Omega.{arith}
-use mathlib.Core.Path.{_≡_, subst}
+use mathlib.Core.Path.{subst}
 use mathlib.Core.Logic.{_⊎_, _↔_, inl, inr}
 use lib.Dec.{leb}
 use borrow.Author.Tests.{leb-true, leb-false}

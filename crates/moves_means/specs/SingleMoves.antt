@@ -2,7 +2,7 @@
 -- a relay, and over the call `moves::move_relay`, whatever it answers under its promise.
 --     NeedsMore b s r w    some winding of relay r needs more than the allowance w: its effort is larger
 --     Comes b s r m w      what the word m says of relay r in state s within the allowance w
---     StepExactly          of a relay of a board and a state that are not refused: it comes to m exactly if `Comes`
+--     StepExactly          of a relay of a board that breaks no rule, in any state: it comes to m exactly if `Comes`
 --                          holds of m
 --     MoveExactly          the call's word is m exactly if `Comes` holds of m, and the state is changed by drew and
 --                          dropped alone, and only in that relay

@@ -27,7 +27,8 @@ use Rattle.session.specs.declared.event.EventRead.the-variants as event-
 use Rattle.session.specs.declared.next.Coming.the-variants as comes
 use Rattle.session.specs.Sessions.{Head}
 use Rattle.session.specs.EventReading.{toldEventRead}
-use Rattle.session.specs.Carried.{Ahead, Coming, no-line, following, goesOn, closes, makes, nextEvent, nextAt}
+use Rattle.session.specs.Carried.{Ahead, Coming, no-line, following, goesOn, closes, eventComes}
+use Rattle.session.specs.Carried.{nextEvent, nextAt}
 use Rattle.session.specs.Carried.{nextOf, toldAhead, toldNext}
 
 -- ---- reading an event: x is what reading its number came to
@@ -89,22 +90,22 @@ module _ (h : Head) (a : Ahead) (s : List ℕ) where
   -- an event is there, and x is what reading it came to
   module _ (x : EventRead) (there : a .place < length s)
       (read : toldEventRead x ≡ eventAt currentEdition (h .board .counts .buttons) s (a .place)) where
-    event-by : makes h a (toldEventRead x) ≡ nextEvent currentEdition h a s
+    event-by : eventComes h a (toldEventRead x) ≡ nextEvent currentEdition h a s
     unfolding nextEvent
     event-by = rw (lt-leb (length s) (a .place) there, read)
 
     pub event-refused : (q : Refusal) → x ≡ event-was.Refused q
         → closes a (q .number) (q .place) ≡ nextEvent currentEdition h a s
-    unfolding makes
-    event-refused q is = ap (λ (y : EventRead). makes h a (toldEventRead y)) (sym is) ∙ event-by
+    unfolding eventComes
+    event-refused q is = ap (λ (y : EventRead). eventComes h a (toldEventRead y)) (sym is) ∙ event-by
 
     pub event-made : (v : Event) (next : ℕ) (y : Shown) → x ≡ event-was.Read v next
         → y ≡ eventLine (h .board) (a .event) (a .state) v (h .allowance)
         → goesOn (a .event) y next ≡ nextEvent currentEdition h a s
-    unfolding makes
+    unfolding eventComes
     event-made v next y is told =
         ap (λ (z : Shown). goesOn (a .event) z next) told
-        ∙ ap (λ (z : EventRead). makes h a (toldEventRead z)) (sym is) ∙ event-by
+        ∙ ap (λ (z : EventRead). eventComes h a (toldEventRead z)) (sym is) ∙ event-by
 
 -- ---- the next line, by the stage
 

@@ -21,7 +21,7 @@ use Rattle.events.specs.Events.{eventOf, eventAt, ranLine, eventLine}
 use Rattle.session.proofs.ToCome.{toComeAt, toCome}
 use Rattle.session.specs.Sessions.{Head}
 use Rattle.session.specs.Carried.{Stage, first, events, over, refusing, Ahead, Coming, line, no-line, goesOn}
-use Rattle.session.specs.Carried.{closes, makes, nextEvent, nextAt, nextOf}
+use Rattle.session.specs.Carried.{closes, eventComes, nextEvent, nextAt, nextOf}
 
 pub data Comes (ed : Edition) (h : Head) (a : Ahead) (s : List ℕ) : Type 0 where
   runs-first : a .stage ≡ first
@@ -47,7 +47,7 @@ module _ (ed : Edition) (h : Head) (a : Ahead) (s : List ℕ) where
 
     event-by : (o : Outcome (Found Event)) → eventAt ed (h .board .counts .buttons) s (a .place) ≡ o
         → leb (length s) (a .place) ≡ false → Comes ed h a s
-    unfolding nextEvent makes
+    unfolding nextEvent eventComes
     event-by (given v) e there =
         makes-event v is (leb-false (length s) (a .place) there) e (next-is-event ∙ rw (there, e) refl)
     event-by (refused n p) e there =

@@ -23,10 +23,10 @@ use Rattle.session.specs.declared.fill.HandedAhead as code-ahead
 use Rattle.session.specs.declared.HandOut as code-handout
 use Rattle.session.specs.declared.HandOut.the-variants as said
 use Rattle.session.specs.Sessions.{Head, lineTexts, printed}
-use Rattle.session.specs.Carried.{Ahead, headWith, Coming, line, no-line, nextOf, toldAhead, toldSession}
-use Rattle.session.specs.HandingOut.{HandOut, written, nothing, HandedAhead, carrying, handedBy, lineHanded}
-use Rattle.session.specs.HandingOut.{toldHandOut, toldHandedAhead, toldHanded}
-use Rattle.session.specs.Filling.{fitsOn, fitting, filledBy, linesHanded, nextLines, behind, summed}
+use Rattle.session.specs.Carried.{Ahead, Coming, line, no-line, nextOf, toldAhead}
+use Rattle.session.specs.HandingOut.{HandOut, written, nothing, HandedAhead, handedBy, lineHanded}
+use Rattle.session.specs.HandingOut.{toldHandOut, toldHandedAhead}
+use Rattle.session.specs.Filling.{fitsOn, fitting, filledBy, linesHanded, behind, summed}
 use Rattle.session.proofs.NextLineLaws.{line-handed-short, line-handed-room}
 use Rattle.session.proofs.HandOut.{the-type}
 use Rattle.refusals.proofs.Told.{told-injective}
@@ -334,15 +334,3 @@ tag-never-line (said.Written m) (inl e) n is = absurd (omega (arith, e))
 tag-never-line (said.Written m) (inr e) n is = absurd (omega (arith, e))
 tag-never-line said.Over other n is = over-never n is
 tag-never-line (said.Refused q) other n is = let z : _≡_ {A = ℕ} 0 1 = cc in omega arith
-
--- the session is the one given, with what is handed on ahead
-pub next-lines-carried : (z : code-session.Session) (s out : List ℕ) (x : code-ahead.HandedAhead) (out′ : List ℕ)
-    → toldHandedAhead x out′ ≡ linesHanded (headWith (z .board) (z .allowance)) (toldAhead (z .ahead)) s out
-    → toldHanded
-    (record {
-      session = record { board = z .board; allowance = z .allowance; ahead = x .ahead };
-      answer = x .answer;
-    }) out′
-    ≡ nextLines (toldSession z) s out
-unfolding nextLines
-next-lines-carried z s out x out′ told = ap (carrying (toldSession z)) told

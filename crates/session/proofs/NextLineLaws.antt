@@ -17,9 +17,10 @@ use Rattle.session.specs.declared.fill.HandedAhead.{HandedAhead}
 use Rattle.session.specs.declared.next.Next.{Next}
 use Rattle.session.specs.declared.next.Coming.the-variants as comes
 use Rattle.session.specs.Sessions.{Head}
-use Rattle.session.specs.Carried.{Ahead, headWith, Coming, line, no-line, nextOf, toldAhead, toldSession}
+use Rattle.session.specs.Carried.{Ahead, Coming, line, no-line, nextOf, toldAhead, toldSession}
 use Rattle.session.specs.Carried.{toldComing, toldNext}
-use Rattle.session.specs.HandingOut.{carrying, writtenAnswer, handedBy, lineHanded, nextLine, toldHandOut}
+use Rattle.session.specs.HandingOut as told
+use Rattle.session.specs.HandingOut.{carrying, writtenAnswer, handedBy, lineHanded, toldHandOut}
 use Rattle.session.specs.HandingOut.{toldHandedAhead, toldHanded}
 
 module _ (h : Head) (a : Ahead) (s out : List ℕ) where
@@ -58,13 +59,11 @@ module _ (h : Head) (a : Ahead) (s out : List ℕ) where
         ∙ line-handed-by (line (toldLine l)) (ap toldComing is)
 
 -- the session is the one given, with what is handed on ahead
-pub next-line-carried : (z : Session) (s out : List ℕ) (x : HandedAhead) (out′ : List ℕ)
-    → toldHandedAhead x out′ ≡ lineHanded (headWith (z .board) (z .allowance)) (toldAhead (z .ahead)) s out
+pub handed-carried : (z : Session) (x : HandedAhead) (out′ : List ℕ) {o : told.HandedAhead} → toldHandedAhead x out′ ≡ o
     → toldHanded
     (record {
       session = record { board = z .board; allowance = z .allowance; ahead = x .ahead };
       answer = x .answer;
     }) out′
-    ≡ nextLine (toldSession z) s out
-unfolding nextLine
-next-line-carried z s out x out′ told = ap (carrying (toldSession z)) told
+    ≡ carrying (toldSession z) o
+handed-carried z x out′ is = ap (carrying (toldSession z)) is

@@ -4,7 +4,7 @@
 --     Ahead                       what changes from line to line: the state, the number and place of the next event,
 --                                 and the stage
 --     Session                     the board and allowance, and what is ahead
---     headWith b w, headOf z      the head of board b and allowance w; that of the session z
+--     headOf z                    the head of the session z
 --     onward z a                  the session z with a ahead
 --     freshAhead at k             what is ahead at the stage k before the first run, with the first event at a place
 --     begunFrom o, beginning s    the session that begins with the head o; with the head of the input s by the current
@@ -14,7 +14,7 @@
 --                                 each event takes a byte
 --     goesOn e x at               event e tells x, and the session goes on with the event at a place
 --     closes a n p                the session with a ahead tells the refusal n at p, and is over
---     makes h a o                 the session makes the event o and tells of it; where its number is refused, it tells
+--     eventComes h a o            the session makes the event o and tells of it; where its number is refused, it tells
 --                                 that and is over
 --     nextEvent ed h a s          it tells of the event at its place of the input s, by the edition ed; at the input's
 --                                 end nothing comes
@@ -50,7 +50,7 @@ use Rattle.session.specs.declared.next.Coming.the-variants as comes
 use Rattle.session.specs.declared.next.Next.{Next}
 use Rattle.events.specs.declared.Event.{Event}
 use Rattle.events.specs.Events.{Shown, eventAt, ranLine, eventLine}
-use Rattle.session.specs.Sessions.{Head, headAt}
+use Rattle.session.specs.Sessions.{Head, headWith, headAt}
 
 pub data Stage : Type 0 where
   first events over : Stage
@@ -66,9 +66,6 @@ pub record Session : Type 0 where
   pub board : Board
   pub allowance : ℕ
   pub ahead : Ahead
-
-abbrev pub headWith : Board → ℕ → Head
-headWith b w = record { board = b; allowance = w }
 
 abbrev pub headOf : Session → Head
 headOf z = headWith (z .board) (z .allowance)
@@ -103,14 +100,14 @@ closes a n p = (
   line (closing n p),
 )
 
-unfoldable pub makes : Head → Ahead → Outcome (Found Event) → Ahead × Coming
-makes h a (given v) =
+unfoldable pub eventComes : Head → Ahead → Outcome (Found Event) → Ahead × Coming
+eventComes h a (given v) =
     goesOn (a .event) (eventLine (h .board) (a .event) (a .state) (v .value) (h .allowance)) (v .next)
-makes h a (refused n p) = closes a n p
+eventComes h a (refused n p) = closes a n p
 
 unfoldable pub nextEvent : Edition → Head → Ahead → List ℕ → Ahead × Coming
 nextEvent ed h a s =
-    cond (leb (length s) (a .place)) (a, no-line) (makes h a (eventAt ed (h .board .counts .buttons) s (a .place)))
+    cond (leb (length s) (a .place)) (a, no-line) (eventComes h a (eventAt ed (h .board .counts .buttons) s (a .place)))
 
 unfoldable pub nextAt : Edition → Stage → Head → Ahead → List ℕ → Ahead × Coming
 nextAt ed first h a s =
@@ -142,7 +139,7 @@ abbrev pub toldNext : Next → Ahead × Coming
 toldNext r = (toldAhead (r .ahead), toldComing (r .coming))
 
 abbrev pub nextIn : code-session.Session → List ℕ → Ahead × Coming
-nextIn z s = nextOf currentEdition (headWith (z .board) (z .allowance)) (toldAhead (z .ahead)) s
+nextIn z s = nextOf currentEdition (headOf (toldSession z)) (toldSession z .ahead) s
 
 abbrev pub Begins : List ℕ → code-session.Session → Type 0
 Begins s z = toldSession z ≡ beginning s

@@ -2,6 +2,7 @@
 -- reads a session from standard input, from a fresh state"; "Board and W are read before the first run. A bad file (10
 -- counts the whole session) or event (1, 2 or 7) prints `refused`, number, place, and ends; earlier lines stand."
 --     Head                           what stands before the events: the board and the allowance
+--     headWith b w                   the head of board b and allowance w
 --     withAllowance b o              the board b, with what reading the allowance came to
 --     headAt ed s                    the head of the session s by the edition ed, and the place of its first event, or
 --                                    the refusal
@@ -34,10 +35,13 @@ pub record Head : Type 0 where
   pub board : Board
   pub allowance : ℕ
 
+abbrev pub headWith : Board → ℕ → Head
+headWith b w = record { board = b; allowance = w }
+
 unfoldable pub withAllowance : Board → Outcome (Found ℕ) → Outcome (Found Head)
 withAllowance b o = do
   w ← o
-  found (record { board = b; allowance = w .value }) (w .next)
+  found (headWith b (w .value)) (w .next)
 
 unfoldable pub headAt : Edition → List ℕ → Outcome (Found Head)
 headAt ed s = do

@@ -2,7 +2,8 @@
 ghost use mathlib.Core.Path.{_≡_};
 ghost use Rattle.board_reader.specs.Editions.{currentEdition};
 ghost use Rattle.events.specs.Events.{toldShown};
-ghost use Rattle.session.specs.Carried.{following, goesOn, closes, nextEvent, nextOf, headWith};
+ghost use Rattle.session.specs.Sessions.{headWith};
+ghost use Rattle.session.specs.Carried.{following, goesOn, closes, nextEvent, nextOf};
 ghost use Rattle.session.specs.Carried.{toldAhead, toldNext};
 use crate::Ahead;
 use crate::Stage;

@@ -2,7 +2,7 @@
 -- a board and a state.
 -- The crates above cite these, and nothing of the definitions' text. The last section is for the proof of `fits`.
 use Prim.Native.Nat.{ℕ, _<_}
-use mathlib.Core.Path.{_≡_, refl, sym, ap, _∙_}
+use mathlib.Core.Path.{_≡_, refl}
 use mathlib.Core.Bool.{Bool, true, false}
 use mathlib.Core.List.{[], _∷_, _++_}
 use Rattle.bits.specs.Sets.{room, within}
@@ -162,4 +162,5 @@ pub usable-asked : (b : Board) (s : State) {t u : Bool} {o q : Outcome (Unit {0}
     → q ≡ usable b s
 unfolding usable firstNo
 usable-asked b s board state first second =
-    asks-then ((boardFine b, brokenBoard) ∷ []) stateBeyondBoard (asks-then [] brokenBoard refl board first) state second
+    asks-then ((boardFine b, brokenBoard) ∷ []) stateBeyondBoard
+    (asks-then [] brokenBoard refl board first) state second

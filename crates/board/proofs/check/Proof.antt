@@ -18,7 +18,7 @@ returns-2 c =
     let called = c .before .before in
     let none = called .before in
     check-row _ (in-range (none .before .before)) (none .none .ensures)
-    (sym (ap toldRow (c .enum-told .given .1)) ∙ called .parts-fine .ensures)
+    (sym (ap toldRow (c .enum-told .given .1)) ∙ called .row-after .ensures)
 
 returns-3 : tie.Need-returns-3
 returns-3 c =
@@ -27,7 +27,7 @@ returns-3 c =
     let none = called .before in
     c .complete .ensures
     ∙ check-whole _ (in-range (none .before .before)) (none .none .ensures)
-    (sym (ap toldRow (row .row .given .1)) ∙ called .parts-fine .ensures)
+    (sym (ap toldRow (row .row .given .1)) ∙ called .row-after .ensures)
 
 pub check-spec : {M : Type 1} → statement M
 check-spec =

@@ -2,7 +2,7 @@
 use borrow.Author.Needs.{needs}
 use Rattle.judge.proofs.asked_of.Statement.{statement}
 use Rattle.judge.proofs.asked_of.Tie as tie
-use Rattle.judge.proofs.SoughtLaws.{asked-absent}
+use Rattle.judge.proofs.ScannedLaws.{asked-absent}
 
 returns : tie.Need-returns
 returns c = asked-absent _ _ (c .enum-told .given .1)

@@ -3,7 +3,7 @@ use borrow.Author.Needs.{needs}
 use Rattle.judge.proofs.carries.Statement.{statement}
 use Rattle.judge.proofs.carries.Tie as tie
 use mathlib.Core.Path.{_∙_}
-use Rattle.judge.proofs.SoughtLaws.{carries-same, carries-other}
+use Rattle.judge.proofs.ScannedLaws.{carries-same, carries-other}
 
 returns : tie.Need-returns
 returns c =

@@ -12,7 +12,7 @@ use lib.ListN.{length, length-map, take, drop}
 use Rattle.board.specs.Parts.{mostParts}
 use Rattle.judge.specs.declared.Which.the-variants.{First, Second}
 use Rattle.judge.specs.RelayWindings.{windingOf, toldSeen}
-use Rattle.judge.proofs.SoughtLaws.{winds-neither, orElse, scan-on, scan-past, scan-windings}
+use Rattle.judge.proofs.ScannedLaws.{winds-neither, orElse, scan-on, scan-past, scan-windings}
 
 abbrev Inv-loop : tie.InvT-loop
 Inv-loop relay parts count first₀ second₀ i₀ first second i =

@@ -1,5 +1,4 @@
 -- `neighbours::neighbours` meets its contract. The invariant: the sets so far are those that the parts from i on give.
-use borrow.Author.Needs.{needs}
 use native.Mathlib.Omega.{arith}
 use Prim.Native.Nat.{ℕ}
 use mathlib.Core.Path.{refl, sym, ap, _∙_}

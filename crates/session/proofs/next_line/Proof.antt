@@ -2,13 +2,15 @@
 use borrow.Author.Needs.{needs}
 use Rattle.session.proofs.next_line.Statement.{statement}
 use Rattle.session.proofs.next_line.Tie as tie
-use Rattle.session.proofs.NextLineLaws.{next-line-carried}
+use Rattle.session.specs.HandingOut.{nextLine}
+use Rattle.session.proofs.NextLineLaws.{handed-carried}
 
 returns : tie.Need-returns
+unfolding nextLine
 returns c =
     let at-hand-line = c .before .before .before in
     let entry = at-hand-line .before .before .before .before .before .before in
-    next-line-carried (entry .args .session) _ _ (at-hand-line .hand-line .result) _
+    handed-carried (entry .args .session) (at-hand-line .hand-line .result) _
     (at-hand-line .hand-line .ensures)
 
 pub next-line-spec : {M : Type 1} → statement M

@@ -4,11 +4,14 @@ use mathlib.Core.Path.{_≡_, _∙_}
 use native.Mathlib.Omega.{arith}
 use lib.ListN.{length}
 use borrow.Author.Needs.{needs}
-use Rattle.session.specs.Carried.{headWith, toldAhead}
+use Rattle.session.specs.Sessions.{headWith}
+use Rattle.session.specs.Carried.{toldAhead}
+use Rattle.session.specs.Filling.{nextLines}
 use Rattle.session.proofs.next_lines.Statement.{statement}
 use Rattle.session.proofs.next_lines.Tie as tie
 use Rattle.session.proofs.FillLaws.{FilledTo, filled-none, filled-to-length, line-goes, line-ends}
-use Rattle.session.proofs.FillLaws.{Goes, tag-never-line, next-lines-carried}
+use Rattle.session.proofs.FillLaws.{Goes, tag-never-line}
+use Rattle.session.proofs.NextLineLaws.{handed-carried}
 
 abbrev Inv-loop : tie.InvT-loop
 Inv-loop s out₀ board allowance ahead₀ used₀ out ahead used =
@@ -30,11 +33,12 @@ same-length c =
     kept ∙ filled-to-length _ _ _ _ _ _ _ (at-loop .loop .inv)
 
 returns : tie.Need-returns Inv-loop μ-loop
+unfolding nextLines
 returns c =
     let at-line-at = c .before .before .before .before .before in
     let at-loop = at-line-at .before .before in
     let entry = at-loop .before .before .before .before .before in
-    next-lines-carried (entry .args .session) _ _
+    handed-carried (entry .args .session)
     (record { ahead = at-line-at .line-at .result .ahead; answer = c .sum-up .result }) _
     (line-ends _ _ _ _ _ _ _ (at-loop .loop .inv) (at-line-at .line-at .result) _ (at-line-at .line-at .ensures)
     (tag-never-line _ (c .before .match .keys2)) (c .sum-up .result) (c .sum-up .ensures))

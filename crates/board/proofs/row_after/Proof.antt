@@ -1,7 +1,7 @@
--- `board::parts_fine` meets its contract. The invariant: all the parts come to what those from i on come to after the
+-- `board::row_after` meets its contract. The invariant: all the parts come to what those from i on come to after the
 -- windings so far.
-use Rattle.board.proofs.parts_fine.Statement.{statement}
-use Rattle.board.proofs.parts_fine.Tie as tie
+use Rattle.board.proofs.row_after.Statement.{statement}
+use Rattle.board.proofs.row_after.Tie as tie
 use borrow.Author.Needs.{needs}
 use native.Mathlib.Omega.{arith}
 use Prim.Native.Nat.{_≤_, _-_}
@@ -37,8 +37,8 @@ loop-again c =
           (sym (c .before .before .part-fine .ensures) ∙ not-false _ (c .before .if1 .left)) (c .with .ensures),
     )
 
-pub parts-fine-spec : {M : Type 1} → statement M
-parts-fine-spec =
+pub row-after-spec : {M : Type 1} → statement M
+row-after-spec =
     tie.close
     (tie.spec
     Inv-loop

@@ -40,7 +40,8 @@ carries-other j r k n number d = rw (ne-eqb (kindNumber k) j (λ e. d (number �
 
 -- ---- a kind that is no winding of a relay is neither its first nor its second
 
-pub winds-neither : (r : ℕ) (k : Kind) → (isFirst r k || isSecond r k) ≡ false → (false ≡ isFirst r k) × (false ≡ isSecond r k)
+pub winds-neither : (r : ℕ) (k : Kind) → (isFirst r k || isSecond r k) ≡ false
+    → (false ≡ isFirst r k) × (false ≡ isSecond r k)
 winds-neither r k off = by (isFirst r k) (isSecond r k) off
   where
     by : (x y : Bool) → (x || y) ≡ false → (false ≡ x) × (false ≡ y)
