@@ -3,7 +3,7 @@
 use Prim.Native.Nat.{ℕ, _+_, _≤_, _<_}
 use mathlib.Core.Path.{_≡_, refl, sym, ap, _∙_}
 use mathlib.Core.Logic.{_⊎_, ⊎-elim}
-use mathlib.Core.Bool.{Bool, true, false, cond, _||_}
+use mathlib.Core.Bool.{Bool, true, false, cond, _&&_}
 use mathlib.Core.List.{List, [], _∷_}
 use mathlib.Core.Option.{Option, none, some}
 use lib.Dec.{eqb}
@@ -14,7 +14,7 @@ use Rattle.refusals.specs.Refusals.{noSuchWinding}
 use Rattle.refusals.proofs.OutcomeLaws.{refused-never, given-injective}
 use Rattle.refusals.proofs.Told.{Told}
 use Rattle.kinds.specs.declared.Kind.{Kind}
-use Rattle.kinds.specs.Kinds.{kindNumber, nameOf}
+use Rattle.kinds.specs.Kinds.{regularKind, drawingKind, droppingKind, kindNumber, nameOf}
 use Rattle.board.specs.declared.Part.{Part}
 use Rattle.board.specs.Parts.{blank}
 use Rattle.board.specs.Sorts.{carries}
@@ -38,15 +38,20 @@ pub carries-other : (j r : ℕ) (k : Kind) (n : ℕ) → n ≡ kindNumber k → 
 unfolding carries
 carries-other j r k n number d = rw (ne-eqb (kindNumber k) j (λ e. d (number ∙ e))) refl
 
--- ---- a kind that is no winding of a relay is neither its first nor its second
-
-pub winds-neither : (r : ℕ) (k : Kind) → (isFirst r k || isSecond r k) ≡ false
-    → (false ≡ isFirst r k) × (false ≡ isSecond r k)
-winds-neither r k off = by (isFirst r k) (isSecond r k) off
+-- a kind that carries another number is no winding of the relay
+carries-else : (j r : ℕ) (k : Kind) → ¬ (nameOf k ≡ r) → false ≡ carries j r k
+unfolding carries
+carries-else j r k other = rw (ne-eqb (nameOf k) r other) (none (eqb (kindNumber k) j))
   where
-    by : (x y : Bool) → (x || y) ≡ false → (false ≡ x) × (false ≡ y)
-    by true y e = (sym e, cc)
-    by false y e = (refl, sym e)
+    none : (t : Bool) → false ≡ (t && false)
+    none true = refl
+    none false = refl
+
+pub named-neither : (r : ℕ) (k : Kind) (m : ℕ) → m ≡ nameOf k → ¬ (m ≡ r)
+    → (false ≡ isFirst r k) × (false ≡ isSecond r k)
+named-neither r k m name other =
+    let else : ¬ (nameOf k ≡ r) = λ e. other (name ∙ e) in
+    (rw (← carries-else regularKind r k else) (carries-else drawingKind r k else), carries-else droppingKind r k else)
 
 -- ---- the winding among the parts
 

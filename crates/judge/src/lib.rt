@@ -1,11 +1,10 @@
 // A relay's windings, found in one scan of the parts, and judging: a winding by the sets of neighbours, and as a call
 // on any board and state handed in, with refusals 15, 14 and 11.
 ghost use mathlib.Core.Path.{_≡_};
-ghost use mathlib.Core.Bool.{_||_};
 ghost use Rattle.board.specs.Sorts.{carries};
 ghost use Rattle.search.specs.Verdicts.{unanswered, toldVerdict};
-ghost use Rattle.judge.specs.RelayWindings.{isFirst, isSecond, ofRelay, windingNamed, orNoSuchWinding};
-ghost use Rattle.judge.specs.RelayWindings.{toldWindings, toldSeen, seenWith, toldAsked, FindsWindings};
+ghost use Rattle.judge.specs.RelayWindings.{isFirst, ofRelay, windingNamed, orNoSuchWinding, toldWindings};
+ghost use Rattle.judge.specs.RelayWindings.{toldSeen, seenWith, toldAsked, FindsWindings};
 ghost use Rattle.judge.specs.Judging.{windingFor, JudgesBy, Judges};
 use board::Board;
 use board::MOST_PARTS;
@@ -71,17 +70,6 @@ fn is_first(kind: Kind, relay: u32) -> bool
     }
 }
 
-// Whether a kind is a winding of this relay, its first or its second.
-fn winds(kind: Kind, relay: u32) -> bool
-    ensures { λ r. ⌜ r ≡ (isFirst relay kind || isSecond relay kind) ⌝ }
-{
-    if is_first(kind, relay) {
-        true
-    } else {
-        carries(kind, DROPPING_KIND, relay)
-    }
-}
-
 // What is seen of a winding with this part besides, which is that winding if it is here: the first that is seen stays.
 fn seen_with(seen: Seen, part: Part, here: bool) -> Seen
     ensures { λ r. ⌜ toldSeen r ≡ seenWith (toldSeen seen) part here ⌝ }
@@ -130,7 +118,7 @@ pub fn find_windings(board: Board, relay: u32) -> Windings
         let part = parts[i];
         let kind = part.kind;
         i += 1;
-        if !winds(kind, relay) {
+        if bits::wide(kind.name()) != relay {
             continue;
         }
         first = seen_with(first, part, is_first(kind, relay));

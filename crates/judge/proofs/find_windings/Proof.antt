@@ -3,7 +3,6 @@
 use Rattle.judge.proofs.find_windings.Statement.{statement}
 use Rattle.judge.proofs.find_windings.Tie as tie
 use borrow.Author.Needs.{needs}
-use borrow.Author.Tests.{not-true}
 use native.Mathlib.Omega.{arith}
 use Prim.Native.Nat.{_-_}
 use mathlib.Core.Path.{_≡_, refl, sym, _∙_}
@@ -12,7 +11,7 @@ use lib.ListN.{length, length-map, take, drop}
 use Rattle.board.specs.Parts.{mostParts}
 use Rattle.judge.specs.declared.Which.the-variants.{First, Second}
 use Rattle.judge.specs.RelayWindings.{windingOf, toldSeen}
-use Rattle.judge.proofs.ScannedLaws.{winds-neither, orElse, scan-on, scan-past, scan-windings}
+use Rattle.judge.proofs.ScannedLaws.{named-neither, orElse, scan-on, scan-past, scan-windings}
 
 abbrev Inv-loop : tie.InvT-loop
 Inv-loop relay parts count first₀ second₀ i₀ first second i =
@@ -37,13 +36,14 @@ returns c =
     (loop .inv .1) (loop .inv .2)
     (inr (omega (arith, loop .inv .0, c .before .if1 .taken))) (c .of-relay .ensures)
 
--- a part that is no winding of the relay is passed
+-- a part that carries another number is passed
 loop-again : tie.Need-loop-again Inv-loop μ-loop
 loop-again c =
-    let at-else = c .before .before .before in
+    let at-else = c .before .before .before .before in
     let below = at-else .before .loop-test .taken in
     let loop = at-else .before .before .loop in
-    let neither = winds-neither _ _ (sym (c .before .winds .ensures) ∙ not-true _ (c .if2 .taken)) in (
+    let neither =
+    named-neither _ _ _ (c .before .wide .ensures .0 ∙ c .before .before .name .ensures) (c .if2 .taken) in (
       loop .inv .0,
       scan-past First _ _ _ _ _ (toldSeen (loop .first)) (loop .inv .1) below
           (omega (arith, loop .inv .0, at-else .if1 .left)) (neither .0),
@@ -54,7 +54,7 @@ loop-again c =
 loop-again-2 : tie.Need-loop-again-2 Inv-loop μ-loop
 loop-again-2 c =
     let at-first = c .before .before .before in
-    let at-else = at-first .before .before .before .before in
+    let at-else = at-first .before .before .before .before .before in
     let below = at-else .before .loop-test .taken in
     let loop = at-else .before .before .loop in (
       loop .inv .0,
@@ -81,7 +81,8 @@ find-windings-spec =
     loop-holds
     (λ c κs. search needs)
     returns
-    (λ c. omega arith) (λ c. omega arith) (λ c. omega arith) (λ c κs. search needs) (λ c. omega arith)
+    (λ c. omega arith) (λ c. omega arith) (λ c. omega arith) (λ c κs. search needs) (λ c κs. search needs)
+    (λ c. omega arith)
     loop-again
     (λ c κs. search needs) (λ c κs. search needs) (λ c κs. search needs) (λ c κs. search needs) (λ c. omega arith)
     loop-again-2
