@@ -43,7 +43,7 @@ module _ {A R : Type 0} (word : R → Outcome A) {So : R → Type 0} {o : Outcom
   told-left : (n p : ℕ) → word y ≡ refused n p → So y
   told-left n p is = subst So (sym told) (stands .left n p (sym (ap word told) ∙ is))
 
--- ---- the two lines of the table for each call
+-- ---- what a call came to, in what it tells
 
 abbrev written : Outcome ℕ × List ℕ → Outcome ℕ
 written x = x .0
