@@ -1,5 +1,6 @@
-// The session program: reads a session from standard input and writes its lines on standard output. What the lines are
-// and how they fill a buffer is the library's to say (crate `session`); here is only the reading and the writing.
+// The session program: reads a session from standard input and writes its lines on standard output, and once more on
+// standard error those that say `refused`. What the lines are and how they fill a buffer is the library's to say (crate
+// `session`); here is only the reading and the writing.
 ghost use Prim.Native.Nat.{suc, _+_, _<_, _≤_};
 ghost use mathlib.Core.Bool.{true, false, not};
 ghost use mathlib.Core.Path.{_≡_};
@@ -80,11 +81,51 @@ fn read_input(buffer: &mut [u8]) -> Input
     }
 }
 
-// Writes out the first bytes of the buffer, and says whether all were written.
+// Repeats on standard error the line that begins at a place of the buffer, if it says `refused`: no other word of a
+// line has an `r`. Answers the place after the line.
+fn tell_line(lines: &[u8], begin: usize, used: usize) -> usize
+    requires { ⌜ begin < used ⌝ }
+    requires { ⌜ used ≤ length (now lines) ⌝ }
+    ensures { λ r. ⌜ begin < r ⌝ }
+    ensures { λ r. ⌜ r ≤ used ⌝ }
+{
+    let mut refused = false;
+    for at in begin..used {
+        let byte = lines[at];
+        if byte == b'\n' {
+            let after = at + 1;
+            if refused {
+                io::write_all(STDERR_FILENO, &lines[begin..after]);
+            }
+            return after;
+        }
+        if byte == b'r' {
+            refused = true;
+        }
+    }
+    used
+}
+
+// Repeats on standard error each refused line among the first bytes of the buffer, so that whoever started the program
+// learns of them without looking through standard output.
+fn tell_refused(lines: &[u8], used: usize)
+    requires { ⌜ used ≤ length (now lines) ⌝ }
+{
+    let mut begin = 0;
+    while begin < used {
+        begin = tell_line(lines, begin, used);
+    }
+}
+
+// Writes out the first bytes of the buffer, and says whether all were written; then tells what is refused there.
 fn write_out(lines: &[u8], used: usize) -> bool
     requires { ⌜ used ≤ length (now lines) ⌝ }
 {
-    io::write_all(STDOUT_FILENO, &lines[..used])
+    let written = io::write_all(STDOUT_FILENO, &lines[..used]);
+    if written {
+        tell_refused(lines, used);
+    }
+    written
 }
 
 // Prints the lines of a session by way of a buffer with room for the longest line. Where all were written, nothing is

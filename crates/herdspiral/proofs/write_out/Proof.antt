@@ -9,4 +9,8 @@ slice-aggregate-write-all : tie.Need-slice-aggregate-write-all
 slice-aggregate-write-all c = sym (length-take-le _ _ (c .before .before .pre))
 
 pub write-out-spec : {M : Type 1} → statement M
-write-out-spec = tie.close (tie.spec slice-aggregate-write-all (λ c κs. search needs) (λ c. search needs))
+write-out-spec =
+    tie.close
+    (tie.spec
+    slice-aggregate-write-all
+    (λ c κs. search needs) (λ c κs. search needs) (λ c. search needs) (λ c. search needs))
