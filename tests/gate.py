@@ -41,6 +41,7 @@ PROGRAMS = [  # what a program does, and whether its answers are the two that ar
 def gate(folder, test, **more):
     """How the gate comes out over a repository with this test, started from above it by a path without a dot in front."""
     stand_in.put(os.path.join(folder, "root", ".ci", "run"), repository.text(".ci", "run"))
+    stand_in.put(os.path.join(folder, "root", "crates.txt"), "")
     stand_in.put(os.path.join(folder, "root", "tests", "one.py"), test)
     stand_in.put(os.path.join(folder, "bin", "rt"), "#!/bin/sh\necho '3 passed, 0 failed'\n", 0o755)
     own = {**os.environ, "PATH": os.path.join(folder, "bin") + os.pathsep + os.environ["PATH"], **more}

@@ -54,10 +54,10 @@ def proved(session):
     return program.run(program.command("herdspiral"), session)
 
 
-def same(name, session, told, wanted):
-    """The check that a program prints for a session what is wanted, some line at least, says nothing on standard error, and
-    ends with status 0."""
-    if told == program.well(wanted) and wanted and wanted.endswith(b"\n"):
+def same(name, session, told, wanted, ended=program.well):
+    """The check that a program prints for a session what is wanted, some line at least, and that it ended so: with nothing on
+    standard error, if nothing else is said, and with status 0."""
+    if told == ended(wanted or b"") and wanted and wanted.endswith(b"\n"):
         return name, True
     want, got = from_difference(wanted, told.out)
     return f"{name}: {shown(session.hex(), SESSION_SHOWN)}: wanted {want}, got {got}, on standard error {shown(repr(told.errors))}, status {told.status}", False
@@ -130,7 +130,7 @@ def compared(sessions):
     checks = [same(name, session, program.well(own), wanted) for (name, _, session), own, wanted in zip(sessions, by_library(data), second)]
     first = [place for place, (name, _, _) in enumerate(sessions) if int(name.split()[-1]) < ALONE]
     for place, own in zip(first, by_program([data[place] for place in first])):
-        checks.append(same(f"{sessions[place][0]}, alone", data[place], own, second[place]))
+        checks.append(same(f"{sessions[place][0]}, alone", data[place], own, second[place], program.session_told))
     for wanted in second:
         seen.look(wanted)
     for word, count in sorted(seen.words.items()):
@@ -149,7 +149,7 @@ def counted(sessions):
 def book():
     """That both programs print what the rule book says of its boards."""
     for name, session, wanted in book_sessions.sessions():
-        yield same(f"{name}, herdspiral", session, proved(session), wanted)
+        yield same(f"{name}, herdspiral", session, proved(session), wanted, program.session_told)
         yield same(f"{name}, the second program", session, second_program.answer(session), wanted)
 
 

@@ -15,8 +15,11 @@ PLACEHOLDER = re.compile(r"(?<![A-Za-z])(NAME|LABEL|CRATE|X|A1)(?![A-Za-z])")
 # Names of what is not in the repository.
 ELSEWHERE = {
     "01-scope.md": "the rule book, which is handed to the developers",
+    "board.hex": "a file of the reader's own",
     "board_cases": "a program of before, in a comparison of docs/COST.md",
     "definitions": "a column of a table",
+    "flock": "a command of the system",
+    "head": "a command of the system",
     "lost-files": "a part of `rt ci`",
     "open": "a word of the proof language",
     "proof": "a column of a table",
@@ -26,7 +29,7 @@ ELSEWHERE = {
 
 NAME = r"[^\W\d](?:[\w-]*\w)?"
 QUOTED = r"`[^`\n]+`"
-ENDINGS = ("py", "md", "txt", "antt", "rt", "rs", "hex", "lines", "edit", "stamp")
+ENDINGS = ("py", "md", "txt", "antt", "rt", "rs", "hex", "lines", "words", "edit", "awk", "sh")
 
 
 def documents():
@@ -42,7 +45,7 @@ def code():
 
 def tracked():
     """Every file below the repository but those that were built, as a path."""
-    skipped = ("target", ".git", "__pycache__")
+    skipped = ("target", "built", ".git", "__pycache__")
     found = []
     for folder, folders, names in os.walk(repository.ROOT):
         folders[:] = [name for name in folders if name not in skipped]
@@ -86,7 +89,7 @@ class Known:
 def is_path(name):
     """Whether a path is there, or is built."""
     folders = ("", "second", "samples", "crates", os.path.join("crates", "*"))
-    return name.startswith("target/") or any(glob.glob(repository.path(folder, name)) for folder in folders)
+    return name.startswith(("target/", "built/")) or any(glob.glob(repository.path(folder, name)) for folder in folders)
 
 
 def named_crates(text):

@@ -61,6 +61,16 @@ def well(out):
     return Told(out, b"", 0)
 
 
+def refused_lines(out):
+    """The lines of a session that say `refused`."""
+    return b"".join(line for line in out.splitlines(True) if b"refused" in line)
+
+
+def session_told(out):
+    """A run of the program `herdspiral` that prints this, repeats what is refused on standard error, and ends with status 0."""
+    return Told(out, refused_lines(out), 0)
+
+
 def run(start, data=b"", **more):
     """A program, started so, run to its end with this on its standard input, or with other streams."""
     streams = {"stdout": subprocess.PIPE, "stderr": subprocess.PIPE, "timeout": PATIENCE} | ({} if "stdin" in more else {"input": data}) | more

@@ -79,6 +79,11 @@ def lines(crate, part):
     return sum(text(name).count("\n") for name in files(crate, part))
 
 
+def same(name, got, want):
+    """A check that two things are equal, with both in its name."""
+    return f"{name}: wanted {want!r:.300}, got {got!r:.300}", got == want
+
+
 def report(checks):
     """Prints each failure and, last, the count; the exit status says whether all passed. A check is a name and whether it holds."""
     failed = [name for name, holds in checks if not holds]

@@ -1,6 +1,6 @@
 """How the proved program `herdspiral` reads and writes: input that cannot be read, output that cannot be written, input around
-the longest and endless, input in pieces, output around what the program keeps before it writes, how many writes a long session
-makes, how much stack it needs. A run is held to all that it comes to: its whole output, against the second program's, the exact
+the longest and endless, input in pieces, output around what the program keeps before it writes, the lines that it repeats on
+standard error, how many writes a long session makes, how much stack it needs. A run is held to all that it comes to: its whole output, against the second program's, the exact
 words on standard error, the exit status. Each check is a name and whether it holds."""
 import os
 import random
@@ -16,23 +16,19 @@ import program
 import second_program
 import session_boards
 import session_files
-from program import Told, well
+from program import Told, session_told, well
+from repository import same
 
 COMMAND = program.command("herdspiral")
 FAILED = 0  # the exit status after one of the two messages
 UNREADABLE = Told(b"", b"herdspiral: standard input cannot be read\n", FAILED)
 UNWRITABLE = Told(b"", b"herdspiral: standard output cannot be written\n", FAILED)
-TOO_LONG = well(b"refused 10 0\n")
+TOO_LONG = session_told(b"refused 10 0\n")
 LONGEST = long_sessions.LONGEST
 LINES_ROOM = 16_384  # bytes of lines that the program keeps before it writes them
 MOST_WRITES = 100
 PAUSE = 0.01  # seconds between pieces of input
 H2 = next(data for name, data, _ in book_sessions.sessions() if name == "H2")
-
-
-def same(name, told, wanted):
-    """The check that a run comes to what is wanted."""
-    return f"{name}: wanted {wanted!r:.300}, got {told!r:.300}", told == wanted
 
 
 def holding(length):
@@ -77,12 +73,13 @@ def broken_off():
 
 
 def failing_writes():
-    """Standard output that is full, open for reading only, or closed; and standard error that is closed, which is not used."""
+    """Standard output that is full, open for reading only, or closed; and standard error that is closed."""
     for name, words in (("full", ">/dev/full"), ("open for reading only", "1</dev/null"), ("closed", "1>&-")):
         for session, data in (("H2", H2), ("the longest session", holding(LONGEST)), ("bytes that are refused", b"\x80\x80")):
             yield same(f"{session}, output that is {name}", redirected(words, data), UNWRITABLE)
     yield same("a message that cannot be written either", redirected("1>/dev/full 2>/dev/full"), Told(b"", b"", FAILED))
     yield same("standard error that is closed", redirected("2>&-"), second_program.answer(H2))
+    yield same("the same where something is refused", redirected("2>&-", b"\x80\x80"), well(b"refused 1 2\n"))
 
 
 def left_by_its_reader():
@@ -112,10 +109,10 @@ def takings():
         yield same(f"{size} bytes from a pipe", program.run(COMMAND, data), told)
     for size in (LONGEST, LONGEST + 1):
         data = bytes([2, 0, 0, 0, 0]).ljust(size, b"\x80")
-        yield same(f"H0 and top bits, {size} bytes", program.run(COMMAND, data), TOO_LONG if size > LONGEST else well(b"0 idle 0 0\nrefused 2 5\n"))
+        yield same(f"H0 and top bits, {size} bytes", program.run(COMMAND, data), TOO_LONG if size > LONGEST else session_told(b"0 idle 0 0\nrefused 2 5\n"))
     with open("/dev/zero", "rb") as endless:
         yield same("endless input", program.run(COMMAND, stdin=endless), TOO_LONG)
-    yield same("no input", program.run(COMMAND, stdin=subprocess.DEVNULL), well(b"refused 1 0\n"))
+    yield same("no input", program.run(COMMAND, stdin=subprocess.DEVNULL), session_told(b"refused 1 0\n"))
 
 
 def in_pieces(data, size):
@@ -135,7 +132,7 @@ def pieces():
     """Input in pieces is read to its end, and no further than it must be."""
     for name, data, wanted in book_sessions.sessions():
         if name in ("H2", "H5", "80 80"):
-            yield same(f"{name} byte by byte", in_pieces(data, 1), well(wanted))
+            yield same(f"{name} byte by byte", in_pieces(data, 1), session_told(wanted))
     for size in (LONGEST, LONGEST + 1):
         data = holding(size)
         yield same(f"{size} bytes in pieces", in_pieces(data, 5_000), TOO_LONG if size > LONGEST else second_program.answer(data))
@@ -157,6 +154,18 @@ def around_the_room():
         for count, size in ends:
             wanted = b"".join(line + b"\n" for line in lines[: count + 1])
             yield same(f"a session whose lines are {size} bytes", program.run(COMMAND, longest[: len(start) + count]), well(wanted))
+
+
+def repeated():
+    """Lines that are refused come once more on standard error, each of them whole, wherever they stand in the program's buffer;
+    no other line does."""
+    start = session_files.session(session_boards.holding(random.Random(1)), session_files.LARGEST, [])
+    for name, events in (("every event refused but the first", [1]), ("every other event refused", [1, 1, 0, 0]), ("few refused", [1, 0] * 1_000 + [0])):
+        for last in ([], [0x80]):
+            data = start + bytes((events * 8_000)[:8_000] + last)
+            told = second_program.answer(data).out
+            yield same(f"{name}, an end of {last}", program.run(COMMAND, data), session_told(told))
+            yield f"{name}: some line is refused, and some is not", 0 < len(program.refused_lines(told)) < len(told)
 
 
 def writes(data):
@@ -191,5 +200,5 @@ def small_stack():
 
 
 def checks():
-    parts = (failing_reads, broken_off, failing_writes, left_by_its_reader, takings, pieces, around_the_room, few_writes, small_stack)
+    parts = (failing_reads, broken_off, failing_writes, left_by_its_reader, takings, pieces, around_the_room, repeated, few_writes, small_stack)
     return [check for part in parts for check in part()]
