@@ -69,7 +69,7 @@ class Sessions:
     def seconds(self, command, data, times=1):
         """How long a program takes for a session from its start to its end, so many times one after the other."""
         path = self.path(data)
-        streams = [(os.POSIX_SPAWN_OPEN, 0, path, os.O_RDONLY, 0), (os.POSIX_SPAWN_OPEN, 1, os.devnull, os.O_WRONLY, 0)]
+        streams = [(os.POSIX_SPAWN_OPEN, 0, path, os.O_RDONLY, 0)] + [(os.POSIX_SPAWN_OPEN, stream, os.devnull, os.O_WRONLY, 0) for stream in (1, 2)]
         began = time.perf_counter()
         for _ in range(times):
             os.waitpid(os.posix_spawn(command[0], command, os.environ, file_actions=streams), 0)
