@@ -1,6 +1,7 @@
 # Typed text, read byte by byte: pairs of hex digits, white space between them, # begins a comment. A line ends with LF, CR
 # or CRLF, and a byte order mark at the begin is skipped. For the script `herdspiral`, together with rows.awk or words.awk:
-# that file hands in each byte of the text by take() and the end by finish(), and has met() for what to do with a pair.
+# that file hands in each byte of the text by take(), has met() for what to do with a pair, and, where the text may have a slip,
+# tells the end by finish().
 #
 #   pairs    how many pairs there were so far
 #   line     the line of the byte taken last, from 1
