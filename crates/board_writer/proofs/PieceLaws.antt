@@ -7,7 +7,7 @@ use native.Mathlib.Nat.{zero-add}
 use native.Mathlib.Omega.{arith}
 use lib.ListN.{length, length-append}
 use lib.Seq.{sets, length-sets}
-use Rattle.number.specs.Numbers.{currentWidth, numberBytes}
+use Rattle.number.specs.Numbers.{numberBytes}
 use Rattle.number.proofs.Buffers.{sets-append}
 use Rattle.board_writer.specs.File.{rowBytes, numbersBytes}
 
@@ -57,9 +57,9 @@ numbers-all {before} {all} {start} vs is fits =
 module _ {before all out : List ℕ} {start at v w : ℕ} {vs : List ℕ} (is : w ≡ v)
     (t : NumbersToCome before start all out at (v ∷ vs)) where
   -- the next number, of which w is a copy, has room
-  pub number-room : w ≤ currentWidth .largest → (w ≤ currentWidth .largest) × (at + length (numberBytes w) ≤ length out)
+  pub number-room : at + length (numberBytes w) ≤ length out
   unfolding rowBytes
-  number-room small = (small, rw is (to-come-room (numberBytes v) (numbersBytes vs) (t .bytes)))
+  number-room = rw is (to-come-room (numberBytes v) (numbersBytes vs) (t .bytes))
 
   -- once it is put the others are to come
   pub number-put : {out′ : List ℕ} {at′ : ℕ} → (at′ ≡ at + length (numberBytes w))

@@ -13,7 +13,7 @@ use Rattle.number.specs.declared.NumberWritten.{NumberWritten}
 use Rattle.number.specs.declared.NumberWritten.the-variants.{Next, Refused}
 use Rattle.refusals.specs.Outcomes.{Outcome, given, refused}
 use Rattle.refusals.specs.Refusals.{brokenBoard, bufferTooShort}
-use Rattle.number.specs.Numbers.{numberBytes, numberWriting, toldNumberWritten, currentWidth}
+use Rattle.number.specs.Numbers.{numberBytes, numberWriting, toldNumberWritten}
 use Rattle.number.proofs.Buffers.{sets-append, sets-at-zero}
 use Rattle.number.proofs.NumberLaws.{number-written}
 use Rattle.refusals.proofs.OutcomeLaws.{given-injective, refused-never}
@@ -35,12 +35,12 @@ use Rattle.board_writer.proofs.PieceLaws.{numbers-all, numbers-room, nu
 
 -- ---- a number that has room: `write_number` writes it, and does not refuse it
 
-module _ (v : ℕ) (out : List ℕ) (at : ℕ) {out′ : List ℕ} (x : NumberWritten) (small : v ≤ currentWidth .largest)
+module _ (v : ℕ) (out : List ℕ) (at : ℕ) {out′ : List ℕ} (x : NumberWritten)
     (room : at + length (numberBytes v) ≤ length out)
     (wrote : _≡_ {A = Outcome ℕ × List ℕ} (toldNumberWritten x, out′) (numberWriting v out at)) where
   told : _≡_ {A = Outcome ℕ × List ℕ} (toldNumberWritten x, out′)
       (given (at + length (numberBytes v)), sets out at (numberBytes v))
-  told = wrote ∙ number-written v out at small room
+  told = wrote ∙ number-written v out at room
 
   answer : toldNumberWritten x ≡ given (at + length (numberBytes v))
   answer = ap (λ (p : Outcome ℕ × List ℕ). p .0) told

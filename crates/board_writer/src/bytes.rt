@@ -7,14 +7,14 @@ ghost use mathlib.Core.Path.{_≡_};
 ghost use Prim.Native.Nat.{_+_, _≤_};
 ghost use lib.ListN.{length, take};
 ghost use lib.Seq.{sets};
-ghost use Rattle.number.specs.Numbers.{currentWidth, numberBytes};
+ghost use Rattle.number.specs.Numbers.{numberBytes};
 ghost use Rattle.kinds.specs.Kinds.{mostFields};
 ghost use Rattle.board.specs.Parts.{mostParts};
 ghost use Rattle.board_writer.specs.File.{numbersBytes, countsBytes, partBytes, partsBytes};
 
 // Writes a number at a place where it has room, and gives the next place.
 fn put(value: u32, out: &mut [u8], at: usize) -> usize
-    requires { ⌜ (value ≤ currentWidth .largest) × (at + length (numberBytes value) ≤ length (now out)) ⌝ }
+    requires { ⌜ at + length (numberBytes value) ≤ length (now out) ⌝ }
     ensures { λ r. ⌜ (r ≡ at + length (numberBytes value))
         × (now (out .exit) ≡ sets (now (out .entry)) at (numberBytes value)) ⌝ }
 {

@@ -49,4 +49,5 @@ starred-boards =
     & (λ v told. told) & (λ x told. told) & (λ a k told. told) & (λ x told. told) & (λ x told. told)
     & (λ x told. told) & (λ x told. told) & refl & (λ v told. told) & (λ a told. told) & (λ a k told. told)
     & (λ a k told. told) & (λ a k told. told) & (λ a k told. told) & (λ a k told. told) & (λ a k told. told)
-    & (λ x told. told) & (λ x told. told) & refl & tt
+    & (λ x told. told) & (λ x told. told) & (λ x told. told) & (λ x told. told) & (λ x told. told)
+    & (λ x told. told) & (λ x told. told) & (λ x told. told) & (λ x told. told) & refl & refl & tt

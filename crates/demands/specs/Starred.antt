@@ -20,7 +20,7 @@
 --                                   the calls hand out just these lines)
 --     starred                       the rows that the rule book stars
 --     besides                       rows that it does not star, and H2, with rows of ours: two relays that can move
---                                   at once, logs that are just long enough
+--                                   at once, logs that are just long enough, the numbers of request A1
 --     Starred                       every row of either holds
 use Prim.Native.Nat.{ℕ}
 use mathlib.Core.Path.{_≡_}
@@ -29,7 +29,7 @@ use mathlib.Core.Option.{none, some}
 use lib.ListN.{length, replicate}
 use Rattle.lists.specs.Members.{All}
 use Rattle.refusals.specs.Outcomes.{Outcome, given, refused}
-use Rattle.refusals.specs.Refusals.{inputEnds, badForm, outOfRange}
+use Rattle.refusals.specs.Refusals.{inputEnds, badForm, outOfRange, noSuchKind}
 use Rattle.kinds.specs.declared.Kind.{Kind}
 use Rattle.kinds.specs.declared.Kind.the-variants.{Wire, Lower, Button, Regular, Drawing, Dropping}
 use Rattle.board.specs.declared.Part.{Part}
@@ -185,8 +185,16 @@ besides =
     ∷ runs h5 (withReleased (drawn0 pushed0) 0) (lent 2) 100 idle 0 (drawn0 freshState) noRelay (lent 2)
     ∷ runs pair freshState (lent 3) 100 idle 2 (withDrawn (drawn0 freshState) 1) noRelay (128 ∷ 129 ∷ 7 ∷ [])
     ∷ reads (128 ∷ 128 ∷ []) emptyBoard (refused inputEnds 2)
-    ∷ reads (128 ∷ 128 ∷ 128 ∷ []) emptyBoard (refused badForm 0)
+    ∷ reads (128 ∷ 128 ∷ 128 ∷ []) emptyBoard (refused inputEnds 3)
+    ∷ reads (128 ∷ 128 ∷ 128 ∷ 128 ∷ []) emptyBoard (refused inputEnds 4)
+    ∷ reads (128 ∷ 128 ∷ 128 ∷ 128 ∷ 128 ∷ []) emptyBoard (refused badForm 0)
+    ∷ reads (128 ∷ 128 ∷ 128 ∷ 128 ∷ 0 ∷ []) emptyBoard (refused badForm 0)
+    ∷ reads (255 ∷ 255 ∷ 255 ∷ 255 ∷ 15 ∷ []) emptyBoard (refused outOfRange 0)
+    ∷ reads (255 ∷ 255 ∷ 255 ∷ 255 ∷ 16 ∷ []) emptyBoard (refused badForm 0)
+    ∷ reads (128 ∷ 128 ∷ 128 ∷ 128 ∷ 16 ∷ []) emptyBoard (refused badForm 0)
+    ∷ reads (2 ∷ 0 ∷ 0 ∷ 1 ∷ 132 ∷ 2 ∷ []) emptyBoard (refused noSuchKind 4)
     ∷ prints (h0File ++ (255 ∷ 255 ∷ 127 ∷ [])) h0Line
+    ∷ prints (h0File ++ (255 ∷ 255 ∷ 255 ∷ 255 ∷ 15 ∷ [])) h0Line
     ∷ []
 
 abbrev pub Starred : Type 0

@@ -51,18 +51,12 @@ found-next {A} a b m n e =
 current-some : 0 < currentWidth .longest
 current-some = omega arith
 
--- the values of the longest form are those up to the largest, and a word of 32 bits holds them
-current-whole : 128 ^ (currentWidth .longest) ≡ currentWidth .largest + 1
-current-whole = refl
-
-current-word : currentWidth .largest < 2 ^ 32
-current-word = omega arith
-
+-- the longest form has room for the largest value, which is the largest word of 32 bits
 current-room : (v : ℕ) → v ≤ currentWidth .largest → v < 128 ^ (currentWidth .longest)
-current-room v h = omega (arith, current-whole)
+current-room v h = omega arith
 
-current-most : (v : ℕ) → v < 128 ^ (currentWidth .longest) → v ≤ currentWidth .largest
-current-most v h = omega (arith, current-whole)
+pub word-current : (v : ℕ) → v < 2 ^ 32 → v ≤ currentWidth .largest
+word-current v h = omega arith
 
 -- ---- a form at a place
 
@@ -153,23 +147,16 @@ module _ (w : Width) where
   unfolding numberAt placed
   number-bad s at f r is = sym (ap (placed w (length s) at) (sym r ∙ is))
 
--- a form of the longest length is worth no more than the largest
-pub form-most : (s : List ℕ) (at : ℕ) (f : Form) (v m : ℕ) → ((i : ℕ) → Fits w8 (getD s i 0))
-    → f ≡ form (currentWidth .longest) (drop at s) → f ≡ Got v m → v ≤ currentWidth .largest
-form-most s at f v m fit r is =
-    current-most v
-    (form-read (currentWidth .longest) (drop at s) v m (Bytes-drop s at (Bytes-slice s fit)) (sym r ∙ is) .small)
+  module _ (s : List ℕ) (at : ℕ) (f : Form) (v m : ℕ) (r : f ≡ form (w .longest) (drop at s)) (is : f ≡ Got v m) where
+    pub number-got : v ≤ w .largest → found v (at + m) ≡ numberAt w s at
+    unfolding numberAt
+    number-got most =
+        sym (ap (placed w (length s) at) (sym r ∙ is) ∙ placed-as (length s) at v m most)
 
-pub form-word : (s : List ℕ) (at : ℕ) (f : Form) (v m : ℕ) → ((i : ℕ) → Fits w8 (getD s i 0))
-    → f ≡ form (currentWidth .longest) (drop at s) → f ≡ Got v m → v < 2 ^ 32
-form-word s at f v m fit r is = omega (arith, form-most s at f v m fit r is, current-word)
-
-pub number-got : (s : List ℕ) (at : ℕ) (f : Form) (v m : ℕ) → ((i : ℕ) → Fits w8 (getD s i 0))
-    → f ≡ form (currentWidth .longest) (drop at s) → f ≡ Got v m → found v (at + m) ≡ numberAt currentWidth s at
-unfolding numberAt
-number-got s at f v m fit r is =
-    sym (ap (placed currentWidth (length s) at) (sym r ∙ is)
-    ∙ placed-as currentWidth (length s) at v m (form-most s at f v m fit r is))
+    pub number-over : w .largest < v → refused badForm at ≡ numberAt w s at
+    unfolding numberAt
+    number-over over =
+        sym (ap (placed w (length s) at) (sym r ∙ is) ∙ placed-over (length s) at v m over)
 
 -- ---- reading what was written, and writing what was read
 
@@ -219,13 +206,11 @@ number-bytes-length-two v h = encode-short 1 (currentWidth .longest) v h
 
 -- ---- what writing a number does to a buffer
 
-pub number-written : (v : ℕ) (out : List ℕ) (at : ℕ) → v ≤ currentWidth .largest
-    → at + length (numberBytes v) ≤ length out
+pub number-written : (v : ℕ) (out : List ℕ) (at : ℕ) → at + length (numberBytes v) ≤ length out
     → _≡_ {A = Outcome ℕ × List ℕ} (numberWriting v out at)
     (given (at + length (numberBytes v)), sets out at (numberBytes v))
 unfolding numberWriting firstNo
-number-written v out at h r =
-    rw (le-leb v (currentWidth .largest) h, le-leb (at + length (numberBytes v)) (length out) r)
+number-written v out at fits = rw (le-leb (at + length (numberBytes v)) (length out) fits)
 
 -- room at a place, as `has_room` tests it
 pub room-past : (len at bytes : ℕ) → len < at → false ≡ leb (at + bytes) len
@@ -237,41 +222,24 @@ room-within len at bytes h =
     (λ fits. fits ∙ sym (le-leb (at + bytes) len (omega (arith, leb-true bytes (len - at) fits))))
     (λ lacks. lacks ∙ sym (lt-leb (at + bytes) len (omega (arith, leb-false bytes (len - at) lacks))))
 
--- the lines of `write_number`, one after the other
-pub number-asked : (v : ℕ) (out : List ℕ) (at : ℕ) {bytes : ℕ} {room : Bool} {o p : Outcome (Unit {0})}
-    → bytes ≡ length (numberBytes v) → room ≡ leb (at + bytes) (length out)
-    → o ≡ unless (leb v (currentWidth .largest)) badForm 0 → p ≡ (o >> unless room bufferTooShort 0)
-    → p ≡ firstNo (numberLines v out at)
-number-asked v out at long fits first second =
-    asks-then ((leb v (currentWidth .largest), badForm) ∷ []) bufferTooShort (first ∙ sym (asks-first _ badForm))
-    (fits ∙ ap (λ (n : ℕ). leb (at + n) (length out)) long) second
+-- and each way out of `write_number`
+module _ (v : ℕ) (out : List ℕ) (at bytes : ℕ) (long : bytes ≡ length (numberBytes v)) where
+  pub number-unwritten : leb (at + bytes) (length out) ≡ false
+      → _≡_ {A = Outcome ℕ × List ℕ} (refused bufferTooShort 0, out) (numberWriting v out at)
+  unfolding numberWriting firstNo
+  number-unwritten lacks = rw (← long, lacks)
 
--- and each way out of it, by what stands against it
-module _ (v : ℕ) (out : List ℕ) (at : ℕ) (x : Against) (asked : toldAgainst x ≡ firstNo (numberLines v out at)) where
-  pub number-unwritten : (r : Refusal) → x ≡ stands.Refused r
-      → _≡_ {A = Outcome ℕ × List ℕ} (refused (r .number) (r .place), out) (numberWriting v out at)
-  unfolding numberWriting
-  number-unwritten r is = rw (← asked, is)
-
-  module _ (bytes : ℕ) (none : x ≡ stands.Nothing) (long : bytes ≡ length (numberBytes v)) where
-    number-free : (v ≤ currentWidth .largest) × (at + length (numberBytes v) ≤ length out)
-    number-free =
-        let first = first-holds _ _ _ (sym asked ∙ ap toldAgainst none) in
-        let second = first-holds _ _ _ (first .1) in
-        (leb-true v (currentWidth .largest) (first .0), leb-true _ (length out) (second .0))
-
-    pub number-fits : at + bytes ≤ length out
-    number-fits = omega (arith, number-free, long)
-
-    pub number-groups : (0 < currentWidth .longest) × (v < 128 ^ (currentWidth .longest))
+  module _ (fits : at + bytes ≤ length out) where
+    -- a word of 32 bits has a form of the longest length
+    pub number-groups : v < 2 ^ 32 → (0 < currentWidth .longest) × (v < 128 ^ (currentWidth .longest))
         × (at + length (encode (currentWidth .longest) v) ≤ length out)
     unfolding numberBytes
-    number-groups = (current-some, current-room v (number-free .0), number-free .1)
+    number-groups word = (current-some, current-room v (word-current v word), rw (← long) fits)
 
     pub number-stored : (out′ : List ℕ) → out′ ≡ sets out at (encode (currentWidth .longest) v)
         → _≡_ {A = Outcome ℕ × List ℕ} (given (at + bytes), out′) (numberWriting v out at)
     unfolding numberBytes
-    number-stored out′ wrote = rw (long, wrote) (sym (number-written v out at (number-free .0) (number-free .1)))
+    number-stored out′ wrote = rw (long, wrote) (sym (number-written v out at (rw (← long) fits)))
 
 -- ---- answers and what they tell
 

@@ -1,8 +1,10 @@
 -- The file's numbers. Rule book, "The board file": "A number is in groups of seven bits, lowest group first, one byte a
--- group; the top bit is set on every byte but the last. At most three bytes (2,097,151). Only the shortest form is
--- allowed: the last byte is 0 only if it is the only byte."
+-- group; the top bit is set on every byte but the last. [..] Only the shortest form is allowed: the last byte is 0 only
+-- if it is the only byte." There, "At most three bytes (2,097,151)"; since request A1, "Numbers go to 4,294,967,295: up
+-- to five bytes, the fifth at most 15".
 --     Width                           how wide a file's numbers are: `longest`, the longest form, in bytes, and
 --                                     `largest`, the largest value
+--     threeBytes                      the width before request A1
 --     currentWidth                    the width of the rule book as it stands
 --     Bytes s                         every element of s is a byte
 --     below g f                       the group g below the rest of a number, whose form is f
@@ -14,10 +16,9 @@
 --                                     place, or 1 or 2
 --     encode k v                      the shortest form of v, where it has at most k bytes; else the k lowest groups of
 --                                     v, each with its top bit set
---     numberBytes v                   the bytes that v is written as: its shortest form; bytes that are no number where
---                                     v is above the largest, which is not written
---     numberLines v out at            the lines of writing v into the buffer `out` at a place: 2 where v is too large
---                                     for a number, then 16 where its bytes have no room there
+--     numberBytes v                   the bytes that v is written as: its shortest form. A word of 32 bits has one
+--     numberLines v out at            the line of writing v into the buffer `out` at a place: 16 where its bytes have
+--                                     no room there
 --     numberWriting v out at          what that answers, and the buffer afterwards: its bytes stand at the place and
 --                                     the rest stays
 --     toldNumber r                    an answer to reading in the rule book's numbers
@@ -47,8 +48,11 @@ pub record Width : Type 0 where
   pub longest : ℕ
   pub largest : ℕ
 
+abbrev pub threeBytes : Width
+threeBytes = record { longest = 3; largest = 2_097_151 }
+
 abbrev pub currentWidth : Width
-currentWidth = record { longest = 3; largest = 2_097_151 }
+currentWidth = record { longest = 5; largest = 4_294_967_295 }
 
 abbrev pub Bytes : List ℕ → Type 0
 Bytes s = (i : ℕ) → getD s i 0 < 256
@@ -82,8 +86,7 @@ unfoldable pub numberBytes : ℕ → List ℕ
 numberBytes v = encode (currentWidth .longest) v
 
 abbrev pub numberLines : ℕ → List ℕ → ℕ → Order
-numberLines v out at =
-    (leb v (currentWidth .largest), badForm) ∷ (leb (at + length (numberBytes v)) (length out), bufferTooShort) ∷ []
+numberLines v out at = (leb (at + length (numberBytes v)) (length out), bufferTooShort) ∷ []
 
 unfoldable pub numberWriting : ℕ → List ℕ → ℕ → Outcome ℕ × List ℕ
 numberWriting v out at =

@@ -5,7 +5,6 @@ ghost use lib.Dec.{leb};
 ghost use lib.ListN.{length, drop};
 ghost use lib.Seq.{sets};
 ghost use Rattle.number.specs.Numbers.{currentWidth, form, encode, ReadsNumber, NumberLength, WritesNumber};
-use refusals::Against;
 use refusals::BAD_FORM;
 use refusals::BUFFER_TOO_SHORT;
 use refusals::INPUT_ENDS;
@@ -32,9 +31,9 @@ enum Form {
 }
 
 // The current width: the longest form, in bytes, and the largest value.
-const LONGEST: usize = 3;
+const LONGEST: usize = 5;
 
-const LARGEST: u32 = 2_097_151;
+const LARGEST: u64 = 4_294_967_295;
 
 // The number of at most `left` bytes at a place.
 fn read_form(s: &[u8], at: usize, left: usize) -> Form
@@ -66,7 +65,15 @@ pub fn read_number(s: &[u8], at: usize) -> Number
     ensures { λ r. ⌜ ReadsNumber (now (s .entry)) at r ⌝ }
 {
     match read_form(s, at, LONGEST) {
-        Form::Got(value, bytes) => Number::Read(value as u32, at + bytes),
+        Form::Got(value, bytes) => {
+            if value > LARGEST {
+                return Number::Refused(Refusal {
+                    number: BAD_FORM,
+                    place: at,
+                });
+            }
+            Number::Read(value as u32, at + bytes)
+        }
         Form::Ends => Number::Refused(Refusal {
             number: INPUT_ENDS,
             place: s.len(),
@@ -93,7 +100,7 @@ fn count_groups(value: u32, left: usize) -> usize
     1 + count_groups(more, left - 1)
 }
 
-// How many bytes a number's shortest form has. What is above the largest number has none, and the longest is answered.
+// How many bytes a number's shortest form has.
 pub fn number_length(value: u32) -> usize
     ensures { λ r. ⌜ NumberLength value r ⌝ }
 {
@@ -123,20 +130,17 @@ fn has_room(len: usize, at: usize, bytes: usize) -> bool
     bytes <= len - at
 }
 
-// Writes a number in its shortest form at a place: 2 if it is too large for a number, then 16 if it has no room there.
+// Writes a number in its shortest form at a place: 16 if it has no room there.
 pub fn write_number(value: u32, out: &mut [u8], at: usize) -> NumberWritten
     ensures { λ r. ⌜ WritesNumber value (now (out .entry)) at r (now (out .exit)) ⌝ }
 {
     let bytes = number_length(value);
-    let room = has_room(out.len(), at, bytes);
-    let against = Against::Nothing
-        .unless(value <= LARGEST, BAD_FORM)
-        .unless(room, BUFFER_TOO_SHORT);
-    match against {
-        Against::Refused(refusal) => NumberWritten::Refused(refusal),
-        Against::Nothing => {
-            write_groups(value, LONGEST, out, at);
-            NumberWritten::Next(at + bytes)
-        }
+    if !has_room(out.len(), at, bytes) {
+        return NumberWritten::Refused(Refusal {
+            number: BUFFER_TOO_SHORT,
+            place: 0,
+        });
     }
+    write_groups(value, LONGEST, out, at);
+    NumberWritten::Next(at + bytes)
 }

@@ -1,4 +1,4 @@
--- `board_writer::bytes::put` meets its contract: a number that is small enough and has room is written and not refused.
+-- `board_writer::bytes::put` meets its contract: a number that has room is written and not refused.
 use borrow.Author.Needs.{needs}
 use Rattle.board_writer.proofs.bytes.put.Statement.{statement}
 use Rattle.board_writer.proofs.bytes.put.Tie as tie
@@ -9,7 +9,7 @@ returns c =
     let at-write-number = c .before .before .before .before in
     let entry = at-write-number .before .before .before in
     absurd (put-never-refused (entry .args .value) (entry .args .out .now) (entry .args .at)
-    (at-write-number .write-number .result) (entry .pre .0) (entry .pre .1)
+    (at-write-number .write-number .result) (entry .pre)
     (at-write-number .write-number .ensures) (c .enum-told .given .1))
 
 returns-2 : tie.Need-returns-2
@@ -17,7 +17,7 @@ returns-2 c =
     let at-write-number = c .before .before .before .before .before in
     let entry = at-write-number .before .before .before in
     put-next (entry .args .value) (entry .args .out .now) (entry .args .at) (at-write-number .write-number .result)
-    (entry .pre .0) (entry .pre .1) (at-write-number .write-number .ensures) (c .before .written .given .1)
+    (entry .pre) (at-write-number .write-number .ensures) (c .before .written .given .1)
 
 pub put-spec : {M : Type 1} → statement M
 put-spec =

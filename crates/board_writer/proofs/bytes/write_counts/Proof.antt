@@ -5,7 +5,6 @@ use Rattle.board_writer.proofs.bytes.write_counts.Tie as tie
 use mathlib.Core.Path.{refl}
 use mathlib.Core.List.{List, [], _∷_}
 use Prim.Native.Nat.{ℕ}
-use native.Mathlib.Omega.{arith}
 use Rattle.board.specs.declared.Counts.{Counts}
 use Rattle.board_writer.proofs.PieceLaws.{number-room, number-put, numbers-done-first}
 use Rattle.board_writer.proofs.WriteLaws.{CountsToCome, counts-to-come}
@@ -41,18 +40,18 @@ put-requires : tie.Need-put-requires
 put-requires c κs =
     let entry = c .before .before .before in
     number-room (c .before .wide .ensures .0)
-    (counts-to-come (entry .args .counts) (entry .args .out .now) (entry .pre .1)) (omega arith)
+    (counts-to-come (entry .args .counts) (entry .args .out .now) (entry .pre .1))
 
 put-requires-2 : tie.Need-put-requires-2
 put-requires-2 c κs =
-    number-room (c .before .wide2 .ensures .0) (after-terminals (c .before .before .before .before)) (omega arith)
+    number-room (c .before .wide2 .ensures .0) (after-terminals (c .before .before .before .before))
 
 put-requires-3 : tie.Need-put-requires-3
 put-requires-3 c κs =
-    number-room (c .before .wide3 .ensures .0) (after-relays (c .before .before .before .before)) (omega arith)
+    number-room (c .before .wide3 .ensures .0) (after-relays (c .before .before .before .before))
 
 put-requires-4 : tie.Need-put-requires-4
-put-requires-4 c κs = number-room refl (after-buttons (c .before .before .before .before)) (omega arith)
+put-requires-4 c κs = number-room refl (after-buttons (c .before .before .before .before))
 
 returns : tie.Need-returns
 returns c =

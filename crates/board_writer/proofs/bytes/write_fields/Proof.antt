@@ -31,12 +31,10 @@ loop-holds c =
 
 put-requires : tie.Need-put-requires Inv-loop μ-loop
 put-requires c κs =
-    let at-loop = c .before .before .before in (
-      omega arith,
-      rw (c .before .wide .ensures .0)
-          (row-room numberBytes 0 _ _ (at-loop .loop .i) (omega arith) (at-loop .loop .inv .3)
-          (c .before .before .loop-test .taken)),
-    )
+    let at-loop = c .before .before .before in
+    rw (c .before .wide .ensures .0)
+    (row-room numberBytes 0 _ _ (at-loop .loop .i) (omega arith) (at-loop .loop .inv .3)
+    (c .before .before .loop-test .taken))
 
 loop-again : tie.Need-loop-again Inv-loop μ-loop
 loop-again c =

@@ -2,8 +2,6 @@
 use borrow.Author.Needs.{needs}
 use Rattle.board_writer.proofs.bytes.write_part.Statement.{statement}
 use Rattle.board_writer.proofs.bytes.write_part.Tie as tie
-use native.Mathlib.Omega.{arith}
-use Rattle.kinds.proofs.KindLaws.{kind-number-most}
 use Rattle.board.specs.Parts.{fieldsOf}
 use Rattle.board_writer.proofs.PieceLaws.{number-room, number-put}
 use Rattle.board_writer.proofs.WriteLaws.{PartToCome, part-to-come, fields-to-come, part-written}
@@ -24,7 +22,6 @@ put-requires c κs =
     let start = c .before .before .before .before in
     number-room (c .before .number .ensures)
     (part-to-come (start .args .part) (start .args .out .now) (start .args .at) (start .pre))
-    (omega (arith, kind-number-most (start .args .part .kind)))
 
 write-fields-requires : tie.Need-write-fields-requires
 write-fields-requires c κs =
