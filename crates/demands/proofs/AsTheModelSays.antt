@@ -1,9 +1,11 @@
 -- Demand 2: each field is a theorem of a wing.
+use Rattle.number.proofs.NumberTrip.{number-written-back, number-read-back}
 use Rattle.board.proofs.SameExactly.{same-exactly}
 use Rattle.board.proofs.BreaksNoRule.{every-relay-sort}
 use Rattle.file_means.proofs.RoundTrip.{write-then-read, rest-stays, read-then-write}
 use Rattle.file_means.proofs.BytesAfter.{bytes-after}
 use Rattle.file_means.proofs.FileRefusals.{file-accepted}
+use Rattle.file_means.proofs.FilesKept.{files-kept, only-by-two}
 use Rattle.judge_means.proofs.Circuits.{paths-are-chains, live-is-carrying}
 use Rattle.judge_means.proofs.Exactness.{judges-keep, as-published}
 use Rattle.judge_means.proofs.Eleven.{the-winding, every-relay-wound}
@@ -15,6 +17,7 @@ use Rattle.session_means.proofs.HandedLines.{lines-handed-out, all-handed-out}
 use Rattle.session_means.proofs.FilledBuffers.{buffers-filled, all-filled}
 use Rattle.session_means.proofs.EventRefusals.{events-refused, events-closed}
 use Rattle.session_means.proofs.LinesDrawn.{lines-drawn}
+use Rattle.session_means.proofs.SessionsKept.{sessions-kept, lines-stand}
 use Rattle.demands.specs.AsTheModelSays.{AsTheModelSays}
 
 pub as-the-model-says : AsTheModelSays
@@ -36,6 +39,12 @@ as-the-model-says = record {
   file-read = file-accepted;
   bytes-after = bytes-after;
   same = same-exactly;
+  number-back = number-written-back;
+  number-again = number-read-back;
+  files-kept = files-kept;
+  only-by-two = only-by-two;
+  sessions-kept = sessions-kept;
+  lines-stand = lines-stand;
   lines = lines-handed-out;
   all-lines = all-handed-out;
   filled = buffers-filled;

@@ -12,18 +12,23 @@
 --     read."
 --         `written-read`, `read-written`; `rest-stays`: behind the bytes written a buffer is as lent; `file-read`: a
 --         board that was read is what stands in the file; `bytes-after`: what stands behind a board does not bear on
---         it; `same`: which boards are the same
+--         it; `same`: which boards are the same; `number-back`, `number-again`: both ways for every number to
+--         4,294,967,295; `files-kept`, `only-by-two`, `sessions-kept`, `lines-stand`: files and sessions of the days when
+--         numbers had three bytes keep their meaning (request A1)
 --     "A run moves the lowest relay that can move until it is idle or must stop."
 --         `runs`; and what a session prints of its runs: `lines`, `all-lines`, in buffers `filled`, `all-filled`;
 --         `events`, `closed`, `drawn`
 -- Each field is put into words in the file that defines it. `paths`, `carrying`, `winding`, `sorts` and `wound` are of
--- boards and states, `events`, `closed` and `drawn` of the session's lines; the others are over the calls.
+-- boards and states, `events`, `closed` and `drawn` of the session's lines, those of request A1 but for the number's of
+-- two editions' definitions; the others are over the calls.
 --     AsTheModelSays    the demand
+use Rattle.number.specs.NumberTrip.{NumberWrittenRead, NumberReadWritten}
 use Rattle.board.specs.SameExactly.{SameExactly}
 use Rattle.board.specs.BreaksNoRule.{EveryRelaySort}
 use Rattle.file_means.specs.RoundTrip.{WriteThenRead, RestStays, ReadThenWrite}
 use Rattle.file_means.specs.BytesAfter.{BytesAfter}
 use Rattle.file_means.specs.FileRefusals.{FileAccepted}
+use Rattle.file_means.specs.FilesKept.{FilesKept, OnlyByTwo}
 use Rattle.judge.specs.Judging.{Judges}
 use Rattle.judge_means.specs.Circuits.{PathsAreChains, LiveIsCarrying}
 use Rattle.judge_means.specs.Exactness.{AsPublished}
@@ -36,6 +41,7 @@ use Rattle.session_means.specs.HandedLines.{LinesHandedOut, AllHandedOut}
 use Rattle.session_means.specs.FilledBuffers.{BuffersFilled, AllFilled}
 use Rattle.session_means.specs.EventRefusals.{EventsRefused, EventsClosed}
 use Rattle.session_means.specs.LinesDrawn.{LinesDrawn}
+use Rattle.session_means.specs.SessionsKept.{SessionsKept, LinesStand}
 
 pub record AsTheModelSays : Type 0 where
   -- the chains to minus are the published model's paths, and a winding is live exactly if it is current carrying
@@ -65,6 +71,13 @@ pub record AsTheModelSays : Type 0 where
   pub bytes-after : BytesAfter
   -- boards are compared by their counts and first C parts
   pub same : SameExactly
+  -- numbers keep their value both ways, and what was read with numbers of three bytes keeps its meaning
+  pub number-back : NumberWrittenRead
+  pub number-again : NumberReadWritten
+  pub files-kept : FilesKept
+  pub only-by-two : OnlyByTwo
+  pub sessions-kept : SessionsKept
+  pub lines-stand : LinesStand
   -- the lines handed out, one by one or as many as fill a buffer, are the session's lines; its events are refused by 12
   -- alone, it is ended by 1, 2 or 7, and each line prints the sum over the drawn relays
   pub lines : LinesHandedOut

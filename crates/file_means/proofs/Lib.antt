@@ -12,3 +12,5 @@ pub mod ReachedRead
 pub mod HoldsRefused
 pub mod FileRefusals
 pub mod BytesAfter
+pub mod KeptLaws
+pub mod FilesKept

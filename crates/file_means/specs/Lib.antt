@@ -2,3 +2,4 @@
 pub mod RoundTrip
 pub mod BytesAfter
 pub mod FileRefusals
+pub mod FilesKept

@@ -3,4 +3,6 @@ pub mod Buffers
 pub mod FormLaws
 pub mod FormSteps
 pub mod NumberLaws
+pub mod WiderLaws
 pub mod FormExactly
+pub mod NumberTrip

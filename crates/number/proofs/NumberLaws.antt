@@ -9,9 +9,7 @@ use Prim.Native.Nat.{ℕ, _+_, _-_, _^_, _≤_, _<_}
 use native.Mathlib.Omega.{arith}
 use borrow.Author.Tests.{leb-true, leb-false, le-leb, lt-leb}
 use lib.Dec.{leb}
-use mir.Syntax.{w8}
-use mir.Val.{Fits}
-use lib.ListN.{length, getD, take, drop, length-drop}
+use lib.ListN.{length, take, drop, length-drop}
 use lib.Seq.{sets, drop-drop}
 use Rattle.number.specs.declared.Number.{Number}
 use Rattle.number.specs.declared.Number.the-variants.{Read, Refused}
@@ -20,18 +18,14 @@ use Rattle.number.specs.declared.NumberWritten.the-variants.{Next}
 use Rattle.number.specs.declared.Form.{Form}
 use Rattle.number.specs.declared.Form.the-variants.{Got, Ends, Bad}
 use Rattle.bits.proofs.BoolLaws.{by-test}
-use Rattle.refusals.specs.declared.Refusal.{Refusal}
-use Rattle.refusals.specs.declared.Against.{Against}
-use Rattle.refusals.specs.declared.Against.the-variants as stands
-use Rattle.refusals.specs.Outcomes.{Outcome, given, refused, Found, found, _>>_, unless}
+use Rattle.refusals.specs.Outcomes.{Outcome, given, refused, Found, found}
 use Rattle.refusals.specs.Refusals.{inputEnds, badForm, bufferTooShort}
-use Rattle.refusals.specs.Order.{firstNo, toldAgainst}
-use Rattle.refusals.proofs.OrderLaws.{asks-first, asks-then, first-holds}
+use Rattle.refusals.specs.Order.{firstNo}
 use Rattle.number.specs.Numbers.{Width, currentWidth, Bytes, form, placed, numberAt, encode, numberBytes}
-use Rattle.number.specs.Numbers.{numberLines, numberWriting, toldNumber, toldNumberWritten}
+use Rattle.number.specs.Numbers.{numberWriting, toldNumber, toldNumberWritten}
 use Rattle.refusals.proofs.OutcomeLaws.{refused-never, given-injective}
 use Rattle.refusals.proofs.Told.{Told, answerOf, given-or-refused}
-use Rattle.number.proofs.FormLaws.{FormRead, Bytes-slice, Bytes-drop, form-written, form-read, form-within}
+use Rattle.number.proofs.FormLaws.{FormRead, Bytes-drop, form-written, form-read, form-within}
 use Rattle.number.proofs.FormLaws.{form-no-further}
 use Rattle.number.proofs.Buffers.{take-drop}
 use Rattle.number.proofs.FormLaws.{encode-last, encode-some, encode-few, encode-short}

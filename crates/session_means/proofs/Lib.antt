@@ -8,3 +8,4 @@ pub mod EventFits
 pub mod LinesWalk
 pub mod EventRefusals
 pub mod LinesDrawn
+pub mod SessionsKept

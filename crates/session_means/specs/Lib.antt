@@ -3,3 +3,4 @@ pub mod HandedLines
 pub mod FilledBuffers
 pub mod EventRefusals
 pub mod LinesDrawn
+pub mod SessionsKept

@@ -1,0 +1,25 @@
+-- Request A1: "Every file accepted so far keeps its meaning." Stated over the definition of reading, with numbers of
+-- three bytes as they were before that request, and as it stands.
+--     FilesKept     where the reading with numbers of three bytes accepts, today's accepts with the same board and place
+--     OnlyByTwo     and whatever else it answered stands too, unless that was 2: by 2 alone, `80 80 80` for one, is a
+--                   file refused that today is not, or not so
+use Prim.Native.Nat.{ℕ}
+use mathlib.Core.Path.{_≡_}
+use mathlib.Core.List.{List}
+use Rattle.refusals.specs.Outcomes.{given, refused}
+use Rattle.refusals.specs.Refusals.{badForm}
+use Rattle.board.specs.declared.Board.{Board}
+use Rattle.board_reader.specs.Editions.{threeByteEdition, currentEdition}
+use Rattle.board_reader.specs.Reading.{reading}
+
+abbrev pub FilesKept : Type 0
+FilesKept =
+    (s : List ℕ) (b : Board) (n : ℕ)
+    → reading threeByteEdition s ≡ (b, given n)
+    → reading currentEdition s ≡ (b, given n)
+
+abbrev pub OnlyByTwo : Type 0
+OnlyByTwo =
+    (s : List ℕ)
+    → ((p : ℕ) → ¬ (reading threeByteEdition s .1 ≡ refused badForm p))
+    → reading currentEdition s ≡ reading threeByteEdition s

@@ -1,0 +1,35 @@
+-- The round trip of a number, stated over the calls `number::write_number` and `number::read_number`: whatever they
+-- answer under their promises. Request A1: "demand 2's round trip covers the new range". A board has no number so
+-- large; a session's allowance has.
+--     NumberWrittenRead    a value up to the largest that was written is read back from its place, and reading stops
+--                          where writing stopped
+--     NumberReadWritten    a number that was read and is written, at any place of any buffer, has there the bytes that
+--                          were read
+-- A slice's bytes are below 256 (`Bytes`); lists do not say so by themselves.
+use Prim.Native.Nat.{ℕ, _≤_}
+use mathlib.Core.Path.{_≡_}
+use mathlib.Core.List.{List}
+use lib.ListN.{take, drop}
+use Rattle.refusals.specs.Outcomes.{given, found}
+use Rattle.number.specs.declared.Number.{Number}
+use Rattle.number.specs.declared.NumberWritten.{NumberWritten}
+use Rattle.number.specs.Numbers.{currentWidth, Bytes, toldNumber, toldNumberWritten, ReadsNumber, WritesNumber}
+
+abbrev pub NumberWrittenRead : Type 0
+NumberWrittenRead =
+    (v at n : ℕ) (out out′ : List ℕ) (w : NumberWritten) (r : Number)
+    → v ≤ currentWidth .largest
+    → WritesNumber v out at w out′
+    → toldNumberWritten w ≡ given n
+    → ReadsNumber out′ at r
+    → toldNumber r ≡ found v n
+
+abbrev pub NumberReadWritten : Type 0
+NumberReadWritten =
+    (s out out′ : List ℕ) (at v n i m : ℕ) (r : Number) (w : NumberWritten)
+    → Bytes s
+    → ReadsNumber s at r
+    → toldNumber r ≡ found v n
+    → WritesNumber v out i w out′
+    → toldNumberWritten w ≡ given m
+    → drop i (take m out′) ≡ drop at (take n s)
