@@ -341,6 +341,18 @@ mod tests {
     }
 
     #[test]
+    fn a_relay_far_beyond_the_board_is_refused_by_11() {
+        let powers = (8..32).map(|power| 1 << power);
+        for relay in powers.chain([u32::MAX]) {
+            for is_second in [false, true] {
+                let judged = judge_call(&h1(), FRESH, (relay, is_second), MUCH);
+                assert_eq!(judged, Err(11));
+            }
+            assert_eq!(move_call(&h1(), FRESH, relay, MUCH), (Err(11), FRESH));
+        }
+    }
+
+    #[test]
     fn h1_judged_moved_and_run() {
         let pushed = HandedState {
             drawn: 0,

@@ -203,6 +203,50 @@ mod tests {
     }
 
     #[test]
+    fn judgements_with_numbers_of_five_bytes() {
+        let h1 = |asked: &str| format!("{H1_FILE} {asked} @\n");
+        let most = "ffffffff0f";
+        assert_answers(
+            &h1(&format!("00 01 00 00 {most}")),
+            &["judged live 3 3: 0 2 1"],
+        );
+        assert_answers(&h1("00 01 00 00 8080808001"), &["judged live 3 3: 0 2 1"]);
+        for asked in ["{} 00 00 00 64", "00 {} 00 00 64"] {
+            let asked = asked.replace("{}", most);
+            assert_answers(&h1(&asked), &["judged refused 14"]);
+        }
+        for relay in ["8002", "8080808001", "8080808008", most] {
+            let asked = format!("00 00 {relay} 00 64");
+            assert_answers(&h1(&asked), &["judged refused 11"]);
+        }
+        // another than the first winding is the second, which H1 has not
+        for which in ["8002", "8080808001", most] {
+            let asked = format!("00 00 00 {which} 64");
+            assert_answers(&h1(&asked), &["judged refused 11"]);
+        }
+        for bad in ["ffffffff10", "8080808010", "8080808000", "80808080"] {
+            assert_eq!(answers(&h1(&format!("00 00 00 00 {bad}"))), None);
+        }
+    }
+
+    #[test]
+    fn judgements_with_the_highest_relay_and_button_drawn_and_pushed() {
+        // 32 regular relays on 2-1, button 31 on 0-2
+        let windings: String = (0..32)
+            .map(|relay| format!(" 04 02 01 {relay:02x}"))
+            .collect();
+        let board = format!("03 20 20 21  03 00 02 1f {windings}");
+        for (pushed, line) in [
+            ("8080808008", "judged live 3 3: 0 2 1"),
+            ("ffffffff0f", "judged live 3 3: 0 2 1"),
+            ("ffffffff07", "judged dead 1"),
+        ] {
+            let case = format!("{board} ffffffff0f {pushed} 1f 00 64 @");
+            assert_answers(&case, &[line]);
+        }
+    }
+
+    #[test]
     fn moves_and_runs() {
         let text = format!(
             "000000 000001 000000 000003 {H1_HANDED} ^\n000000 000001 000001 000003 {H1_HANDED}^"

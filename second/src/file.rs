@@ -128,6 +128,19 @@ mod tests {
     }
 
     #[test]
+    fn a_count_or_field_past_its_range_is_not_the_same_less_256() {
+        assert_eq!(refused(&[0x83, 0x02, 0, 0, 0]), (3, 0));
+        assert_eq!(refused(&[3, 0x80, 0x02, 0, 0]), (3, 1));
+        assert_eq!(refused(&[3, 0, 0x80, 0x02, 0]), (3, 2));
+        assert_eq!(refused(&[3, 0, 0, 0x80, 0x80, 0x04]), (3, 3));
+        assert_eq!(refused(&[3, 1, 0, 1, 0x84, 0x02, 2, 1, 0]), (4, 4));
+        assert_eq!(refused(&[3, 1, 0, 1, 4, 0x82, 0x02, 1, 0]), (5, 5));
+        assert_eq!(refused(&[3, 1, 0, 1, 4, 2, 0x81, 0x02, 0]), (5, 6));
+        assert_eq!(refused(&[3, 1, 0, 1, 4, 2, 0x82, 0x02, 0]), (5, 6));
+        assert_eq!(refused(&[3, 1, 0, 1, 4, 2, 1, 0x80, 0x02]), (7, 7));
+    }
+
+    #[test]
     fn two_hundred_and_fifty_six_parts_are_accepted() {
         let mut input = vec![2, 0, 0, 0x80, 0x02];
         input.extend([0, 0, 1].repeat(256));

@@ -293,8 +293,11 @@ fn a_chain_may_cross_both_windings_of_a_steel_relay() {
 
 #[test]
 fn the_greatest_w_of_a_file_is_accepted() {
-    let bytes = [2, 0, 0, 0, 0xff, 0xff, 0x7f];
-    assert_eq!(session(&bytes), "0 idle 0 0\n");
+    for w in [&[0xff, 0xff, 0x7f][..], &[0xff, 0xff, 0xff, 0xff, 0x0f]] {
+        assert_eq!(session(&[&[2, 0, 0, 0], w].concat()), "0 idle 0 0\n");
+        let lines = "0 idle 0 0\n1 idle 1 1\n2 idle 1 0\n";
+        assert_eq!(session(&[H1, w, &[1, 0]].concat()), lines);
+    }
 }
 
 #[test]
@@ -303,7 +306,8 @@ fn refusals_of_a_bad_board_in_a_session() {
     assert_eq!(session(&[]), "refused 1 0\n");
     assert_eq!(session(&[0x80, 0x00]), "refused 2 0\n");
     assert_eq!(session(&[0x80, 0x80]), "refused 1 2\n");
-    assert_eq!(session(&[0x80, 0x80, 0x80]), "refused 2 0\n");
+    assert_eq!(session(&[0x80, 0x80, 0x80]), "refused 1 3\n");
+    assert_eq!(session(&[0x80; 5]), "refused 2 0\n");
     assert_eq!(after_w(&[1, 0, 0, 0]), "refused 3 0\n");
     assert_eq!(after_w(&[65, 0, 0, 0]), "refused 3 0\n");
     assert_eq!(after_w(&[3, 0, 0, 1, 7, 0, 1]), "refused 4 4\n");
@@ -332,10 +336,12 @@ fn a_bad_event_ends_the_session_and_earlier_lines_stand() {
         (&[0x80][..], "refused 1 15\n"),
         (&[0x80, 0x80], "refused 1 16\n"),
         (&[0x81, 0x00, 0], "refused 2 14\n"),
-        (&[0x80, 0x80, 0x80], "refused 2 14\n"),
+        (&[0x80, 0x80, 0x80], "refused 1 17\n"),
+        (&[0x80, 0x80, 0x80, 0x80, 0x80], "refused 2 14\n"),
         (&[2, 0], "refused 7 14\n"),
         (&[3, 0], "refused 7 14\n"),
         (&[0xff, 0xff, 0x7f], "refused 7 14\n"),
+        (&[0xff, 0xff, 0xff, 0xff, 0x0f], "refused 7 14\n"),
     ];
     for (events, refused) in refusals {
         assert_eq!(with_events(events), format!("{lines}{refused}"));

@@ -34,6 +34,19 @@ fn one_session() {
 }
 
 #[test]
+fn sessions_and_cases_with_the_greatest_allowance() {
+    let most = [0xff, 0xff, 0xff, 0xff, 0x0f];
+    let (board, events) = (&H2[..16], &H2[17..]);
+    let output = play(&[], &[board, &most, events].concat());
+    assert_eq!(output.status.code(), Some(0));
+    assert_eq!(lines(&output), H2_LINES);
+    let text = b"03 01 01 02  03 00 02 00  04 02 01 00  00 01 00 00 ff ff ff ff 0f @\n";
+    let output = play(&["--cases"], text);
+    assert_eq!(output.status.code(), Some(0));
+    assert_eq!(lines(&output), "judged live 3 3: 0 2 1\n");
+}
+
+#[test]
 fn many_sessions_and_a_stream_cut_short() {
     let stream = [&[19, 0, 0, 0], H2, &[0; 4], &[1, 0, 0, 0, 65]].concat();
     let whole = format!("{H2_LINES}.\nrefused 1 0\n.\n");
