@@ -1,6 +1,8 @@
 -- `read_number` answers the form that `read_form` finds, as the rule book does.
+use Prim.Native.Nat.{_+_, _≤_}
 use native.Mathlib.Omega.{arith}
 use borrow.Author.Needs.{needs}
+use lib.ListN.{length}
 use Rattle.number.specs.Numbers.{currentWidth}
 use Rattle.number.proofs.FormSteps.{form-bounds}
 use Rattle.number.proofs.NumberLaws.{number-got, number-over, number-ends, number-bad}
@@ -12,17 +14,16 @@ returns c =
     let got = c .before .before in
     number-over _ _ _ _ _ _ (got .before .before .read-form .ensures) (got .value .given .1) (c .if1 .taken)
 
-add-t10 : tie.Need-add-t10
-add-t10 c =
+-- the number that was read stands within the slice
+within : (c : tie.Else1) → let entry = c .before .before .before .before .before .before in
+    entry .args .at + c .before .before .value .given .0 .1 .0 ≤ length (entry .args .s .now)
+within c =
     let got = c .before .before in
     let at-read-form = got .before .before in
     let entry = at-read-form .before .before in
-    omega (
-      arith,
-      form-bounds (currentWidth .longest) (currentWidth .longest) (entry .args .at) (entry .args .s .now)
-          (at-read-form .before .shared-slice-known .given) (omega arith) _ (at-read-form .read-form .ensures) _ _
-          (got .value .given .1),
-    )
+    form-bounds (currentWidth .longest) (currentWidth .longest) (entry .args .at) (entry .args .s .now)
+    (at-read-form .before .shared-slice-known .given) (omega arith) _ (at-read-form .read-form .ensures) _ _
+    (got .value .given .1) .within
 
 returns-2 : tie.Need-returns-2
 returns-2 c =
@@ -35,9 +36,7 @@ read-number-spec =
     (tie.spec
     (λ c κs. search needs) (λ c. search needs)
     returns
-    (λ c. search needs)
-    add-t10
-    (λ c. search needs) (λ c. search needs)
+    (λ c. search needs) (λ c. omega (arith, within c)) (λ c. search needs) (λ c. search needs)
     returns-2
     (λ c. number-ends _ _ _ _ (c .before .before .read-form .ensures) (c .enum-told .given .1))
     (λ c. number-bad _ _ _ _ (c .before .before .read-form .ensures) (c .enum-told2 .given .1)))
