@@ -26,7 +26,7 @@ pub encode-more : (k v : ℕ) → 128 ≤ v → encode (suc k) v ≡ (128 + v % 
 unfolding encode
 encode-more k v h = rw (le-ltb v 128 h)
 
--- a byte too many is bad at once, even where the input ends there: 80 80 80 is 2 and not 1
+-- a byte too many is bad at once, even where the input ends there: 80 80 80 80 80 is 2 and not 1
 pub form-too-long : (s : List ℕ) → form zero s ≡ Bad
 unfolding form
 form-too-long s = refl

@@ -1,6 +1,8 @@
 -- A number's form by its bytes, stated over the call `number::read_number`. Rule book, "The board file": "A number is
--- in groups of seven bits, lowest group first, one byte a group; the top bit is set on every byte but the last. At most
--- three bytes (2,097,151). Only the shortest form is allowed: the last byte is 0 only if it is the only byte."
+-- in groups of seven bits, lowest group first, one byte a group; the top bit is set on every byte but the last. [..]
+-- Only the shortest form is allowed: the last byte is 0 only if it is the only byte." Request A1: "Numbers go to
+-- 4,294,967,295: up to five bytes, the fifth at most 15"; "2 now means more than five bytes, a value too large, or not
+-- shortest".
 --     TopBit b             the top bit of the byte b is set
 --     groups bs            what the bytes bs are worth: groups of seven bits, lowest group first, one byte a group
 --     NumberForm w s at o  what the bytes of s from place `at` on come to as a number of the width w:
@@ -9,10 +11,10 @@
 --                          value, and the place just after them
 --       cut                1, "input ends inside or before a wanted number", at the "input length": the bytes up to
 --                          the input's end, none or fewer than the longest form has, all have the top bit set
---       too-long           2, "number longer than three bytes", at "its first byte": the top bit is set on as many
---                          bytes as the longest form has
+--       too-long           2, "more than five bytes", at "its first byte": the top bit is set on as many bytes as the
+--                          longest form has, even where the input ends there
+--       too-large          2, "a value too large": the bytes are worth more than the largest value
 --       not-shortest       2, "or not shortest": the last byte is 0, and not the only byte
---       too-large          2, where the bytes are worth more than the largest value. At the current width no bytes are
 --     FormExactly          over the call: it answers o exactly if the bytes come to o, at the current width
 -- A slice's bytes are below 256 (`Bytes`); lists do not say so by themselves.
 use Prim.Native.Nat.{ℕ, _+_, _*_, _%_, _<_, _≤_}
@@ -40,10 +42,10 @@ pub data NumberForm (w : Width) (s : List ℕ) (at : ℕ) : Outcome (Found ℕ) 
   cut : All TopBit (drop at s) → length (drop at s) < w .longest → NumberForm w s at (refused inputEnds (length s))
   too-long : (bs rest : List ℕ) → drop at s ≡ bs ++ rest → All TopBit bs → length bs ≡ w .longest
       → NumberForm w s at (refused badForm at)
-  not-shortest : (bs rest : List ℕ) → drop at s ≡ bs ++ (0 ∷ rest) → All TopBit bs → 0 < length bs
-      → length bs < w .longest → NumberForm w s at (refused badForm at)
   too-large : (bs rest : List ℕ) (b : ℕ) → drop at s ≡ bs ++ (b ∷ rest) → All TopBit bs → length bs < w .longest
       → b < 128 → (b ≡ 0 → bs ≡ []) → w .largest < groups (bs ++ (b ∷ [])) → NumberForm w s at (refused badForm at)
+  not-shortest : (bs rest : List ℕ) → drop at s ≡ bs ++ (0 ∷ rest) → All TopBit bs → 0 < length bs
+      → length bs < w .longest → NumberForm w s at (refused badForm at)
 
 abbrev pub FormExactly : Type 0
 FormExactly =
