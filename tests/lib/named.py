@@ -15,6 +15,7 @@ PLACEHOLDER = re.compile(r"(?<![A-Za-z])(NAME|LABEL|CRATE|X|A1)(?![A-Za-z])")
 # Names of what is not in the repository.
 ELSEWHERE = {
     "01-scope.md": "the rule book, which is handed to the developers",
+    "02-change-requests.md": "the requests, which are handed to the developers",
     "board.hex": "a file of the reader's own",
     "board_cases": "a program of before, in a comparison of docs/COST.md",
     "definitions": "a column of a table",
@@ -34,7 +35,8 @@ ENDINGS = ("py", "md", "txt", "antt", "rt", "rs", "hex", "lines", "words", "edit
 
 def documents():
     """The documents, as paths below the repository."""
-    return ["README.md", "samples/README.md", "second/README.md"] + sorted(f"docs/{name}" for name in os.listdir(repository.path("docs")) if name.endswith(".md"))
+    pages = glob.glob(repository.path("docs", "**", "*.md"), recursive=True)
+    return ["README.md", "samples/README.md", "second/README.md"] + sorted(os.path.relpath(page, repository.ROOT) for page in pages)
 
 
 def code():

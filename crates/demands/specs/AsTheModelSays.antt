@@ -13,8 +13,8 @@
 --         `written-read`, `read-written`; `rest-stays`: behind the bytes written a buffer is as lent; `file-read`: a
 --         board that was read is what stands in the file; `bytes-after`: what stands behind a board does not bear on
 --         it; `same`: which boards are the same; `number-back`, `number-again`: both ways for every number to
---         4,294,967,295; `files-kept`, `only-by-two`, `sessions-kept`, `lines-stand`: files and sessions of the days when
---         numbers had three bytes keep their meaning (request A1)
+--         4,294,967,295; `files-kept`, `only-by-two`, `sessions-kept`, `lines-stand`: files and sessions of the days
+--         when numbers had three bytes keep their meaning (request A1)
 --     "A run moves the lowest relay that can move until it is idle or must stop."
 --         `runs`; and what a session prints of its runs: `lines`, `all-lines`, in buffers `filled`, `all-filled`;
 --         `events`, `closed`, `drawn`

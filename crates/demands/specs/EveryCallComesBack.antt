@@ -5,8 +5,8 @@
 --         call on a state, a relay that isn't there `eleven` and `eleven-moved`
 --     "What it can't use it refuses by number, in a stated order,"
 --         `in-order`: the first line that holds, of each call's lines in the stated order. What stands behind some of
---         these lines: `forms`, a number that is cut, too long, too large or not shortest; `fifteen`, a board that breaks
---         a rule; `fourteen`, a state with what the board lacks; `eleven`, a winding that isn't there
+--         these lines: `forms`, a number that is cut, too long, too large or not shortest; `fifteen`, a board that
+--         breaks a rule; `fourteen`, a state with what the board lacks; `eleven`, a winding that isn't there
 --     "with the state as given and no byte of a lent log or output buffer written."
 --         `as-lent`
 -- The words:

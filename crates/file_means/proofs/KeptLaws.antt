@@ -27,14 +27,16 @@ begun e s = do
   unless (leb (length s) longestInput) inputTooLong 0
   boardAt e s
 
-pub reading-begun : (e : Edition) (s : List ℕ) {o : Outcome (Found Board)} → begun e s ≡ o → reading e s ≡ answered o
+pub reading-begun : (e : Edition) (s : List ℕ) {o : Outcome (Found Board)} → begun e s ≡ o
+    → reading e s ≡ answered o
 unfolding reading
 reading-begun e s is = ap answered is
 
 module _ (old new : Edition) (more : Widened old new) (s : List ℕ) where
   pub wanted-kept : (ok : ℕ → Bool) (n at : ℕ) → Kept badForm (wanted old ok n s at) (wanted new ok n s at)
   unfolding wanted
-  wanted-kept ok n at = kept-then _ _ (number-kept (old .width) (new .width) (more .numbers) s at) (λ v. kept-same badForm _)
+  wanted-kept ok n at =
+      kept-then _ _ (number-kept (old .width) (new .width) (more .numbers) s at) (λ v. kept-same badForm _)
 
   counts-kept : Kept badForm (countsAt old s) (countsAt new s)
   unfolding countsAt

@@ -66,7 +66,8 @@ module _ (old new : Edition) (more : Widened old new) (s : List ℕ) where
           (number-kept (old .width) (new .width) (more .numbers) s at) (λ a. stands refl)))
       by (was-refused p is) = was-refused p (rw (reading-begun old s is))
 
-  head-lines-kept : (o o′ : Outcome (Found Head)) → Kept badForm o o′ → LinesKept (headLines old o s) (headLines new o′ s)
+  head-lines-kept : (o o′ : Outcome (Found Head)) → Kept badForm o o′
+      → LinesKept (headLines old o s) (headLines new o′ s)
   unfolding headLines
   head-lines-kept (given h) o′ (stands is) = rw is (kept-behind _ (lines-kept (length s) _ _ 1 (h .next) _))
   head-lines-kept (refused n p) o′ (stands is) = rw is (same refl)
