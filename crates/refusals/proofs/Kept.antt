@@ -12,9 +12,6 @@ pub data Kept {A : Type 0} (n : ℕ) (o o′ : Outcome A) : Type 0 where
   stands : o′ ≡ o → Kept n o o′
   was-refused : (p : ℕ) → o ≡ refused n p → Kept n o o′
 
-pub kept-same : {A : Type 0} (n : ℕ) (o : Outcome A) → Kept n o o
-kept-same n o = stands refl
-
 pub kept-then : {A B : Type 0} {n : ℕ} (o o′ : Outcome A) {f g : A → Outcome B} → Kept n o o′
     → ((a : A) → Kept n (f a) (g a)) → Kept n (o >>= f) (o′ >>= g)
 kept-then (given a) o′ (stands same) later = rw same (later a)

@@ -5,7 +5,7 @@ use Prim.Native.Nat.{ℕ}
 abbrev pub inputEnds : ℕ
 inputEnds = 1
 
--- 2: number longer than three bytes, or not shortest; place: its first byte
+-- 2: number longer than five bytes, of a value too large, or not shortest (request A1); place: its first byte
 abbrev pub badForm : ℕ
 badForm = 2
 

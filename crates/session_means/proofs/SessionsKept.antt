@@ -8,7 +8,7 @@ use lib.ListN.{length}
 use Rattle.lists.specs.Members.{All}
 use Rattle.refusals.specs.Outcomes.{Outcome, given, refused, Found}
 use Rattle.refusals.specs.Refusals.{badForm}
-use Rattle.refusals.proofs.Kept.{Kept, stands, was-refused, kept-same, kept-then}
+use Rattle.refusals.proofs.Kept.{Kept, stands, was-refused, kept-then}
 use Rattle.number.specs.Numbers.{numberAt}
 use Rattle.number.proofs.WiderLaws.{number-kept}
 use Rattle.board.specs.declared.Board.{Board}
@@ -37,7 +37,7 @@ kept-unless-done false kept = kept
 module _ (old new : Edition) (more : Widened old new) (s : List ℕ) where
   event-kept : (n at : ℕ) → Kept badForm (eventAt old n s at) (eventAt new n s at)
   unfolding eventAt
-  event-kept n at = kept-then _ _ (wanted-kept old new more s _ _ at) (λ v. kept-same badForm _)
+  event-kept n at = kept-then _ _ (wanted-kept old new more s _ _ at) (λ v. stands refl)
 
   event-lines-kept : (o o′ : Outcome (Found Event)) (tell : Event → Shown) (go go′ : State → ℕ → List Line)
       → Kept badForm o o′ → ((t : State) (at : ℕ) → LinesKept (go t at) (go′ t at))
