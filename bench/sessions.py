@@ -23,7 +23,7 @@ import running
 import second_program
 import session_stack
 from judge_model import BUTTON, LOWER, MINUS, PLUS, REGULAR, UPPER
-from session_files import LARGEST, presses, session
+from session_files import presses, session
 
 RUNS = 9
 STARTS = 200  # sessions one after the other, as one run
@@ -32,7 +32,7 @@ LONGEST = 65_536
 CHAINS = 4_000_000  # to go through in one session on a ladder; fewer where it has no room for so many events
 MOST_EVENTS = 65_000
 SIZES = (8, 16, 24, 32, 40, 48, 56, 64)
-ALLOWANCES = (64, 512, 4_096, 32_768, 262_144, LARGEST)
+ALLOWANCES = (64, 512, 4_096, 32_768, 262_144, judge.ALLOWANCE)
 WIRE = 0
 HERDSPIRAL, SECOND = program.command("herdspiral"), second_program.command()
 MANY_PROVED, MANY_SECOND = program.command("session_cases"), second_program.command("--many")
@@ -126,7 +126,7 @@ def deep_frames(last):
 
 
 def deep_session(last):
-    return session(deep(last), LARGEST, [])
+    return session(deep(last), judge.ALLOWANCE, [])
 
 
 def ladder_session(terminals, allowance, events):
@@ -138,12 +138,13 @@ def ladder_lines(word, events):
 
 
 def effort_of(sessions, terminals):
-    """How many chains a ladder has: the least allowance with which its winding is decided. None if the largest is too small."""
+    """How many chains a ladder has: the least allowance with which its winding is decided. None if the
+    largest that is measured is too small."""
 
     def undecided(allowance):
         return b"undecided" in sessions.lines(HERDSPIRAL, ladder_session(terminals, allowance, 0))
 
-    return None if undecided(LARGEST) else session_stack.last(undecided, LARGEST) + 1
+    return None if undecided(ALLOWANCES[-1]) else session_stack.last(undecided, ALLOWANCES[-1]) + 1
 
 
 def walks(sessions, terminals):

@@ -10,11 +10,13 @@
 BEGIN {
     name = ENVIRON["NAME"]
     LONGEST_INPUT = ENVIRON["LONGEST_INPUT"] + 0
-    LONGEST_NUMBER = 3 # bytes
+    LONGEST_NUMBER = 5 # bytes
+    LARGEST = 4294967295
     LAST_KIND = 6
     GOES_ON = "a byte of 80 or more says that another comes"
     WINDING[4] = "regular winding"; WINDING[5] = "drawing winding"; WINDING[6] = "dropping winding"
     NAMED[1] = NAMED[2] = NAMED[4] = NAMED[5] = NAMED[6] = "relay"; NAMED[3] = "button"
+    CONVFMT = "%.0f" # mawk goes by this for numbers above 2,147,483,647
     at = size = 0
 }
 
@@ -55,6 +57,9 @@ function shortest(rest,    text) {
     for (text = ""; rest >= 128; rest = int(rest / 128)) text = text sprintf("%02x ", 128 + rest % 128)
     return "\"" text sprintf("%02x", rest) "\""
 }
+
+# A number with a comma before every three digits from the right.
+function grouped(many) { return many < 1000 ? many : grouped(int(many / 1000)) sprintf(",%03d", many % 1000) }
 
 # So many of a thing, in words.
 function counted(many, thing) { return many " " thing (many == 1 ? "" : "s") }
@@ -101,6 +106,7 @@ function go_past(wanted, low, high, whose,    many, i) {
     for (i = many - 1; i >= 0; i--) value = 128 * value + byte[start + i] % 128
     if (many && byte[at - 1] < 128) {
         if (refusal == 2 && many > 1 && byte[at - 1] == 0) tell_end(start, many, wanted " is not in its shortest form, since " GOES_ON ": type " shortest(value))
+        else if (refusal == 2 && value > LARGEST) tell_end(start, many, wanted " is too large: no number is above " grouped(LARGEST) ", typed " shortest(LARGEST))
         else if (refusal >= 3 && refusal <= 8) tell_end(start, many, unfit(wanted, low, high, whose))
         return !told
     }
@@ -189,7 +195,7 @@ function events(    i) {
 
 # 10: the place is that of the first byte; which one is too many is said besides.
 function too_long() {
-    if (size > LONGEST_INPUT) tell_end(0, 1, "the session is longer than " sprintf("%d,%03d", LONGEST_INPUT / 1000, LONGEST_INPUT % 1000) " bytes: the first byte too many is at " where(LONGEST_INPUT))
+    if (size > LONGEST_INPUT) tell_end(0, 1, "the session is longer than " grouped(LONGEST_INPUT) " bytes: the first byte too many is at " where(LONGEST_INPUT))
 }
 
 # Whether bytes look like typed text: two hex digits at least, and no control byte but white space. No board with a part in

@@ -12,8 +12,9 @@ import board_model as model
 import program
 import repository
 
-ODD_VALUES = [0, 1, 2, 3, 4, 5, 6, 7, 32, 33, 64, 65, 127, 128, 255, 256, 257, 16383, 16384, 2097151]
-LONG_FORMS = [[0], [128, 0], [255, 127], [128, 128, 0]]
+ODD_VALUES = [0, 1, 2, 3, 4, 5, 6, 7, 32, 33, 64, 65, 127, 128, 255, 256, 257, 16383, 16384, 2097151, 2097152]
+ODD_VALUES += [268435455, 268435456, model.LARGEST, model.LARGEST + 1, 2**35 - 1]
+LONG_FORMS = [[0], [128, 0], [255, 127], [128, 128, 0], [128, 128, 128, 0], [255, 255, 255, 15], [255, 255, 255, 16], [128, 128, 128, 128, 0]]
 ASKED = {"^": [0, 0, 0, 0], "=": [0, 0, 0, 4]}  # a move of relay 0 and a run with a log of 4, both fresh and with no allowance
 
 
@@ -45,7 +46,7 @@ def file_case(dice):
     damage = dice.random()
     if damage < 0.4:
         at = dice.randrange(len(numbers))
-        numbers[at] = dice.choice(ODD_VALUES + [numbers[at] + 1])
+        numbers[at] = dice.choice(ODD_VALUES + [numbers[at] + 1] + [numbers[at] + 2**bits for bits in model.NARROW])
     data = []
     for number in numbers:
         form = model.number_bytes(number)

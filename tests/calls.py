@@ -24,12 +24,15 @@ import repository
 import running
 import second_program
 import session_boards as boards
-from running import LARGEST, SHOWN, total
+from board_model import LARGEST
+from judging import AFFORDABLE
+from program import LARGEST_HANDED
+from running import SHOWN, total
 
 LONGEST_LOG = 65_536
 MUCH = 20_000  # the allowance that efforts are asked with, of boards with many chains
 RUN_MUCH = 500  # and that a run has on such a board
-NAMED = 21  # a state that a case hands in has relays and buttons below this
+NAMED = program.HANDED_BITS  # a state that a case hands in has relays and buttons below this
 ROUNDS = 6  # so often a run that fills the log that is shown goes on from the state left
 OFTEN = 10  # each answer occurs at least so many times
 SHOWING = re.compile(r"judged (live|dead) (\d+)")
@@ -46,7 +49,7 @@ class Asked:
 
     def __init__(self, dice, sort):
         self.counts, self.parts = sort(dice)
-        drawn, pushed = judging.state(dice, *(min(count, NAMED - 1) for count in self.counts[1:]))
+        drawn, pushed = judging.state(dice, *(min(count, NAMED - 1) for count in self.counts[1:]), NAMED)
         self.drawn, self.pushed = ({name for name in names if name < NAMED} for names in (drawn, pushed))
         self.windings = []
 
@@ -66,6 +69,10 @@ class Asked:
     def is_large(self):
         return any(effort is None for _, _, effort in self.windings)
 
+    def much(self):
+        """Much allowance for a run."""
+        return RUN_MUCH if self.is_large() else LARGEST_HANDED
+
 
 def second(cases):
     """What the second program prints for each case."""
@@ -82,16 +89,16 @@ def asked_boards(dice, count):
     return found
 
 
-def around(effort):
+def around(effort, largest):
     """Allowances around an effort, the least and the largest."""
-    return [0, 1, 5, MUCH - 1] if effort is None else sorted({0, 1, effort - 1, effort, effort + 1, LARGEST})
+    return [0, 1, 5, MUCH - 1] if effort is None else sorted({0, 1, effort - 1, effort, effort + 1, largest})
 
 
 def judgements(dice, own):
     """Judgements of some windings of a board, and of windings that are not there."""
     relays = own.counts[1]
     for relay, is_second, effort in dice.sample(own.windings, min(3, len(own.windings))):
-        yield from (own.judgement(relay, is_second, allowance) for allowance in around(effort))
+        yield from (own.judgement(relay, is_second, allowance) for allowance in around(effort, LARGEST))
     for relay in {dice.randrange(max(relays, 1)), relays, dice.choice([relays + 1, 255, 256, LARGEST])}:
         yield own.judgement(relay, dice.random() < 0.5, dice.choice([0, 1, MUCH if own.is_large() else LARGEST]))
 
@@ -100,19 +107,19 @@ def moves(dice, own):
     """Single moves of some relays, and of one that is not there."""
     relays = own.counts[1]
     for relay, _, effort in dice.sample(own.windings, min(2, len(own.windings))):
-        yield from (own.handed([relay, allowance], "^") for allowance in around(effort))
-    yield own.handed([dice.choice([relays, relays + 1, 256, LARGEST]), dice.choice([0, 100])], "^")
+        yield from (own.handed([relay, allowance], "^") for allowance in around(effort, AFFORDABLE))
+    yield own.handed([dice.choice([relays, relays + 1, 256, LARGEST_HANDED]), dice.choice([0, 100])], "^")
 
 
 def runs(dice, own, line):
     """Runs from the board's state, given the line of one with much allowance: logs of 0, 1 and around its moves, allowances
     around an effort, and a log that is too long."""
-    much = RUN_MUCH if own.is_large() else LARGEST
+    much = own.much()
     made = int(line.split()[2]) if "refused" not in line else 0
     for room in sorted({0, 1, 2, max(made - 1, 0), made, made + 1, SHOWN, dice.choice([3, 100, LONGEST_LOG + 1])}):
         yield own.run(much, room)
     for _, _, effort in dice.sample(own.windings, min(1, len(own.windings))):
-        yield from (own.run(min(allowance, much), dice.choice([0, 1, made, SHOWN])) for allowance in around(effort))
+        yield from (own.run(min(allowance, much), dice.choice([0, 1, made, SHOWN])) for allowance in around(effort, much))
     if made < SHOWN and dice.random() < 0.1:
         yield own.run(much, LONGEST_LOG)
 
@@ -120,7 +127,7 @@ def runs(dice, own, line):
 def going_on(found):
     """Runs that fill the log that is shown, each going on from the state that the second program left, so that the log is seen
     for some hundred moves."""
-    cases, every = [own.run(RUN_MUCH if own.is_large() else LARGEST, SHOWN) for own in found], []
+    cases, every = [own.run(own.much(), SHOWN) for own in found], []
     for _ in range(ROUNDS):
         lines = second(cases)
         spent = [(case, form) for case, line in zip(cases, lines) if (form := SPENT.match(line))]
@@ -136,7 +143,7 @@ def broken(dice, own):
         at = dice.randrange(5) if dice.random() < 0.3 else dice.randrange(len(data))
         data[at] = dice.choice([(data[at] + 1) % 256, (data[at] - 1) % 256, dice.choice([0, 1, 2, 4, 5, 6, 7, 32, 33, 64, 65, 255])])
     state = [total(own.drawn), total(own.pushed)] if dice.random() < 0.7 else [dice.getrandbits(24), dice.getrandbits(24)]
-    yield program.handed_case(state + [dice.choice([0, 1, 40, LARGEST]), dice.choice([0, 1, 50])], data, "^")
+    yield program.handed_case(state + [dice.choice([0, 1, 40, LARGEST_HANDED]), dice.choice([0, 1, 50])], data, "^")
     yield program.handed_case(state + [dice.choice([0, 1, 50]), dice.choice([0, 1, 5, SHOWN, LONGEST_LOG, LONGEST_LOG + 1])], data, "=")
 
 
@@ -163,7 +170,7 @@ def every_case(seed, count):
     """The cases of each program."""
     dice = random.Random(seed)
     found = asked_boards(dice, count)
-    lines = second(own.run(RUN_MUCH if own.is_large() else LARGEST, SHOWN) for own in found)
+    lines = second(own.run(own.much(), SHOWN) for own in found)
     judged = [case for own in found for case in judgements(dice, own)] + list(hostile_files(dice, 2 * count))
     ran = [case for own, line in zip(found, lines) for part in (moves(dice, own), runs(dice, own, line), broken(dice, own), broken(dice, own)) for case in part]
     return judged, ran + going_on(found) + list(handed_boards(dice, count))

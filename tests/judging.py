@@ -12,8 +12,9 @@ import board_model
 import judge_model as model
 import program
 import repository
+from board_model import LARGEST, NARROW
 
-LARGEST = 2_097_151
+AFFORDABLE = 2_097_151  # an allowance that there is time for, however many chains a board has
 MOST_CHAINS = 200_000  # boards with more are left out
 STACK = 2 * 1024 * 1024
 
@@ -87,13 +88,13 @@ def board(dice):
     return [terminals, relays, buttons], some_parts(dice, relays, buttons, joined, ends)
 
 
-def state(dice, relays, buttons):
-    """The drawn relays and the pushed buttons, most of the buttons; seldom one that the board lacks."""
+def state(dice, relays, buttons, names=32):
+    """The drawn relays and the pushed buttons, most of the buttons; seldom one that the board lacks, of so many names."""
     drawn = {relay for relay in range(relays) if dice.random() < 0.5}
     pushed = {button for button in range(buttons) if dice.random() < 0.8}
     if dice.random() < 0.1:
         beyond, limit = dice.choice([(drawn, relays), (pushed, buttons)])
-        beyond.add(dice.choice([limit, limit + 1, dice.randint(limit, 20)]))
+        beyond.add(dice.choice([limit, limit + 1, dice.randrange(limit, names)]))
     return drawn, pushed
 
 
@@ -107,7 +108,8 @@ def case(counts, parts, drawn, pushed, relay, which, allowance):
 def judgements(dice, counts, parts):
     """Judgements of some winding on a board, with the line that each should print."""
     drawn, pushed = state(dice, counts[1], counts[2])
-    relay = dice.choice([dice.randrange(max(counts[1], 1))] * 6 + [counts[1], LARGEST])
+    there = dice.randrange(max(counts[1], 1))
+    relay = dice.choice([there] * 6 + [counts[1], there + 2 ** dice.choice(NARROW), LARGEST])
     which = dice.choice([0] * 4 + [1, 1, 2, LARGEST])
     asked = counts, parts, drawn, pushed, relay, which
     number = model.refusal(*asked)
@@ -116,7 +118,7 @@ def judgements(dice, counts, parts):
     effort, chain = model.effort(*asked, MOST_CHAINS)
     if effort is None:
         return []
-    allowances = sorted({0, 1, effort - 1, effort, effort + 1, LARGEST})
+    allowances = sorted({0, 1, effort - 1, effort, effort + 1, effort - 1 + 2 ** dice.choice(NARROW), LARGEST})
     return [(case(*asked, allowance), "judged " + model.verdict(effort, chain, allowance)) for allowance in allowances]
 
 

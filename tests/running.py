@@ -17,8 +17,8 @@ import program
 import repository
 import run_model as model
 from judge_model import BUTTON, DRAWING, DROPPING, LOWER, MINUS, PLUS, REGULAR, UPPER
+from program import LARGEST_HANDED
 
-LARGEST = judging.LARGEST
 MOST_CHAINS = 400  # states with more, and runs that come to one, are left out
 MANY_MOVES = 200  # a run that makes so many is taken for one that never ends
 SHOWN = 40  # the program prints so many moves of a log
@@ -134,13 +134,13 @@ def run_case(own, drawn, pushed, allowance, room):
 
 def around(efforts):
     """The least allowances and the largest, and those around these efforts."""
-    return sorted({0, 1, LARGEST}.union(*({effort - 1, effort, effort + 1} for effort in efforts)))
+    return sorted({0, 1, LARGEST_HANDED}.union(*({effort - 1, effort, effort + 1} for effort in efforts)))
 
 
 def moves(dice, own, drawn, pushed):
     """Single moves of some relay in a state, and of one that the board lacks."""
     relays = own.counts[1]
-    found = [move_case(own, drawn, pushed, dice.choice([relays, relays + 1, LARGEST]), dice.choice([0, LARGEST]))]
+    found = [move_case(own, drawn, pushed, dice.choice([relays, relays + 1, LARGEST_HANDED]), dice.choice([0, LARGEST_HANDED]))]
     if relays:
         relay = dice.randrange(relays)
         efforts = [] if model.refusal(own, drawn, pushed) else [effort for effort, _ in own.efforts(drawn, pushed)[relay]]
@@ -151,15 +151,15 @@ def moves(dice, own, drawn, pushed):
 def runs(dice, own, drawn, pushed):
     """Runs from a state, each with its allowance and the room in its log."""
     if model.refusal(own, drawn, pushed):
-        asked = [(0, 5), (LARGEST, model.LONGEST_LOG + 1)]
+        asked = [(0, 5), (LARGEST_HANDED, model.LONGEST_LOG + 1)]
     else:
-        made = len(model.run(own, drawn, pushed, LARGEST, MANY_MOVES)[1])
+        made = len(model.run(own, drawn, pushed, LARGEST_HANDED, MANY_MOVES)[1])
         rooms = sorted({0, 1, 2, max(made - 1, 0), made, made + 1, SHOWN})
         if made < MANY_MOVES and dice.random() < 0.2:
             rooms += [model.LONGEST_LOG, model.LONGEST_LOG + 1]
         efforts = {effort for state in own.known.values() for windings in state for effort, _ in windings}
         tight = around(dice.sample(sorted(efforts), min(2, len(efforts))))
-        asked = [(LARGEST, room) for room in rooms] + [(allowance, dice.choice(rooms)) for allowance in tight]
+        asked = [(LARGEST_HANDED, room) for room in rooms] + [(allowance, dice.choice(rooms)) for allowance in tight]
     return [(run_case(own, drawn, pushed, *each), each) for each in asked]
 
 
@@ -169,7 +169,7 @@ def long_runs(dice):
     ring = wired(dice, 3, 0, [(REGULAR, relay, [[[LOWER, (relay + 1) % 3]]]) for relay in range(3)])
     most = wired(dice, 32, 1, [(REGULAR, relay, [[[UPPER, relay + 1]]]) for relay in range(31)] + [(REGULAR, 31, [[[BUTTON, 0]]])])
     boards = [(h3, set()), (ring, set()), (most, {0})]
-    return [run_case(model.Board(*own, MOST_CHAINS), set(), pushed, LARGEST, model.LONGEST_LOG) for own, pushed in boards]
+    return [run_case(model.Board(*own, MOST_CHAINS), set(), pushed, LARGEST_HANDED, model.LONGEST_LOG) for own, pushed in boards]
 
 
 def goes_on(less, more):
@@ -204,7 +204,7 @@ def compare(seed, boards):
     for _ in range(boards):
         own = model.Board(*board(dice), MOST_CHAINS)
         for _ in range(2):
-            drawn, pushed = judging.state(dice, own.counts[1], own.counts[2])
+            drawn, pushed = judging.state(dice, own.counts[1], own.counts[2], program.HANDED_BITS)
             try:
                 of_moves, of_runs = moves(dice, own, drawn, pushed), runs(dice, own, drawn, pushed)
             except model.TooManyChains:

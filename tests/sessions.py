@@ -1,7 +1,8 @@
 """Compares the proved session library with the independent second program in plain Rust (second/) on whole sessions: every
 sort in tests/lib/session_sorts.py, by way of `session_cases`, which takes many in one process; the first few of each sort, and
 the rule book's boards to try, also by the program `herdspiral` itself. The bytes that both print must be the same, and every
-word and every refusal that a session can come to must occur. Also builds the second program and runs its unit tests, and
+word and every refusal that a session can come to must occur. Both are also held to models in Python, on each form of a number
+at each place (tests/lib/number_sessions.py). Also builds the second program and runs its unit tests, and
 tries how `herdspiral` reads and writes (tests/lib/session_streams.py). Seeded, so each run tries the same sessions;
 `python3 tests/sessions.py SEED SESSIONS` tries others, or more (it is 1 and 5,000 else; those that are much work are always
 as many). Needs cargo, and target/bin/herdspiral and target/bin/session_cases, which `rt check herdspiral session_cases`
@@ -15,6 +16,7 @@ import sys
 
 sys.path.insert(0, os.path.join(os.path.dirname(os.path.abspath(__file__)), "lib"))
 import book_sessions
+import number_sessions
 import program
 import repository
 import second_program
@@ -153,6 +155,16 @@ def book():
         yield same(f"{name}, the second program", session, second_program.answer(session), wanted)
 
 
+def numbers():
+    """That both print what the models do for each form of a number at each place."""
+    found = number_sessions.sessions()
+    data = [session for _, session, _ in found]
+    print(f"{len(found):7} H2 with one number typed otherwise, whole and cut at every byte")
+    for (name, session, wanted), own, second in zip(found, by_library(data), second_program.answers(data)):
+        yield same(f"{name}, the library", session, program.well(own), wanted)
+        yield same(f"{name}, the second program", session, program.well(second), wanted)
+
+
 def compare(seed, count):
     if not shutil.which("cargo"):
         return [("cargo is there, to build the second program", False)]
@@ -164,7 +176,7 @@ def compare(seed, count):
     if not all(holds for _, holds in checks):
         return checks
     sessions = [(f"seed {seed}, {sort}, {number}", sort, session) for sort, number, session in session_sorts.sessions(seed, count)]
-    return checks + list(book()) + list(counted(sessions)) + compared(sessions) + session_streams.checks()
+    return checks + list(book()) + list(numbers()) + list(counted(sessions)) + compared(sessions) + session_streams.checks()
 
 
 if __name__ == "__main__":

@@ -1,7 +1,8 @@
 """What the script `herdspiral` says of a refusal (script/words.awk). Typed sessions with each slip, whole, with the real program
 and each awk of stand_in.AWKS that this machine has: the exact words. The hint that typed text was taken as bytes. Refusals that
-are not the session's. Then refused sessions of every sort of tests/lib/session_sorts.py: number, place, the bytes quoted and the
-numbers that the words name are held to the session's own bytes. Seeded; `python3 tests/words.py SEED SESSIONS` tries others, or
+are not the session's. Then refused sessions of every sort of tests/lib/session_sorts.py, and those of
+tests/lib/number_sessions.py that are not cut: number, place, the bytes quoted and the numbers that the words name are held to the
+session's own bytes. Seeded; `python3 tests/words.py SEED SESSIONS` tries others, or
 more (it is 1 and 1,500 else). Needs the kit, and target/bin/session_cases, which `rt check session_cases` builds; the script
 builds the program if it is missing."""
 import concurrent.futures
@@ -12,10 +13,12 @@ import tempfile
 
 sys.path.insert(0, os.path.join(os.path.dirname(os.path.abspath(__file__)), "lib"))
 import board_model
+import number_sessions
 import program
 import repository
 import session_sorts
 import stand_in
+from board_model import LARGEST, LONGEST_NUMBER
 from long_sessions import LONGEST
 from program import Told
 from repository import same
@@ -24,6 +27,7 @@ H1 = "03 01 01 02\n03 00 02 00\n04 02 01 00\n"  # T 3, R 1, B 1: button 0 on 0-2
 H5 = "04 02 01 04\n05 00 02 00\n06 00 03 00\n04 02 01 01\n03 00 02 00\n"  # T 4, R 2, B 1: a steel relay and a regular one
 END = "the input ends here"
 GOES_ON = "a byte of 80 or more says that another comes"
+TOO_LARGE = 'is too large: no number is above 4,294,967,295, typed "ff ff ff ff 0f"'
 HINT = "this looks like typed text, and was taken as bytes: a typed file's name ends in .hex, and it is given by that name, as in ./herdspiral board.hex"
 
 # Typed sessions, the lines that are refused, and the words for them without the file's name.
@@ -43,28 +47,45 @@ CASES = [
     (H1, ["refused 1 12"], [f"line 3, column 12: {END}, and the allowance (W) is wanted (refusal 1)"]),
     (H1 + "ff ff", ["refused 1 14"], [f'line 4, column 6: {END}, inside the allowance (W): "ff ff" goes on, since {GOES_ON} (refusal 1)']),
     (H1 + "64 01 80", ["refused 1 15"], [f'line 4, column 9: {END}, inside event 2: "80" goes on, since {GOES_ON} (refusal 1)']),
+    ("80 80 80", ["refused 1 3"], [f'line 1, column 9: {END}, inside the number of terminals (T): "80 80 80" goes on, since {GOES_ON} (refusal 1)']),
+    ("80 80 80 80", ["refused 1 4"], [f'line 1, column 12: {END}, inside the number of terminals (T): "80 80 80 80" goes on, since {GOES_ON} (refusal 1)']),
+    (H1 + "ff ff ff ff", ["refused 1 16"], [f'line 4, column 12: {END}, inside the allowance (W): "ff ff ff ff" goes on, since {GOES_ON} (refusal 1)']),
+    (H1 + "64 01 81 80 80", ["refused 1 17"], [f'line 4, column 15: {END}, inside event 2: "81 80 80" goes on, since {GOES_ON} (refusal 1)']),
     # 2: a number's form
     ("80 00", ["refused 2 0"], [f'line 1, column 1: "80 00": the number of terminals (T) is not in its shortest form, since {GOES_ON}: type "00" (refusal 2)']),
     ("8F 80\n00", ["refused 2 0"], [f'line 1, column 1: "8F 80 00": the number of terminals (T) is not in its shortest form, since {GOES_ON}: type "0f" (refusal 2)']),
-    ("80 # and\n80 # and\n80", ["refused 2 0"], [f'line 1, column 1: "80 80 80": the number of terminals (T) is longer than 3 bytes, since {GOES_ON} (refusal 2)']),
-    (H1 + "ffff ff 01", ["refused 2 12"], [f'line 4, column 1: "ff ff ff": the allowance (W) is longer than 3 bytes, since {GOES_ON} (refusal 2)']),
+    ("80 # and\n80 # and\n80 80 80", ["refused 2 0"], [f'line 1, column 1: "80 80 80 80 80": the number of terminals (T) is longer than 5 bytes, since {GOES_ON} (refusal 2)']),
+    (H1 + "ffff ff ff ff 01", ["refused 2 12"], [f'line 4, column 1: "ff ff ff ff ff": the allowance (W) is longer than 5 bytes, since {GOES_ON} (refusal 2)']),
+    (H1 + "64 01 81 80 80 80 80", ["refused 2 14"], [f'line 4, column 7: "81 80 80 80 80": event 2 is longer than 5 bytes, since {GOES_ON} (refusal 2)']),
     (H1 + "ff ff 00", ["refused 2 12"], [f'line 4, column 1: "ff ff 00": the allowance (W) is not in its shortest form, since {GOES_ON}: type "ff 7f" (refusal 2)']),
     (H1 + "64 01 80 00", ["refused 2 14"], [f'line 4, column 7: "80 00": event 2 is not in its shortest form, since {GOES_ON}: type "00" (refusal 2)']),
+    ("80 80 80 80 00", ["refused 2 0"], [f'line 1, column 1: "80 80 80 80 00": the number of terminals (T) is not in its shortest form, since {GOES_ON}: type "00" (refusal 2)']),
+    (H1 + "FF FF FF FF 00", ["refused 2 12"], [f'line 4, column 1: "FF FF FF FF 00": the allowance (W) is not in its shortest form, since {GOES_ON}: type "ff ff ff 7f" (refusal 2)']),
+    ("80 80 80 80 10", ["refused 2 0"], [f'line 1, column 1: "80 80 80 80 10": the number of terminals (T) {TOO_LARGE} (refusal 2)']),
+    ("03 01 01 02\nff ff ff ff 7f", ["refused 2 4"], [f'line 2, column 1: "ff ff ff ff 7f": the kind of part 1 of 2 {TOO_LARGE} (refusal 2)']),
+    ("03 01 01 02\n04 00 02 80 80 80 80 10", ["refused 2 7"], [f'line 2, column 10: "80 80 80 80 10": the relay of part 1 of 2 {TOO_LARGE} (refusal 2)']),
+    (H1 + "ff ff ff ff 10 01", ["refused 2 12"], [f'line 4, column 1: "ff ff ff ff 10": the allowance (W) {TOO_LARGE} (refusal 2)']),
+    (H1 + "64 01 81 80 80 80 10", ["refused 2 14"], [f'line 4, column 7: "81 80 80 80 10": event 2 {TOO_LARGE} (refusal 2)']),
     # 3: a count outside its range
     ("01", ["refused 3 0"], ['line 1, column 1: "01": the number of terminals (T) is 1, and must be 2 to 64 (refusal 3)']),
     ("64", ["refused 3 0"], ['line 1, column 1: "64": the number of terminals (T) is 100, and must be 2 to 64; "64" is 100, and 64 is typed "40" (refusal 3)']),
     ("03 32", ["refused 3 1"], ['line 1, column 4: "32": the number of relays (R) is 50, and must be 0 to 32; "32" is 50, and 32 is typed "20" (refusal 3)']),
     ("03 01 2a", ["refused 3 2"], ['line 1, column 7: "2a": the number of buttons (B) is 42, and must be 0 to 32 (refusal 3)']),
     ("03 01 01 81 02", ["refused 3 3"], ['line 1, column 10: "81 02": the number of parts (C) is 257, and must be 0 to 256 (refusal 3)']),
+    ("ff ff ff ff 0f", ["refused 3 0"], ['line 1, column 1: "ff ff ff ff 0f": the number of terminals (T) is 4294967295, and must be 2 to 64 (refusal 3)']),
+    ("03 80 80 80 80 08", ["refused 3 1"], ['line 1, column 4: "80 80 80 80 08": the number of relays (R) is 2147483648, and must be 0 to 32 (refusal 3)']),
+    ("03 01 ff ff ff ff 07", ["refused 3 2"], ['line 1, column 7: "ff ff ff ff 07": the number of buttons (B) is 2147483647, and must be 0 to 32 (refusal 3)']),
     # 4: no such kind
     ("03 01 01 02\n07 00 02", ["refused 4 4"], ['line 2, column 1: "07": there is no such kind of part: the kinds are 0 to 6 (refusal 4)']),
     ("03 01 01 02\n10 00 02", ["refused 4 4"], ['line 2, column 1: "10": there is no kind 16 of part: the kinds are 0 to 6 (refusal 4)']),
     ("03 01 01 02\n84 02 00 02 00", ["refused 4 4"], ['line 2, column 1: "84 02": there is no kind 260 of part: the kinds are 0 to 6 (refusal 4)']),
+    ("03 01 01 02\n84 80 80 80 08 00 02 00", ["refused 4 4"], ['line 2, column 1: "84 80 80 80 08": there is no kind 2147483652 of part: the kinds are 0 to 6 (refusal 4)']),
     # 5: no such terminal
     ("03 01 01 02\n03 00 02 00\n04 02 09 00\n", ["refused 5 10"], ['line 3, column 7: "09": there is no such terminal: the board has 3, 0 to 2 (refusal 5)']),
     ("0c 01 01 02\n03 10 02 00\n", ["refused 5 5"], ['line 2, column 4: "10": there is no terminal 16: the board has 12, 0 to 11; "10" is 16, and 10 is typed "0a" (refusal 5)']),
     ("0c 01 01 02\n03 12 02 00\n", ["refused 5 5"], ['line 2, column 4: "12": there is no terminal 18: the board has 12, 0 to 11 (refusal 5)']),
     ("02 01 01 02\n03 82 01 02 00\n", ["refused 5 5"], ['line 2, column 4: "82 01": there is no terminal 130: the board has 2, 0 to 1 (refusal 5)']),
+    ("03 01 01 02\n03 00 ff ff ff ff 0f\n", ["refused 5 6"], ['line 2, column 7: "ff ff ff ff 0f": there is no terminal 4294967295: the board has 3, 0 to 2 (refusal 5)']),
     # 6: both ends equal
     ("03 01 01 02\n03 00 00 00\n", ["refused 6 6"], ['line 2, column 7: "00": both ends of part 1 of 2 are terminal 0 (refusal 6)']),
     # 7: no such relay or button
@@ -74,6 +95,9 @@ CASES = [
     (H1 + "64 01 05", ["refused 7 14"], ['line 4, column 7: "05": event 2 pushes button 2, and there is no such button: the board has 1, number 0 (refusal 7)']),
     (H1 + "64 01 ff 01", ["refused 7 14"], ['line 4, column 7: "ff 01": event 2 pushes button 127, and there is no button 127: the board has 1, number 0 (refusal 7)']),
     ("03 00 0a 00\n64 16", ["refused 7 5"], ['line 2, column 4: "16": event 1 releases button 11, and there is no button 11: the board has 10, 0 to 9; "16" is 22, and 16 is typed "10" (refusal 7)']),
+    ("03 01 01 02\n03 00 02 80 80 80 80 08\n", ["refused 7 7"], ['line 2, column 10: "80 80 80 80 08": there is no button 2147483648: the board has 1, number 0 (refusal 7)']),
+    ("03 0c 00 02\n04 00 02 fe ff ff ff 0f\n", ["refused 7 7"], ['line 2, column 10: "fe ff ff ff 0f": there is no relay 4294967294: the board has 12, 0 to 11 (refusal 7)']),
+    (H1 + "64 01 ff ff ff ff 0f", ["refused 7 14"], ['line 4, column 7: "ff ff ff ff 0f": event 2 pushes button 2147483647, and there is no button 2147483647: the board has 1, number 0 (refusal 7)']),
     # 8: a winding too many
     ("03 01 01 02\n04 00 02 00\n04 02 01 00", ["refused 8 11"], ['line 3, column 10: "00": relay 0 has a regular winding already, at line 2, column 10 (refusal 8)']),
     (H5.replace("04 02 01 01", "05 02 01 00"), ["refused 8 15"], ['line 4, column 10: "00": relay 0 has a drawing winding already, at line 2, column 10 (refusal 8)']),
@@ -85,7 +109,7 @@ CASES = [
     ("03 01 01 01\n03 00 02 00\n", ["refused 9 8"], ["line 2, column 12: the board ends here, and so does the input, after 1 part: relay 0 has no winding (refusal 9)"]),
     ("03 02 01 01\n05 00 02 00\na0 8d 06", ["refused 9 8"], ['line 3, column 1: "a0 8d 06": the board ends before this, after 1 part: relay 0 has a drawing winding and no dropping winding, and 1 other relay lacks one too (refusal 9)']),
     ("03 04 01 02\n06 00 02 02\n04 00 02 00 80", ["refused 9 12"], ['line 3, column 13: "80": the board ends before this, after 2 parts: relay 1 has no winding, and 2 other relays lack one too (refusal 9)']),
-    ("03 01 01 01\n06 00 02 00\nffff ff ff", ["refused 9 8"], ['line 3, column 1: "ff ff ff": the board ends before this, after 1 part: relay 0 has a dropping winding and no drawing winding (refusal 9)']),
+    ("03 01 01 01\n06 00 02 00\nffff ff ff ff ff", ["refused 9 8"], ['line 3, column 1: "ff ff ff ff ff": the board ends before this, after 1 part: relay 0 has a dropping winding and no drawing winding (refusal 9)']),
     # 12, with which a session goes on
     (H1 + "64 01\n01 00 00", ["2 refused 12", "4 refused 12"], ['line 5, column 1: "01": event 2 pushes button 0, which is pushed already (refusal 12)', 'line 5, column 7: "00": event 4 releases button 0, which is released already (refusal 12)']),
     (H1 + "64 00 80", ["1 refused 12", "refused 1 15"], ['line 4, column 4: "00": event 1 releases button 0, which is released already (refusal 12)', f'line 4, column 9: {END}, inside event 2: "80" goes on, since {GOES_ON} (refusal 1)']),
@@ -98,7 +122,7 @@ LOOKS_NOT = [b"", b"A", b"\x03\x01\x01\x02", b"0", b"03 01\0", b"\x41\x00\x00\x0
 # The words for a refusal, and in them the numbers that are held to the session.
 FORMS = {
     1: r"the input ends here, (?:and .+ is wanted|inside .+: \"(?P<begun>[0-9a-f ]+)\" goes on, since .+)",
-    2: r".+ is (?:longer than 3 bytes, since .+|not in its shortest form, since .+: type \"(?P<shortest>[0-9a-f ]+)\")",
+    2: rf".+ (?:(?P<long>is longer than 5 bytes, since .+)|(?P<large>{TOO_LARGE})|is not in its shortest form, since .+: type \"(?P<shortest>[0-9a-f ]+)\")",
     3: r"the number of (?:terminals|relays|buttons|parts) \([TRBC]\) is (?P<value>\d+), and must be \d+ to \d+(?:; .*)?",
     4: r"there is no (?:such kind|kind (?P<value>\d+)) of part: the kinds are 0 to 6",
     5: r"there is no (?:such terminal|terminal (?P<value>\d+)): the board has (?P<terminals>\d+), 0 to \d+(?:; .*)?",
@@ -164,11 +188,14 @@ def numbers(data, many):
 def facts(data, number, place, found):
     """Whether the numbers that the words name are those of the session."""
     named = {name: value for name, value in found.groupdict().items() if value is not None}
-    length = next((length for length in range(1, 4) if place + length > len(data) - 1 or data[place + length - 1] < 128), 3)
+    form = data[place : place + LONGEST_NUMBER]
+    form = form[: next((at for at, byte in enumerate(form, 1) if byte < 128), LONGEST_NUMBER)]
     if number == 1:
         return "begun" not in named or data.endswith(bytes.fromhex(named["begun"])) and place == len(data)
     if number == 2:
-        return "shortest" not in named or bytes.fromhex(named["shortest"]) == bytes(board_model.number_bytes(sum((byte % 128) << 7 * at for at, byte in enumerate(data[place : place + length]))))
+        value = sum(byte % 128 << 7 * at for at, byte in enumerate(form))
+        shortest = bytes(board_model.number_bytes(value)).hex(" ")
+        return (named.get("shortest", shortest), "long" in named, "large" in named) == (shortest, form[-1] >= 128, value > LARGEST and form[-1] < 128)
     if number == 10:
         return len(data) > LONGEST
     if number == 9:
@@ -208,8 +235,9 @@ def held(name, data, said, words):
 
 
 def many(seed, count):
-    """Refused sessions of every sort."""
+    """Refused sessions of every sort, and with each form of a number at each place."""
     sessions = [(f"seed {seed}, {sort}, {place}", session) for sort, place, session in session_sorts.sessions(seed, count)]
+    sessions += [(name, session) for session, name in number_sessions.whole().items()]
     answers = program.many(program.command("session_cases"), [session for _, session in sessions])
     if None in answers:
         return [("session_cases answers", False)]

@@ -2,6 +2,8 @@
 and the rules on a board. It shares no text with the crates, but those who wrote it had read the crates' public functions,
 so it is a check on slips and not the independent second program."""
 
+LONGEST_NUMBER, LARGEST = 5, 4_294_967_295  # bytes of a number, and its value
+NARROW = (8, 16, 24, 31)  # bits to which a slip may narrow a number before it is held to its limit
 RANGES = ((2, 64), (0, 32), (0, 32), (0, 256))  # T, R, B, C
 BUTTON = 3
 LAST_KIND = 6
@@ -14,13 +16,13 @@ class Refused(Exception):
 def number_at(data, at):
     """The number at a place: its value and the next place."""
     value = 0
-    for group in range(3):
+    for group in range(LONGEST_NUMBER):
         if at + group >= len(data):
             raise Refused(1, len(data))
         byte = data[at + group]
         value |= (byte & 127) << (7 * group)
         if byte < 128:
-            if group > 0 and byte == 0:
+            if (group > 0 and byte == 0) or value > LARGEST:
                 raise Refused(2, at)
             return value, at + group + 1
     raise Refused(2, at)

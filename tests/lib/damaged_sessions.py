@@ -5,8 +5,8 @@ import board_files
 import judge_model
 import session_boards as boards
 import session_files
-from board_model import RANGES, number_bytes
-from session_files import BAD_TAILS, LARGEST, TOP
+from board_model import LARGEST, LONGEST_NUMBER, RANGES, number_bytes
+from session_files import BAD_TAILS, TOP, widened
 
 
 class Draft:
@@ -49,15 +49,17 @@ def badly_formed(dice, draft):
 def count_outside(dice, draft):
     which = dice.randrange(len(RANGES))
     least, most = RANGES[which]
-    draft.counts[which] = dice.choice([most + 1, most + 2, 257, 16_384, LARGEST] + list(range(least)))
+    draft.counts[which] = dice.choice([most + 1, most + 2, 257, 16_384, LARGEST, widened(dice, draft.counts[which])] + list(range(least)))
 
 
 def no_such_kind(dice, draft):
-    dice.choice(draft.parts)[0] = dice.choice([7, 8, 64, 127, 128, LARGEST])
+    part = dice.choice(draft.parts)
+    part[0] = dice.choice([7, 8, 64, 127, 128, LARGEST, widened(dice, part[0])])
 
 
 def no_such_terminal(dice, draft):
-    dice.choice(draft.parts)[dice.choice([1, 2])] = dice.choice([draft.counts[0], draft.counts[0] + 1, 64, 128, LARGEST])
+    part, end = dice.choice(draft.parts), dice.choice([1, 2])
+    part[end] = dice.choice([draft.counts[0], draft.counts[0] + 1, 64, 128, LARGEST, widened(dice, part[end])])
 
 
 def equal_ends(dice, draft):
@@ -68,7 +70,7 @@ def equal_ends(dice, draft):
 def no_such_name(dice, draft):
     part = dice.choice([part for part in draft.parts if len(part) == 4])
     limit = draft.counts[2 if part[0] == judge_model.BUTTON else 1]
-    part[3] = dice.choice([limit, limit + 1, 32, 128, LARGEST])
+    part[3] = dice.choice([limit, limit + 1, 32, 128, LARGEST, widened(dice, part[3])])
 
 
 def winding_too_many(dice, draft):
@@ -113,10 +115,10 @@ def twice_damaged_session(dice):
 
 
 def ending_number_session(dice):
-    """Ends with one, two or three bytes that have their top bit set: cut, or at the third a bad form."""
+    """Ends with one to five bytes that have their top bit set: cut, or at the fifth a bad form."""
     draft = fine_draft(dice)
     cut(dice, draft)
-    return draft.data() + session_files.top_bits(dice, dice.choice([1, 2, 3]))
+    return draft.data() + session_files.top_bits(dice, dice.randint(1, LONGEST_NUMBER))
 
 
 def changed_byte_session(dice):

@@ -1,5 +1,5 @@
 """Sessions for tests/sessions.py that are long or much work, as bytes: runs that fill the log, the largest and the densest
-boards, efforts of two million chains, and inputs around the longest. A function that makes a session takes the dice and what
+boards, efforts of two and four million chains, and inputs around the longest. A function that makes a session takes the dice and what
 its variant is; tests/lib/session_sorts.py has the variants."""
 import session_boards as boards
 from damaged_sessions import damaged_session
@@ -22,8 +22,9 @@ def dense_session(dice, variant):
     return session(boards.dense(dice, terminals), allowance, [])
 
 
-def two_million_session(dice, more):
-    board, effort = boards.diamonds(dice, 18)
+def millions_session(dice, variant):
+    diamonds, more = variant
+    board, effort = boards.diamonds(dice, diamonds)
     return session(board, effort + more, [])
 
 

@@ -11,6 +11,8 @@ import typing
 import repository
 
 PATIENCE = 120  # seconds that a run may take
+HANDED_BITS = 24  # of a number in a case for `run_cases`
+LARGEST_HANDED = 2**HANDED_BITS - 1
 TEXT_ROOM = 65_400  # a program of typed cases takes texts of fewer than 65,536 bytes
 SESSION_END = b".\n"  # of many sessions, the line after those of each
 

@@ -5,14 +5,15 @@ import judge_model
 import run_model
 import running
 import session_boards as boards
-from board_model import file_of, number_bytes
+from board_model import LARGEST, LONGEST_NUMBER, NARROW, file_of, number_bytes
 
-LARGEST = running.LARGEST
 MOST_CHAINS = 1_000  # of a board whose efforts are worked out
 MOST_MOVES = 4_096
 MUCH_WORK = 2_000_000  # chains, of a session on a board with more of them
 TOP = 128  # the top bit of a byte
-BAD_TAILS = [[0], [TOP, 0], [255, 255], [TOP, TOP, 0], [255, 255, 127]]  # behind a byte with its top bit set: no form
+CUT = range(1, LONGEST_NUMBER)  # so many bytes with their top bit set are a number that is cut, and one more are no form
+# Behind a byte with its top bit set: no form.
+BAD_TAILS = [[0], [TOP, 0], [TOP, TOP, 0], [TOP, TOP, TOP, 0], [TOP, TOP, TOP, 16], [255, 255, 255, 16], [255, 255, 255, 127], [255] * 4, [TOP] * 4 + [0], [255] * 4 + [15]]
 
 
 def typed(numbers):
@@ -42,7 +43,7 @@ def some_presses(dice, board, most=6):
 
 def enough(dice):
     """An allowance that is enough for a board of few chains."""
-    return dice.choice([LARGEST, LARGEST - 1, 16_384, 16_383, 5_000])
+    return dice.choice([LARGEST, LARGEST - 1, 2**31, 268_435_456, 268_435_455, 2_097_152, 2_097_151, 16_384, 16_383, 5_000])
 
 
 def some_allowance(dice):
@@ -154,10 +155,15 @@ def double_session(dice):
     return session(board, some_allowance(dice), events)
 
 
+def widened(dice, number):
+    """A number that is this one if it is narrowed."""
+    return number + 2 ** dice.choice(NARROW)
+
+
 def absent_button_session(dice):
     board = calm_board(dice)
     events, buttons = some_presses(dice, board), board[0][2]
-    absent = dice.choice([2 * buttons, 2 * buttons + 1, 2 * buttons + 2, 63, 64, 65, 127, 128, 129, 16_383, 16_384, LARGEST])
+    absent = dice.choice([2 * buttons, 2 * buttons + 1, 2 * buttons + 2, 63, 64, 65, 127, 128, 129, 16_383, 16_384, LARGEST, widened(dice, dice.choice(events))])
     events.insert(dice.randint(0, len(events)), absent)
     return session(board, some_allowance(dice), events)
 
@@ -169,7 +175,7 @@ def top_bits(dice, count):
 
 def cut_event_session(dice):
     board = calm_board(dice)
-    return session(board, some_allowance(dice), some_presses(dice, board)) + top_bits(dice, dice.choice([1, 2]))
+    return session(board, some_allowance(dice), some_presses(dice, board)) + top_bits(dice, dice.choice(CUT))
 
 
 def bad_form(dice):
@@ -185,4 +191,4 @@ def bad_event_session(dice):
 
 def bad_allowance_session(dice):
     board = calm_board(dice)
-    return file_of(*board) + dice.choice([b"", top_bits(dice, 1), top_bits(dice, 2), bad_form(dice), bad_form(dice) + typed(some_presses(dice, board))])
+    return file_of(*board) + dice.choice([b"", top_bits(dice, dice.choice(CUT)), bad_form(dice), bad_form(dice) + typed(some_presses(dice, board))])

@@ -5,8 +5,9 @@ import damaged_sessions as damaged
 import long_sessions
 import session_boards as boards
 import session_files as fine
+from board_model import LARGEST, LONGEST_NUMBER
 from damaged_sessions import DAMAGES
-from session_files import LARGEST
+from judging import AFFORDABLE
 
 LEAST = 10  # of each sort of which there are many
 
@@ -37,15 +38,18 @@ SORTS = {
 for line, damage in enumerate(DAMAGES, 1):
     SORTS[f"damaged by line {line}: {damage.__name__.replace('_', ' ')}"] = (80, lambda dice, damage=damage: damaged.damaged_session(dice, damage))
 
+# The bytes of an event that is cut, in a bad form, or of a button that is not there.
+BAD_ENDS = [b"\x80" * count for count in range(1, LONGEST_NUMBER + 1)] + [b"\x80\x00", b"\xff\xff\xff\xff\x10", b"\xff\xff\xff\xff\x0f", b"\x7f"]
+
 # Sorts of which a few are enough, or all there is time for: what makes a session, and the variants, each tried once.
 FEW = {
     "runs of about 4,096 moves": (long_sessions.full_log_session, [(bits, followers) for bits in (12, 13) for followers in (0, 1, 2)]),
     "the largest boards": (long_sessions.largest_board_session, [LARGEST, LARGEST, 200, 40, 10] * 8),
-    "dense boards": (long_sessions.dense_session, [(9, LARGEST), (10, LARGEST), (11, LARGEST), (12, LARGEST), (11, 300_000), (12, 1)]),
-    "an allowance around an effort of two million": (long_sessions.two_million_session, [-1, 0, 1, 4]),
+    "dense boards": (long_sessions.dense_session, [(9, LARGEST), (10, LARGEST), (11, LARGEST), (12, AFFORDABLE), (11, 300_000), (12, 1)]),
+    "an allowance around an effort of two or four million": (long_sessions.millions_session, [(18, -1), (18, 0), (18, 1), (18, 5), (19, -1), (19, 0), (19, 1)]),
     "65,536 bytes, nearly all events": (long_sessions.longest_session, boards.CALM),
     "65,536 bytes, half the events refused by 12": (long_sessions.doubles_session, [boards.holding]),
-    "65,536 bytes, the last event bad": (long_sessions.bad_end_session, [b"\x80", b"\x80\x80", b"\x80\x00", b"\x80\x80\x80", b"\x7f"]),
+    "65,536 bytes, the last event bad": (long_sessions.bad_end_session, BAD_ENDS),
     "65,536 bytes with a damaged board": (long_sessions.longest_bad_session, DAMAGES[1:]),
     "65,536 random bytes": (long_sessions.random_session, [0] * 4),
     "65,537 bytes and more, nearly all events": (long_sessions.too_long_session, [1, 1, 2, 1_000]),

@@ -16,6 +16,7 @@ import program
 import second_program
 import session_boards
 import session_files
+from board_model import LARGEST
 from program import Told, session_told, well
 from repository import same
 
@@ -141,7 +142,7 @@ def pieces():
 def around_the_room():
     """Sessions whose lines come to about as many bytes as the program keeps, once, twice and four times: to each number of bytes
     within some lines of it that can be met."""
-    start, events = session_files.session(session_boards.holding(random.Random(1)), session_files.LARGEST, []), [1, 0]
+    start, events = session_files.session(session_boards.holding(random.Random(1)), LARGEST, []), [1, 0]
     longest = start + bytes(events * 4_000)
     lines = second_program.answer(longest).out.split(b"\n")[:-1]
     for room in (LINES_ROOM, 2 * LINES_ROOM, 4 * LINES_ROOM):
@@ -159,7 +160,7 @@ def around_the_room():
 def repeated():
     """Lines that are refused come once more on standard error, each of them whole, wherever they stand in the program's buffer;
     no other line does."""
-    start = session_files.session(session_boards.holding(random.Random(1)), session_files.LARGEST, [])
+    start = session_files.session(session_boards.holding(random.Random(1)), LARGEST, [])
     for name, events in (("every event refused but the first", [1]), ("every other event refused", [1, 1, 0, 0]), ("few refused", [1, 0] * 1_000 + [0])):
         for last in ([], [0x80]):
             data = start + bytes((events * 8_000)[:8_000] + last)
@@ -193,7 +194,7 @@ def few_writes():
 
 def small_stack():
     """2 MiB of stack are enough where a search nests deeply, and for the longest session."""
-    path, deep = (session_files.session(board, session_files.LARGEST, []) for board in judging.deep_boards())
+    path, deep = (session_files.session(board, LARGEST, []) for board in judging.deep_boards())
     for name, data in (("a path", path), ("a deep search", deep), ("the longest session", holding(LONGEST))):
         told = program.run(program.command("herdspiral", judging.STACK), data)
         yield same(f"{name} with {judging.STACK} bytes of stack", told, second_program.answer(data))
