@@ -32,7 +32,7 @@ LONGEST = 65_536
 CHAINS = 4_000_000  # to go through in one session on a ladder; fewer where it has no room for so many events
 MOST_EVENTS = 65_000
 SIZES = (8, 16, 24, 32, 40, 48, 56, 64)
-ALLOWANCES = (64, 512, 4_096, 32_768, 262_144, judge.ALLOWANCE)
+ALLOWANCES = (64, 512, 4_096, 32_768, 262_144, judge.ALLOWANCE, 33_554_432)
 WIRE = 0
 HERDSPIRAL, SECOND = program.command("herdspiral"), second_program.command()
 MANY_PROVED, MANY_SECOND = program.command("session_cases"), second_program.command("--many")
@@ -138,8 +138,8 @@ def ladder_lines(word, events):
 
 
 def effort_of(sessions, terminals):
-    """How many chains a ladder has: the least allowance with which its winding is decided. None if the
-    largest that is measured is too small."""
+    """How many chains a ladder has: the least allowance with which its winding is decided. None if the largest that is measured
+    is too small."""
 
     def undecided(allowance):
         return b"undecided" in sessions.lines(HERDSPIRAL, ladder_session(terminals, allowance, 0))
