@@ -4,7 +4,9 @@ ghost use Prim.Native.Nat.{_+_, _≤_, _<_, _^_};
 ghost use lib.Dec.{leb};
 ghost use lib.ListN.{length, drop};
 ghost use lib.Seq.{sets};
-ghost use Rattle.number.specs.Numbers.{currentWidth, form, encode, ReadsNumber, NumberLength, WritesNumber};
+ghost use Rattle.refusals.specs.Outcomes.{refused};
+ghost use Rattle.number.specs.Numbers.{currentWidth, form, encode, toldNumber};
+ghost use Rattle.number.specs.Numbers.{ReadsNumber, NumberLength, WritesNumber};
 use refusals::BAD_FORM;
 use refusals::BUFFER_TOO_SHORT;
 use refusals::INPUT_ENDS;
@@ -60,6 +62,13 @@ fn read_form(s: &[u8], at: usize, left: usize) -> Form
     Form::Got(group - 128 + 128 * above, bytes + 1)
 }
 
+// A refusal by number at a place.
+fn refuse(number: u32, place: usize) -> Number
+    ensures { λ r. ⌜ toldNumber r ≡ refused number place ⌝ }
+{
+    Number::Refused(Refusal { number, place })
+}
+
 // The number at a place of a slice, or refusal 1 or 2.
 pub fn read_number(s: &[u8], at: usize) -> Number
     ensures { λ r. ⌜ ReadsNumber (now (s .entry)) at r ⌝ }
@@ -67,21 +76,12 @@ pub fn read_number(s: &[u8], at: usize) -> Number
     match read_form(s, at, LONGEST) {
         Form::Got(value, bytes) => {
             if value > LARGEST {
-                return Number::Refused(Refusal {
-                    number: BAD_FORM,
-                    place: at,
-                });
+                return refuse(BAD_FORM, at);
             }
             Number::Read(value as u32, at + bytes)
         }
-        Form::Ends => Number::Refused(Refusal {
-            number: INPUT_ENDS,
-            place: s.len(),
-        }),
-        Form::Bad => Number::Refused(Refusal {
-            number: BAD_FORM,
-            place: at,
-        }),
+        Form::Ends => refuse(INPUT_ENDS, s.len()),
+        Form::Bad => refuse(BAD_FORM, at),
     }
 }
 

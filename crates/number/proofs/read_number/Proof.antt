@@ -1,6 +1,7 @@
 -- `read_number` answers the form that `read_form` finds, as the rule book does.
 use Prim.Native.Nat.{_+_, _≤_}
 use native.Mathlib.Omega.{arith}
+use mathlib.Core.Path.{_∙_}
 use borrow.Author.Needs.{needs}
 use lib.ListN.{length}
 use Rattle.number.specs.Numbers.{currentWidth}
@@ -11,8 +12,10 @@ use Rattle.number.proofs.read_number.Tie as tie
 
 returns : tie.Need-returns
 returns c =
-    let got = c .before .before in
-    number-over _ _ _ _ _ _ (got .before .before .read-form .ensures) (got .value .given .1) (c .if1 .taken)
+    let over = c .before in
+    let got = over .before .before in
+    c .refuse .ensures
+    ∙ number-over _ _ _ _ _ _ (got .before .before .read-form .ensures) (got .value .given .1) (over .if1 .taken)
 
 -- the number that was read stands within the slice
 within : (c : tie.Else1) → let entry = c .before .before .before .before .before .before in
@@ -34,9 +37,14 @@ pub read-number-spec : {M : Type 1} → statement M
 read-number-spec =
     tie.close
     (tie.spec
-    (λ c κs. search needs) (λ c. search needs)
+    (λ c κs. search needs) (λ c. search needs) (λ c κs. search needs)
     returns
-    (λ c. search needs) (λ c. omega (arith, within c)) (λ c. search needs) (λ c. search needs)
+    (λ c. search needs) (λ c. omega (arith, within c)) (λ c. search needs) (λ c κs. search needs) (λ c. search needs)
+    (λ c κs. search needs)
     returns-2
-    (λ c. number-ends _ _ _ _ (c .before .before .read-form .ensures) (c .enum-told .given .1))
-    (λ c. number-bad _ _ _ _ (c .before .before .read-form .ensures) (c .enum-told2 .given .1)))
+    (λ c.
+    let ends = c .before in
+    c .refuse2 .ensures ∙ number-ends _ _ _ _ (ends .before .before .read-form .ensures) (ends .enum-told .given .1))
+    (λ c.
+    let bad = c .before in
+    c .refuse3 .ensures ∙ number-bad _ _ _ _ (bad .before .before .read-form .ensures) (bad .enum-told2 .given .1)))
