@@ -49,7 +49,7 @@ current-some = omega arith
 current-room : (v : ℕ) → v ≤ currentWidth .largest → v < 128 ^ (currentWidth .longest)
 current-room v h = omega arith
 
-pub word-current : (v : ℕ) → v < 2 ^ 32 → v ≤ currentWidth .largest
+word-current : (v : ℕ) → v < 2 ^ 32 → v ≤ currentWidth .largest
 word-current v h = omega arith
 
 -- ---- a form at a place
