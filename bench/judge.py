@@ -15,7 +15,7 @@ import board_model
 import program
 import repository
 
-ALLOWANCE = 2_097_151
+ALLOWANCE = 2_097_151  # what three bytes can say, so that times compare with those from before request A1
 CHAINS = 5_000_000  # to go through in one run; fewer where the text has no room for so many cases
 RUNS = 7
 SIZES = (8, 12, 16, 20, 24, 28, 32, 40, 48, 56, 64)

@@ -11,7 +11,7 @@ BEGIN {
     name = ENVIRON["NAME"]
     LONGEST_INPUT = ENVIRON["LONGEST_INPUT"] + 0
     LONGEST_NUMBER = 5 # bytes
-    LARGEST = 4294967295
+    LARGEST_NUMBER = 4294967295
     LAST_KIND = 6
     GOES_ON = "a byte of 80 or more says that another comes"
     WINDING[4] = "regular winding"; WINDING[5] = "drawing winding"; WINDING[6] = "dropping winding"
@@ -66,7 +66,7 @@ function counted(many, thing) { return many " " thing (many == 1 ? "" : "s") }
 
 # That there is no thing of this number, and how many the board has.
 function no_such(thing, chosen, many) {
-    return "there is no " (chosen < 10 ? "such " thing : thing " " chosen) ": the board has " (many == 0 ? "none" : many == 1 ? "1, number 0" : many ", 0 to " many - 1)
+    return "there is no " (chosen < 10 ? "such " thing : thing " " grouped(chosen)) ": the board has " (many == 0 ? "none" : many == 1 ? "1, number 0" : many ", 0 to " many - 1)
 }
 
 # Two decimal digits that would be in range were perhaps meant so: then this says how the number is typed.
@@ -106,7 +106,7 @@ function go_past(wanted, low, high, whose,    many, i) {
     for (i = many - 1; i >= 0; i--) value = 128 * value + byte[start + i] % 128
     if (many && byte[at - 1] < 128) {
         if (refusal == 2 && many > 1 && byte[at - 1] == 0) tell_end(start, many, wanted " is not in its shortest form, since " GOES_ON ": type " shortest(value))
-        else if (refusal == 2 && value > LARGEST) tell_end(start, many, wanted " is too large: no number is above " grouped(LARGEST) ", typed " shortest(LARGEST))
+        else if (refusal == 2 && value > LARGEST_NUMBER) tell_end(start, many, wanted " is too large: no number is above " grouped(LARGEST_NUMBER) ", typed " shortest(LARGEST_NUMBER))
         else if (refusal >= 3 && refusal <= 8) tell_end(start, many, unfit(wanted, low, high, whose))
         return !told
     }
@@ -117,8 +117,8 @@ function go_past(wanted, low, high, whose,    many, i) {
 
 # 3 to 8: the number's meaning.
 function unfit(wanted, low, high, whose) {
-    if (refusal == 3) return wanted " is " value ", and must be " low " to " high meant(low, high)
-    if (refusal == 4) return "there is no " (value < 10 ? "such kind" : "kind " value) " of part: the kinds are 0 to " LAST_KIND
+    if (refusal == 3) return wanted " is " grouped(value) ", and must be " low " to " high meant(low, high)
+    if (refusal == 4) return "there is no " (value < 10 ? "such kind" : "kind " grouped(value)) " of part: the kinds are 0 to " LAST_KIND
     if (refusal == 5) return no_such("terminal", value, terminals) meant(0, terminals - 1)
     if (refusal == 6) return "both ends of " part " are terminal " value
     if (refusal == 8) return wound_before(value)
@@ -154,7 +154,7 @@ function board_ends(what) {
     if (what != "") tell_end(at, bytes_at(at), "the board ends " (at < size ? "before this" : "here, and so does the input") ", after " counted(parts, "part") ": " what)
 }
 
-function event_does() { return event (value % 2 ? " pushes" : " releases") " button " int(value / 2) }
+function event_does() { return event (value % 2 ? " pushes" : " releases") " button " grouped(int(value / 2)) }
 
 # A part: its kind, its ends, and the relay or button that it names.
 function next_part(    last) {

@@ -72,20 +72,20 @@ CASES = [
     ("03 32", ["refused 3 1"], ['line 1, column 4: "32": the number of relays (R) is 50, and must be 0 to 32; "32" is 50, and 32 is typed "20" (refusal 3)']),
     ("03 01 2a", ["refused 3 2"], ['line 1, column 7: "2a": the number of buttons (B) is 42, and must be 0 to 32 (refusal 3)']),
     ("03 01 01 81 02", ["refused 3 3"], ['line 1, column 10: "81 02": the number of parts (C) is 257, and must be 0 to 256 (refusal 3)']),
-    ("ff ff ff ff 0f", ["refused 3 0"], ['line 1, column 1: "ff ff ff ff 0f": the number of terminals (T) is 4294967295, and must be 2 to 64 (refusal 3)']),
-    ("03 80 80 80 80 08", ["refused 3 1"], ['line 1, column 4: "80 80 80 80 08": the number of relays (R) is 2147483648, and must be 0 to 32 (refusal 3)']),
-    ("03 01 ff ff ff ff 07", ["refused 3 2"], ['line 1, column 7: "ff ff ff ff 07": the number of buttons (B) is 2147483647, and must be 0 to 32 (refusal 3)']),
+    ("ff ff ff ff 0f", ["refused 3 0"], ['line 1, column 1: "ff ff ff ff 0f": the number of terminals (T) is 4,294,967,295, and must be 2 to 64 (refusal 3)']),
+    ("03 80 80 80 80 08", ["refused 3 1"], ['line 1, column 4: "80 80 80 80 08": the number of relays (R) is 2,147,483,648, and must be 0 to 32 (refusal 3)']),
+    ("03 01 ff ff ff ff 07", ["refused 3 2"], ['line 1, column 7: "ff ff ff ff 07": the number of buttons (B) is 2,147,483,647, and must be 0 to 32 (refusal 3)']),
     # 4: no such kind
     ("03 01 01 02\n07 00 02", ["refused 4 4"], ['line 2, column 1: "07": there is no such kind of part: the kinds are 0 to 6 (refusal 4)']),
     ("03 01 01 02\n10 00 02", ["refused 4 4"], ['line 2, column 1: "10": there is no kind 16 of part: the kinds are 0 to 6 (refusal 4)']),
     ("03 01 01 02\n84 02 00 02 00", ["refused 4 4"], ['line 2, column 1: "84 02": there is no kind 260 of part: the kinds are 0 to 6 (refusal 4)']),
-    ("03 01 01 02\n84 80 80 80 08 00 02 00", ["refused 4 4"], ['line 2, column 1: "84 80 80 80 08": there is no kind 2147483652 of part: the kinds are 0 to 6 (refusal 4)']),
+    ("03 01 01 02\n84 80 80 80 08 00 02 00", ["refused 4 4"], ['line 2, column 1: "84 80 80 80 08": there is no kind 2,147,483,652 of part: the kinds are 0 to 6 (refusal 4)']),
     # 5: no such terminal
     ("03 01 01 02\n03 00 02 00\n04 02 09 00\n", ["refused 5 10"], ['line 3, column 7: "09": there is no such terminal: the board has 3, 0 to 2 (refusal 5)']),
     ("0c 01 01 02\n03 10 02 00\n", ["refused 5 5"], ['line 2, column 4: "10": there is no terminal 16: the board has 12, 0 to 11; "10" is 16, and 10 is typed "0a" (refusal 5)']),
     ("0c 01 01 02\n03 12 02 00\n", ["refused 5 5"], ['line 2, column 4: "12": there is no terminal 18: the board has 12, 0 to 11 (refusal 5)']),
     ("02 01 01 02\n03 82 01 02 00\n", ["refused 5 5"], ['line 2, column 4: "82 01": there is no terminal 130: the board has 2, 0 to 1 (refusal 5)']),
-    ("03 01 01 02\n03 00 ff ff ff ff 0f\n", ["refused 5 6"], ['line 2, column 7: "ff ff ff ff 0f": there is no terminal 4294967295: the board has 3, 0 to 2 (refusal 5)']),
+    ("03 01 01 02\n03 00 ff ff ff ff 0f\n", ["refused 5 6"], ['line 2, column 7: "ff ff ff ff 0f": there is no terminal 4,294,967,295: the board has 3, 0 to 2 (refusal 5)']),
     # 6: both ends equal
     ("03 01 01 02\n03 00 00 00\n", ["refused 6 6"], ['line 2, column 7: "00": both ends of part 1 of 2 are terminal 0 (refusal 6)']),
     # 7: no such relay or button
@@ -95,9 +95,9 @@ CASES = [
     (H1 + "64 01 05", ["refused 7 14"], ['line 4, column 7: "05": event 2 pushes button 2, and there is no such button: the board has 1, number 0 (refusal 7)']),
     (H1 + "64 01 ff 01", ["refused 7 14"], ['line 4, column 7: "ff 01": event 2 pushes button 127, and there is no button 127: the board has 1, number 0 (refusal 7)']),
     ("03 00 0a 00\n64 16", ["refused 7 5"], ['line 2, column 4: "16": event 1 releases button 11, and there is no button 11: the board has 10, 0 to 9; "16" is 22, and 16 is typed "10" (refusal 7)']),
-    ("03 01 01 02\n03 00 02 80 80 80 80 08\n", ["refused 7 7"], ['line 2, column 10: "80 80 80 80 08": there is no button 2147483648: the board has 1, number 0 (refusal 7)']),
-    ("03 0c 00 02\n04 00 02 fe ff ff ff 0f\n", ["refused 7 7"], ['line 2, column 10: "fe ff ff ff 0f": there is no relay 4294967294: the board has 12, 0 to 11 (refusal 7)']),
-    (H1 + "64 01 ff ff ff ff 0f", ["refused 7 14"], ['line 4, column 7: "ff ff ff ff 0f": event 2 pushes button 2147483647, and there is no button 2147483647: the board has 1, number 0 (refusal 7)']),
+    ("03 01 01 02\n03 00 02 80 80 80 80 08\n", ["refused 7 7"], ['line 2, column 10: "80 80 80 80 08": there is no button 2,147,483,648: the board has 1, number 0 (refusal 7)']),
+    ("03 0c 00 02\n04 00 02 fe ff ff ff 0f\n", ["refused 7 7"], ['line 2, column 10: "fe ff ff ff 0f": there is no relay 4,294,967,294: the board has 12, 0 to 11 (refusal 7)']),
+    (H1 + "64 01 ff ff ff ff 0f", ["refused 7 14"], ['line 4, column 7: "ff ff ff ff 0f": event 2 pushes button 2,147,483,647, and there is no button 2,147,483,647: the board has 1, number 0 (refusal 7)']),
     # 8: a winding too many
     ("03 01 01 02\n04 00 02 00\n04 02 01 00", ["refused 8 11"], ['line 3, column 10: "00": relay 0 has a regular winding already, at line 2, column 10 (refusal 8)']),
     (H5.replace("04 02 01 01", "05 02 01 00"), ["refused 8 15"], ['line 4, column 10: "00": relay 0 has a drawing winding already, at line 2, column 10 (refusal 8)']),
@@ -123,11 +123,11 @@ LOOKS_NOT = [b"", b"A", b"\x03\x01\x01\x02", b"0", b"03 01\0", b"\x41\x00\x00\x0
 FORMS = {
     1: r"the input ends here, (?:and .+ is wanted|inside .+: \"(?P<begun>[0-9a-f ]+)\" goes on, since .+)",
     2: rf".+ (?:(?P<long>is longer than 5 bytes, since .+)|(?P<large>{TOO_LARGE})|is not in its shortest form, since .+: type \"(?P<shortest>[0-9a-f ]+)\")",
-    3: r"the number of (?:terminals|relays|buttons|parts) \([TRBC]\) is (?P<value>\d+), and must be \d+ to \d+(?:; .*)?",
-    4: r"there is no (?:such kind|kind (?P<value>\d+)) of part: the kinds are 0 to 6",
-    5: r"there is no (?:such terminal|terminal (?P<value>\d+)): the board has (?P<terminals>\d+), 0 to \d+(?:; .*)?",
+    3: r"the number of (?:terminals|relays|buttons|parts) \([TRBC]\) is (?P<value>[\d,]+), and must be \d+ to \d+(?:; .*)?",
+    4: r"there is no (?:such kind|kind (?P<value>[\d,]+)) of part: the kinds are 0 to 6",
+    5: r"there is no (?:such terminal|terminal (?P<value>[\d,]+)): the board has (?P<terminals>\d+), 0 to \d+(?:; .*)?",
     6: r"both ends of part \d+ of (?P<parts>\d+) are terminal (?P<value>\d+)",
-    7: r"(?:event \d+ (?:pushes|releases) button (?P<button>\d+), and )?there is no (?:such )?(?P<thing>relay|button)(?: \d+)?: the board has (?P<many>none|\d+).*",
+    7: r"(?:event \d+ (?:pushes|releases) button (?P<button>[\d,]+), and )?there is no (?:such )?(?P<thing>relay|button)(?: [\d,]+)?: the board has (?P<many>none|\d+).*",
     8: r"relay (?P<value>\d+) has a \w+ winding already, at place (?P<earlier>\d+)(?:: so it can have no \w+ winding)?",
     9: r"the board ends (?:before this|here, and so does the input), after (?P<parts>\d+) parts?: relay (?P<relay>\d+) has .+",
     10: r"the session is longer than 65,536 bytes: the first byte too many is at place 65536",
@@ -187,7 +187,7 @@ def numbers(data, many):
 
 def facts(data, number, place, found):
     """Whether the numbers that the words name are those of the session."""
-    named = {name: value for name, value in found.groupdict().items() if value is not None}
+    named = {name: value.replace(",", "") for name, value in found.groupdict().items() if value is not None}
     form = data[place : place + LONGEST_NUMBER]
     form = form[: next((at for at, byte in enumerate(form, 1) if byte < 128), LONGEST_NUMBER)]
     if number == 1:

@@ -10,7 +10,7 @@ import re
 import repository
 
 # What stands for any name.
-PLACEHOLDER = re.compile(r"(?<![A-Za-z])(NAME|LABEL|CRATE|X|A1)(?![A-Za-z])")
+PLACEHOLDER = re.compile(r"(?<![A-Za-z])(NAME|LABEL|CRATE|X)(?![A-Za-z])")
 
 # Names of what is not in the repository.
 ELSEWHERE = {

@@ -7,8 +7,9 @@ import run_model
 from board_model import LARGEST, LONGEST_NUMBER, NARROW, number_bytes
 from running import total
 
+MOST_CHAINS = 10  # it has fewer
 COUNTS, PARTS = [3, 1, 1], [[3, 0, 2, 0], [1, 0, 2, 0], [4, 2, 1, 0]]
-H2 = run_model.Board(COUNTS, PARTS, 10)
+H2 = run_model.Board(COUNTS, PARTS, MOST_CHAINS)
 NUMBERS = [*COUNTS, len(PARTS), *(number for part in PARTS for number in part), 100, 1, 0]  # W 100, a push and a release
 NAMES = "T R B C kind a b button kind a b relay kind a b relay W event event".split()
 LOG = 4_096

@@ -1,5 +1,5 @@
--- Laws of editions: which of them have only kinds that there are, which what is said of a part that was read asks; and
--- of which one has wider numbers than another.
+-- Laws of editions: that one has only kinds that there are, which is asked where a part was read; and that one has
+-- wider numbers than another, for what it keeps of the other's answers.
 --     Known e            the kinds of the edition e are in the table of kinds
 --     Widened old new    the edition new has wider numbers than the edition old, and the same kinds
 use Prim.Native.Nat.{_≤_}

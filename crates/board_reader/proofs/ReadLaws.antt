@@ -1,4 +1,5 @@
 -- Laws of `reading`: each way out of the reader as an outcome of the definition, and what a refused read returns.
+--     boardWithin e s    what reading the input s by the edition e comes to, before it is answered: 10, or the board
 use Prim.Native.Nat.{ℕ, _<_, _≤_}
 use mathlib.Core.Path.{_≡_, sym, ap, _∙_}
 use mathlib.Core.List.{List}
@@ -20,6 +21,14 @@ use Rattle.board_reader.specs.Steps.{rowFrom}
 use Rattle.refusals.proofs.OutcomeLaws.{refused-never}
 use Rattle.board_reader.proofs.PartsLaws.{RowFound, row-stopped, row-went, board-refused, board-lacking}
 use Rattle.board_reader.proofs.PartsLaws.{board-found}
+
+abbrev pub boardWithin : Edition → List ℕ → Outcome (Found Board)
+boardWithin e s = unless (leb (length s) longestInput) inputTooLong 0 >> boardAt e s
+
+pub reading-answers : (e : Edition) (s : List ℕ) {o : Outcome (Found Board)} → boardWithin e s ≡ o
+    → reading e s ≡ answered o
+unfolding reading
+reading-answers e s is = ap answered is
 
 module _ (e : Edition) (s : List ℕ) where
   pub reading-long : longestInput < length s → answered (refused inputTooLong 0) ≡ reading e s
@@ -79,5 +88,5 @@ answered-refused (refused m q) k p e = cc
 pub reading-refused : (e : Edition) (s : List ℕ) (b : Board) (k p : ℕ) → reading e s ≡ (b, refused k p) → b ≡ emptyBoard
 unfolding reading answered
 reading-refused e s b k p is =
-    let read : Outcome (Found Board) = unless (leb (length s) longestInput) inputTooLong 0 >> boardAt e s in
-    sym (λ i. is i .0) ∙ ap (λ (o : Outcome (Found Board)). answered o .0) (answered-refused read k p (λ i. is i .1))
+    sym (λ i. is i .0)
+    ∙ ap (λ (o : Outcome (Found Board)). answered o .0) (answered-refused (boardWithin e s) k p (λ i. is i .1))

@@ -12,15 +12,15 @@
 --     read."
 --         `written-read`, `read-written`; `rest-stays`: behind the bytes written a buffer is as lent; `file-read`: a
 --         board that was read is what stands in the file; `bytes-after`: what stands behind a board does not bear on
---         it; `same`: which boards are the same; `number-back`, `number-again`: both ways for every number to
---         4,294,967,295; `files-kept`, `only-by-two`, `sessions-kept`, `lines-stand`: files and sessions of the days
---         when numbers had three bytes keep their meaning (request A1)
+--         it; `same`: which boards are the same; `number-written-read`, `number-read-written`: both ways for every
+--         number to 4,294,967,295; `files-kept`, `only-by-two`, `sessions-kept`, `lines-stand`: files and sessions of
+--         the days when numbers had three bytes keep their meaning (request A1)
 --     "A run moves the lowest relay that can move until it is idle or must stop."
 --         `runs`; and what a session prints of its runs: `lines`, `all-lines`, in buffers `filled`, `all-filled`;
 --         `events`, `closed`, `drawn`
 -- Each field is put into words in the file that defines it. `paths`, `carrying`, `winding`, `sorts` and `wound` are of
--- boards and states, `events`, `closed` and `drawn` of the session's lines, those of request A1 but for the number's of
--- two editions' definitions; the others are over the calls.
+-- boards and states, `events`, `closed` and `drawn` of the session's lines; `files-kept`, `only-by-two`,
+-- `sessions-kept` and `lines-stand` are of the definitions at two editions; the others are over the calls.
 --     AsTheModelSays    the demand
 use Rattle.number.specs.NumberTrip.{NumberWrittenRead, NumberReadWritten}
 use Rattle.board.specs.SameExactly.{SameExactly}
@@ -72,8 +72,8 @@ pub record AsTheModelSays : Type 0 where
   -- boards are compared by their counts and first C parts
   pub same : SameExactly
   -- numbers keep their value both ways, and what was read with numbers of three bytes keeps its meaning
-  pub number-back : NumberWrittenRead
-  pub number-again : NumberReadWritten
+  pub number-written-read : NumberWrittenRead
+  pub number-read-written : NumberReadWritten
   pub files-kept : FilesKept
   pub only-by-two : OnlyByTwo
   pub sessions-kept : SessionsKept

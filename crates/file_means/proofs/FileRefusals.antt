@@ -7,7 +7,7 @@ use mathlib.Core.List.{List}
 use lib.Dec.{leb}
 use lib.ListN.{length}
 use borrow.Author.Tests.{leb-true, leb-false, le-leb, lt-leb}
-use Rattle.refusals.specs.Outcomes.{Outcome, given, refused, Found, found, _>>_, unless}
+use Rattle.refusals.specs.Outcomes.{Outcome, given, refused, Found, found}
 use Rattle.refusals.specs.Refusals.{inputTooLong}
 use Rattle.refusals.proofs.OutcomeLaws.{refused-never, given-injective}
 use Rattle.board.specs.declared.Board.{Board}
@@ -19,7 +19,7 @@ use Rattle.board.proofs.PaddedLaws.{padded-parts}
 use Rattle.board_reader.specs.Editions.{Edition, currentEdition}
 use Rattle.board_reader.specs.Reading.{boardOf, boardAt, answered, reading, longestInput}
 use Rattle.board_reader.proofs.EditionLaws.{Known, current-known}
-use Rattle.board_reader.proofs.ReadLaws.{answered-refused}
+use Rattle.board_reader.proofs.ReadLaws.{boardWithin, answered-refused}
 use Rattle.file_means.specs.FileRefusals.{at-part, Reached, LineHolds, FileRefused, FileAccepted}
 use Rattle.file_means.proofs.LeadsLaws.{Leads, leads-refused, leads-given, leads-each, leads-unless}
 use Rattle.file_means.proofs.ReadLeads.{BoardReached, board-leads}
@@ -41,10 +41,7 @@ module _ (e : Edition) (known : Known e) (s : List ℕ) where
   abbrev BoardGiven : Found Board → Type 0
   BoardGiven b = (length s ≤ longestInput) × BoardReached e s (b .value .counts) (partsOf (b .value)) (b .next)
 
-  abbrev read : Outcome (Found Board)
-  read = unless (leb (length s) longestInput) inputTooLong 0 >> boardAt e s
-
-  read-leads : Leads Line BoardGiven read
+  read-leads : Leads Line BoardGiven (boardWithin e s)
   read-leads =
       leads-unless Line BoardGiven (leb (length s) longestInput) inputTooLong 0 (boardAt e s)
       (λ long. inl (leb-false _ _ long, refl, refl))
@@ -55,14 +52,14 @@ module _ (e : Edition) (known : Known e) (s : List ℕ) where
       ))
       (λ b went. (leb-true _ _ short, leads-given (LineHolds e s) _ (boardAt e s) b (board-leads e known s) went)))
 
-  holds-read : (n p : ℕ) → Line n p → read ≡ refused n p
+  holds-read : (n p : ℕ) → Line n p → boardWithin e s ≡ refused n p
   holds-read n p (inl (long, ten, place)) = rw (lt-leb (length s) longestInput long, ten, place)
   holds-read n p (inr (short, holds)) = rw (le-leb (length s) longestInput short, holds-board e known s n p holds)
 
   pub table-refused : (n p : ℕ) → (reading e s .1 ≡ refused n p) ↔ Line n p
   unfolding reading answered
   table-refused n p = (
-    λ no. leads-refused Line BoardGiven read n p read-leads (answered-refused read n p no),
+    λ no. leads-refused Line BoardGiven (boardWithin e s) n p read-leads (answered-refused (boardWithin e s) n p no),
     λ line. ap (λ (o : Outcome (Found Board)). answered o .1) (holds-read n p line),
   )
 
@@ -70,7 +67,8 @@ module _ (e : Edition) (known : Known e) (s : List ℕ) where
       → (length s ≤ longestInput) × BoardReached e s (b .counts) (partsOf b) n
   unfolding reading
   table-accepted b n went =
-      leads-given Line BoardGiven read (record { value = b; next = n }) read-leads (answered-given read b n went)
+      leads-given Line BoardGiven (boardWithin e s) (record { value = b; next = n }) read-leads
+      (answered-given (boardWithin e s) b n went)
 
   -- what is read where the board stands there by its numbers
   pub reached-reading : (c : Counts) (ps : List Part) (n : ℕ) → length s ≤ longestInput → Reached e s (at-part c ps) n

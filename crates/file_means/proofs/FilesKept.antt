@@ -1,4 +1,4 @@
--- The theorems of specs/FilesKept.antt: what reading comes to stands, or it was 2 (`begun-kept`).
+-- The theorems of specs/FilesKept.antt: what reading comes to stands, or it was 2 (`board-within-kept`).
 use Prim.Native.Nat.{ℕ}
 use mathlib.Core.Path.{_≡_, refl, sym, ap, _∙_}
 use Rattle.refusals.specs.Outcomes.{Outcome}
@@ -10,17 +10,18 @@ use Rattle.board_reader.specs.Editions.{threeByteEdition, currentEdition}
 use Rattle.board_reader.specs.Reading.{answered, reading}
 use Rattle.board_reader.proofs.EditionLaws.{three-bytes-widened}
 use Rattle.file_means.specs.FilesKept.{FilesKept, OnlyByTwo}
-use Rattle.file_means.proofs.KeptLaws.{begun, reading-begun, begun-kept}
+use Rattle.board_reader.proofs.ReadLaws.{boardWithin, reading-answers}
+use Rattle.file_means.proofs.KeptLaws.{board-within-kept}
 
 pub only-by-two : OnlyByTwo
 unfolding answered
-only-by-two s never = by (begun-kept threeByteEdition currentEdition three-bytes-widened s)
+only-by-two s never = by (board-within-kept threeByteEdition currentEdition three-bytes-widened s)
   where
-    by : Kept badForm (begun threeByteEdition s) (begun currentEdition s)
+    by : Kept badForm (boardWithin threeByteEdition s) (boardWithin currentEdition s)
         → reading currentEdition s ≡ reading threeByteEdition s
-    by (stands same) = reading-begun currentEdition s same ∙ sym (reading-begun threeByteEdition s refl)
+    by (stands same) = reading-answers currentEdition s same ∙ sym (reading-answers threeByteEdition s refl)
     by (was-refused p is) =
-        absurd (never p (ap (λ (x : Board × Outcome ℕ). x .1) (reading-begun threeByteEdition s is)))
+        absurd (never p (ap (λ (x : Board × Outcome ℕ). x .1) (reading-answers threeByteEdition s is)))
 
 pub files-kept : FilesKept
 files-kept s b n read =

@@ -1,13 +1,12 @@
 -- What reading keeps from one edition to another that has wider numbers and the same kinds: every definition of reading
 -- is a row of numbers, and a number's answer stands unless it was 2 (`number-kept`).
---     begun e s    what reading the input s by the edition e comes to, before it is answered
 use Prim.Native.Nat.{ℕ, zero, suc}
-use mathlib.Core.Path.{_≡_, refl, sym, ap, subst}
+use mathlib.Core.Path.{refl, sym, subst}
 use mathlib.Core.Bool.{Bool, true, false, cond}
 use mathlib.Core.List.{List}
 use lib.Dec.{ltb, leb, eqb}
 use lib.ListN.{length}
-use Rattle.refusals.specs.Outcomes.{Outcome, Found, found, _>>_, unless}
+use Rattle.refusals.specs.Outcomes.{found}
 use Rattle.refusals.specs.Refusals.{badForm, noSuchKind, endsEqual, noSuchName, inputTooLong}
 use Rattle.refusals.proofs.Kept.{Kept, stands, kept-then, kept-unless}
 use Rattle.number.proofs.WiderLaws.{number-kept}
@@ -15,22 +14,11 @@ use Rattle.kinds.specs.Kinds.{wireKind}
 use Rattle.windings.specs.declared.WoundSoFar.{WoundSoFar}
 use Rattle.windings.specs.Windings.{noneWound}
 use Rattle.board.specs.declared.Counts.{Counts}
-use Rattle.board.specs.declared.Board.{Board}
 use Rattle.board.specs.Rules.{inRange, endsFine, limitOf}
 use Rattle.board_reader.specs.Editions.{Edition}
-use Rattle.board_reader.proofs.EditionLaws.{Widened}
 use Rattle.board_reader.specs.Reading.{wanted, countsAt, nameAt, partAt, partsAt, boardFrom, boardAt, longestInput}
-use Rattle.board_reader.specs.Reading.{answered, reading}
-
-abbrev pub begun : Edition → List ℕ → Outcome (Found Board)
-begun e s = do
-  unless (leb (length s) longestInput) inputTooLong 0
-  boardAt e s
-
-pub reading-begun : (e : Edition) (s : List ℕ) {o : Outcome (Found Board)} → begun e s ≡ o
-    → reading e s ≡ answered o
-unfolding reading
-reading-begun e s is = ap answered is
+use Rattle.board_reader.proofs.EditionLaws.{Widened}
+use Rattle.board_reader.proofs.ReadLaws.{boardWithin}
 
 module _ (old new : Edition) (more : Widened old new) (s : List ℕ) where
   pub wanted-kept : (ok : ℕ → Bool) (n at : ℕ) → Kept badForm (wanted old ok n s at) (wanted new ok n s at)
@@ -87,5 +75,5 @@ module _ (old new : Edition) (more : Widened old new) (s : List ℕ) where
       kept-then _ _ counts-kept
       (λ c. kept-then _ _ (parts-kept (c .value) (c .value .parts) noneWound (c .next)) (λ ps. stands refl))
 
-  pub begun-kept : Kept badForm (begun old s) (begun new s)
-  begun-kept = kept-unless (leb (length s) longestInput) inputTooLong 0 board-kept
+  pub board-within-kept : Kept badForm (boardWithin old s) (boardWithin new s)
+  board-within-kept = kept-unless (leb (length s) longestInput) inputTooLong 0 board-kept

@@ -1,8 +1,7 @@
 -- Request A1: "Every file accepted so far keeps its meaning." Stated over the definition of reading, with numbers of
 -- three bytes as they were before that request, and as it stands.
 --     FilesKept    where the reading with numbers of three bytes accepts, today's accepts with the same board and place
---     OnlyByTwo    and whatever else it answered stands too, unless that was 2: by 2 alone, as `80 80 80` was, is a
---                  file refused that today is not, or not so
+--     OnlyByTwo    and whatever it answered stands, a refusal too, unless that was 2, as it was for `80 80 80`
 use Prim.Native.Nat.{ℕ}
 use mathlib.Core.Path.{_≡_}
 use mathlib.Core.List.{List}

@@ -167,7 +167,6 @@ number-written-read s at v rest h e =
 pub record ReadBack (s : List ℕ) (at v n : ℕ) : Type 0 where
   pub bytes : drop at s ≡ numberBytes v ++ drop n s
   pub next : n ≡ at + length (numberBytes v)
-  pub small : v ≤ currentWidth .largest
 
 pub number-read-written : (s : List ℕ) (at v n : ℕ) → Bytes s → numberAt currentWidth s at ≡ found v n
     → ReadBack s at v n
@@ -181,7 +180,6 @@ number-read-written s at v n h e =
           r .bytes ∙ ap (λ (l : List ℕ). encode (currentWidth .longest) v ++ l)
           (drop-drop (p .bytes) at s ∙ ap (λ (i : ℕ). drop i s) (sym (p .next)));
       next = p .next ∙ ap (λ (m : ℕ). at + m) (r .next);
-      small = p .small;
     }
 
 -- ---- how long a written number is
@@ -216,7 +214,7 @@ room-within len at bytes h =
     (λ fits. fits ∙ sym (le-leb (at + bytes) len (omega (arith, leb-true bytes (len - at) fits))))
     (λ lacks. lacks ∙ sym (lt-leb (at + bytes) len (omega (arith, leb-false bytes (len - at) lacks))))
 
--- and each way out of `write_number`
+-- each way out of `write_number`
 module _ (v : ℕ) (out : List ℕ) (at bytes : ℕ) (long : bytes ≡ length (numberBytes v)) where
   pub number-unwritten : leb (at + bytes) (length out) ≡ false
       → _≡_ {A = Outcome ℕ × List ℕ} (refused bufferTooShort 0, out) (numberWriting v out at)

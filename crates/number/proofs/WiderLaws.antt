@@ -1,5 +1,5 @@
--- Laws of two widths of which the second is no narrower: a number that is read by the first is read by the second, and
--- so is what it answers else, unless it is 2.
+-- Laws of two widths of which the second is no narrower: what reading a number by the first answers, reading it by the
+-- second answers too, unless that was 2.
 --     Wider w w′    the numbers of the width w′ are no shorter and no smaller than those of the width w
 use Prim.Native.Nat.{ℕ, zero, suc, _-_, _≤_}
 use native.Mathlib.Omega.{arith}

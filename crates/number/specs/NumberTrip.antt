@@ -3,13 +3,13 @@
 -- large; a session's allowance has.
 --     NumberWrittenRead    a value up to the largest that was written is read back from its place, and reading stops
 --                          where writing stopped
---     NumberReadWritten    a number that was read and is written, at any place of any buffer, has there the bytes that
---                          were read
+--     NumberReadWritten    a number that was read and is written, at any place of any buffer where as many bytes have
+--                          room, is not refused, and has there the bytes that were read
 -- A slice's bytes are below 256 (`Bytes`); lists do not say so by themselves.
-use Prim.Native.Nat.{ℕ, _≤_}
+use Prim.Native.Nat.{ℕ, _+_, _-_, _≤_}
 use mathlib.Core.Path.{_≡_}
 use mathlib.Core.List.{List}
-use lib.ListN.{take, drop}
+use lib.ListN.{length, take, drop}
 use Rattle.refusals.specs.Outcomes.{given, found}
 use Rattle.number.specs.declared.Number.{Number}
 use Rattle.number.specs.declared.NumberWritten.{NumberWritten}
@@ -26,10 +26,11 @@ NumberWrittenRead =
 
 abbrev pub NumberReadWritten : Type 0
 NumberReadWritten =
-    (s out out′ : List ℕ) (at v n i m : ℕ) (r : Number) (w : NumberWritten)
+    (s out out′ : List ℕ) (at v n i : ℕ) (r : Number) (w : NumberWritten)
     → Bytes s
     → ReadsNumber s at r
     → toldNumber r ≡ found v n
     → WritesNumber v out i w out′
-    → toldNumberWritten w ≡ given m
-    → drop i (take m out′) ≡ drop at (take n s)
+    → let m = i + (n - at) in
+    m ≤ length out
+    → (toldNumberWritten w ≡ given m) × (drop i (take m out′) ≡ drop at (take n s))

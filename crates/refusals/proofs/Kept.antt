@@ -1,6 +1,5 @@
 -- Outcomes of two editions of the rule book: what the one comes to the other comes to as well, unless the first was
--- refused by a number n, which the second gives less often. So a `do` block of the definitions is followed line by
--- line.
+-- refused by a number n. So a `do` block of the definitions is followed line by line.
 --     Kept n o o′    o came to be o′: it stands, or it was refused by n
 use Prim.Native.Nat.{ℕ}
 use mathlib.Core.Path.{_≡_, refl, sym}

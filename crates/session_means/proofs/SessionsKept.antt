@@ -16,7 +16,8 @@ use Rattle.state.specs.declared.State.{State}
 use Rattle.board_reader.specs.Editions.{Edition, threeByteEdition, currentEdition}
 use Rattle.board_reader.specs.Reading.{answered, reading}
 use Rattle.board_reader.proofs.EditionLaws.{Widened, three-bytes-widened}
-use Rattle.file_means.proofs.KeptLaws.{begun, reading-begun, wanted-kept, begun-kept}
+use Rattle.board_reader.proofs.ReadLaws.{boardWithin, reading-answers}
+use Rattle.file_means.proofs.KeptLaws.{wanted-kept, board-within-kept}
 use Rattle.lines.specs.Lines.{Line, closing}
 use Rattle.events.specs.declared.Event.{Event}
 use Rattle.events.specs.Events.{Shown, eventAt}
@@ -56,15 +57,15 @@ module _ (old new : Edition) (more : Widened old new) (s : List ℕ) where
 
   head-kept : Kept badForm (headAt old s) (headAt new s)
   unfolding headAt withAllowance answered
-  head-kept = by (begun-kept old new more s)
+  head-kept = by (board-within-kept old new more s)
     where
-      by : Kept badForm (begun old s) (begun new s) → Kept badForm (headAt old s) (headAt new s)
+      by : Kept badForm (boardWithin old s) (boardWithin new s) → Kept badForm (headAt old s) (headAt new s)
       by (stands is) =
-          rw (reading-begun new s is ∙ sym (reading-begun old s refl))
+          rw (reading-answers new s is ∙ sym (reading-answers old s refl))
           (kept-then (reading old s .1) (reading old s .1) (stands refl)
           (λ at. kept-then (numberAt (old .width) s at) (numberAt (new .width) s at)
           (number-kept (old .width) (new .width) (more .numbers) s at) (λ a. stands refl)))
-      by (was-refused p is) = was-refused p (rw (reading-begun old s is))
+      by (was-refused p is) = was-refused p (rw (reading-answers old s is))
 
   head-lines-kept : (o o′ : Outcome (Found Head)) → Kept badForm o o′
       → LinesKept (headLines old o s) (headLines new o′ s)
