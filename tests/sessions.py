@@ -2,8 +2,8 @@
 sort in tests/lib/session_sorts.py, by way of `session_cases`, which takes many in one process; the first few of each sort, and
 the rule book's boards to try, also by the program `herdspiral` itself. The bytes that both print must be the same, and every
 word and every refusal that a session can come to must occur. Both are also held to models in Python, on each form of a number
-at each place (tests/lib/number_sessions.py). Also builds the second program and runs its unit tests, and
-tries how `herdspiral` reads and writes (tests/lib/session_streams.py). Seeded, so each run tries the same sessions;
+at each place (tests/lib/number_sessions.py). Also builds the second program and runs its unit tests, and tries how
+`herdspiral` reads and writes (tests/lib/session_streams.py). Seeded, so each run tries the same sessions;
 `python3 tests/sessions.py SEED SESSIONS` tries others, or more (it is 1 and 5,000 else; those that are much work are always
 as many). Needs cargo, and target/bin/herdspiral and target/bin/session_cases, which `rt check herdspiral session_cases`
 builds."""

@@ -2,7 +2,7 @@
 and the rules on a board. It shares no text with the crates, but those who wrote it had read the crates' public functions,
 so it is a check on slips and not the independent second program."""
 
-LONGEST_NUMBER, LARGEST = 5, 4_294_967_295  # bytes of a number, and its value
+LONGEST_NUMBER, LARGEST = 5, 4_294_967_295  # most bytes of a number, and its largest value
 NARROW = (8, 16, 24, 31)  # bits to which a slip may narrow a number before it is held to its limit
 RANGES = ((2, 64), (0, 32), (0, 32), (0, 256))  # T, R, B, C
 BUTTON = 3

@@ -1,6 +1,6 @@
 """Sessions for tests/sessions.py that are long or much work, as bytes: runs that fill the log, the largest and the densest
-boards, efforts of two and four million chains, and inputs around the longest. A function that makes a session takes the dice and what
-its variant is; tests/lib/session_sorts.py has the variants."""
+boards, efforts of two and four million chains, and inputs around the longest. A function that makes a session takes the dice
+and what its variant is; tests/lib/session_sorts.py has the variants."""
 import session_boards as boards
 from damaged_sessions import damaged_session
 from session_files import enough, presses, session, typed

@@ -50,4 +50,4 @@ starred-boards =
     & (λ x told. told) & (λ x told. told) & refl & (λ v told. told) & (λ a told. told) & (λ a k told. told)
     & (λ a k told. told) & (λ a k told. told) & (λ a k told. told) & (λ a k told. told) & (λ a k told. told)
     & (λ x told. told) & (λ x told. told) & (λ x told. told) & (λ x told. told) & (λ x told. told)
-    & (λ x told. told) & (λ x told. told) & (λ x told. told) & (λ x told. told) & refl & refl & tt
+    & (λ x told. told) & (λ x told. told) & (λ x told. told) & (λ x told. told) & (λ x told. told) & refl & refl & tt

@@ -14,7 +14,7 @@
 --         board that was read is what stands in the file; `bytes-after`: what stands behind a board does not bear on
 --         it; `same`: which boards are the same; `number-written-read`, `number-read-written`: both ways for every
 --         number to 4,294,967,295; `files-kept`, `only-by-two`, `sessions-kept`, `lines-stand`: files and sessions of
---         the days when numbers had three bytes keep their meaning (request A1)
+--         the days when numbers had at most three bytes keep their meaning (request A1)
 --     "A run moves the lowest relay that can move until it is idle or must stop."
 --         `runs`; and what a session prints of its runs: `lines`, `all-lines`, in buffers `filled`, `all-filled`;
 --         `events`, `closed`, `drawn`
@@ -71,7 +71,7 @@ pub record AsTheModelSays : Type 0 where
   pub bytes-after : BytesAfter
   -- boards are compared by their counts and first C parts
   pub same : SameExactly
-  -- numbers keep their value both ways, and what was read with numbers of three bytes keeps its meaning
+  -- numbers keep their value both ways, and what was read with numbers of at most three bytes keeps its meaning
   pub number-written-read : NumberWrittenRead
   pub number-read-written : NumberReadWritten
   pub files-kept : FilesKept

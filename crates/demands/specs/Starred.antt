@@ -192,6 +192,7 @@ besides =
     ∷ reads (255 ∷ 255 ∷ 255 ∷ 255 ∷ 15 ∷ []) emptyBoard (refused outOfRange 0)
     ∷ reads (255 ∷ 255 ∷ 255 ∷ 255 ∷ 16 ∷ []) emptyBoard (refused badForm 0)
     ∷ reads (128 ∷ 128 ∷ 128 ∷ 128 ∷ 16 ∷ []) emptyBoard (refused badForm 0)
+    ∷ reads (255 ∷ 255 ∷ 255 ∷ 255 ∷ 127 ∷ []) emptyBoard (refused badForm 0)
     ∷ reads (2 ∷ 0 ∷ 0 ∷ 1 ∷ 132 ∷ 2 ∷ []) emptyBoard (refused noSuchKind 4)
     ∷ prints (h0File ++ (255 ∷ 255 ∷ 127 ∷ [])) h0Line
     ∷ prints (h0File ++ (255 ∷ 255 ∷ 255 ∷ 255 ∷ 15 ∷ [])) h0Line

@@ -1,5 +1,5 @@
 -- Request A1: "Every file accepted so far keeps its meaning." Stated over the definition of reading, with numbers of
--- three bytes as they were before that request, and as it stands.
+-- at most three bytes as before that request, and by the rule book as it stands.
 --     FilesKept    where the reading with numbers of three bytes accepts, today's accepts with the same board and place
 --     OnlyByTwo    and whatever it answered stands, a refusal too, unless that was 2, as it was for `80 80 80`
 use Prim.Native.Nat.{ℕ}

@@ -13,7 +13,7 @@
 --                          the input's end, none or fewer than the longest form has, all have the top bit set
 --       too-long           2, "more than five bytes", at "its first byte": the top bit is set on as many bytes as the
 --                          longest form has, even where the input ends there
---       too-large          2, "a value too large": the bytes are worth more than the largest value
+--       too-large          2, "a value too large": bytes as for `whole`, but worth more than the largest value
 --       not-shortest       2, "or not shortest": the last byte is 0, and not the only byte
 --     FormExactly          over the call: it answers o exactly if the bytes come to o, at the current width
 -- A slice's bytes are below 256 (`Bytes`); lists do not say so by themselves.

@@ -1,8 +1,8 @@
 -- The round trip of a number, stated over the calls `number::write_number` and `number::read_number`: whatever they
--- answer under their promises. Request A1: "demand 2's round trip covers the new range". A board has no number so
--- large; a session's allowance has.
---     NumberWrittenRead    a value up to the largest that was written is read back from its place, and reading stops
---                          where writing stopped
+-- answer under their promises. Request A1: "demand 2's round trip covers the new range". A board holds no number so
+-- large; a session's allowance may be one.
+--     NumberWrittenRead    a value up to the largest number, once written, is read back from its place, and reading
+--                          stops where writing stopped
 --     NumberReadWritten    a number that was read and is written, at any place of any buffer where as many bytes have
 --                          room, is not refused, and has there the bytes that were read
 -- A slice's bytes are below 256 (`Bytes`); lists do not say so by themselves.

@@ -16,7 +16,7 @@
 --                                     place, or 1 or 2
 --     encode k v                      the shortest form of v, where it has at most k bytes; else the k lowest groups of
 --                                     v, each with its top bit set
---     numberBytes v                   the bytes that v is written as: its shortest form. A word of 32 bits has one
+--     numberBytes v                   the bytes that v is written as: its shortest form. Every word of 32 bits has one
 --     numberLines v out at            the line of writing v into the buffer `out` at a place: 16 where its bytes have
 --                                     no room there
 --     numberWriting v out at          what that answers, and the buffer afterwards: its bytes stand at the place and

@@ -1,8 +1,8 @@
 -- Request A1: "Every file accepted so far keeps its meaning", said of sessions. Stated over the definition of a
--- session's lines, with numbers of three bytes as they were before that request, and as it stands.
+-- session's lines, with numbers of at most three bytes as before that request, and by the rule book as it stands.
 --     Unclosed l         the line l tells of an event; it does not end the session
 --     SessionsKept       a session that was not refused prints the same lines
---     LinesKept ls ms    the lines ls came to be the lines ms:
+--     LinesKept ls ms    what became of the lines ls, which are the lines ms today:
 --       same             they are the same
 --       ended            the session was ended by 2, and the lines before that stand
 --     LinesStand         so it is of every session, refused or not
