@@ -1,6 +1,7 @@
-"""docs/READING.md lists every file of definitions once with its number of lines, adds up those of its first part, and names
-laws that are there; docs/COST.md has every crate with its own counts, and no other; docs/CONTRIBUTING.md has a row for every
-script of tests/. What a document names in backquotes is there (tests/lib/named.py)."""
+"""docs/READING.md lists every file of definitions once with its number of lines, adds up those of its first part, says how many
+calls the table of boards to try has, and names laws that are there; docs/COST.md has every crate with its own counts, and no
+other; docs/CONTRIBUTING.md has a row for every script of tests/. What a document names in backquotes is there
+(tests/lib/named.py)."""
 import os
 import re
 import sys
@@ -32,6 +33,11 @@ first = sum(int(count) for _, count in re.findall(ROW, page.split("\n## Part two
 whole = sum(int(count) for _, count in rows)
 stated = re.findall(r"^Part one: ([\d,]+) lines of ([\d,]+)\.", page, re.M)
 checks.append((f"docs/READING.md: part one has {first:,} lines of {whole:,}, not {stated}", stated == [(f"{first:,}", f"{whole:,}")]))
+
+# The rows of the starred table: each begins with the call that it is of.
+table = repository.text("crates", "demands", "specs", "Starred.antt").split("\nstarred =\n")[1]
+count = len(re.findall(r"^    (?:∷ )?(?:reads|judges|moves|runs|prints) ", table, re.M))
+checks.append((f"docs/READING.md: the starred table has {count} calls", f'"Boards to try", {count} calls with their answers' in page))
 
 # A law is named after the file that proves it: `crate/proofs/File.antt`: `law`, `law`.
 for name, laws in re.findall(r"`(\w+/proofs/\w+\.antt)`: ((?:`[\w-]+`(?:, )?)+)", page):
