@@ -104,7 +104,7 @@ def twenty_relays():
     for held in range(0, 20, 2):
         cutting = held + 1
         rows += [(REGULAR, held, [[[BUTTON, held]], [[UPPER, held], [LOWER, cutting]]]), (REGULAR, cutting, [[[BUTTON, cutting]]])]
-    return running.wired(random.Random(1), 20, 20, rows)
+    return running.wired(random.Random(1), 20, 20, rows, marks=[])
 
 
 def ladder(terminals):

@@ -12,10 +12,10 @@ BEGIN {
     LONGEST_INPUT = ENVIRON["LONGEST_INPUT"] + 0
     LONGEST_NUMBER = 5 # bytes
     LARGEST_NUMBER = 4294967295
-    LAST_KIND = 6
+    MARK = LAST_KIND = 7
     GOES_ON = "a byte of 80 or more says that another comes"
     WINDING[4] = "regular winding"; WINDING[5] = "drawing winding"; WINDING[6] = "dropping winding"
-    NAMED[1] = NAMED[2] = NAMED[4] = NAMED[5] = NAMED[6] = "relay"; NAMED[3] = "button"
+    NAMED[1] = NAMED[2] = NAMED[4] = NAMED[5] = NAMED[6] = NAMED[MARK] = "relay"; NAMED[3] = "button"
     CONVFMT = "%.0f" # mawk goes by this for numbers above 2,147,483,647
     at = size = 0
 }
@@ -107,7 +107,7 @@ function go_past(wanted, low, high, whose,    many, i) {
     if (many && byte[at - 1] < 128) {
         if (refusal == 2 && many > 1 && byte[at - 1] == 0) tell_end(start, many, wanted " is not in its shortest form, since " GOES_ON ": type " shortest(value))
         else if (refusal == 2 && value > LARGEST_NUMBER) tell_end(start, many, wanted " is too large: no number is above " grouped(LARGEST_NUMBER) ", typed " shortest(LARGEST_NUMBER))
-        else if (refusal >= 3 && refusal <= 8) tell_end(start, many, unfit(wanted, low, high, whose))
+        else if (refusal >= 3 && refusal <= 8 || refusal == 17) tell_end(start, many, unfit(wanted, low, high, whose))
         return !told
     }
     if (refusal == 2 && many == LONGEST_NUMBER) tell_end(start, many, wanted " is longer than " many " bytes, since " GOES_ON)
@@ -115,13 +115,14 @@ function go_past(wanted, low, high, whose,    many, i) {
     return 0
 }
 
-# 3 to 8: the number's meaning.
+# 3 to 8 and 17: the number's meaning.
 function unfit(wanted, low, high, whose) {
     if (refusal == 3) return wanted " is " grouped(value) ", and must be " low " to " high meant(low, high)
     if (refusal == 4) return "there is no " (value < 10 ? "such kind" : "kind " grouped(value)) " of part: the kinds are 0 to " LAST_KIND
     if (refusal == 5) return no_such("terminal", value, terminals) meant(0, terminals - 1)
     if (refusal == 6) return "both ends of " part " are terminal " value
     if (refusal == 8) return wound_before(value)
+    if (refusal == 17) return marked_before(value)
     if (whose == "event") return event_does() ", and " no_such("button", int(value / 2), buttons) meant(0, high)
     return no_such(whose, value, high + 1) meant(0, high)
 }
@@ -132,6 +133,9 @@ function wound_before(relay,    has) {
     if (has > 6) return ""
     return "relay " relay " has a " WINDING[has] " already, at " where(wound[has, relay]) (has == kind ? "" : ": so it can have no " WINDING[kind])
 }
+
+# 17: where the relay is marked already.
+function marked_before(relay) { return (relay in marked_at) ? "relay " relay " is marked as starting drawn already, at " where(marked_at[relay]) : "" }
 
 # 9: what a relay lacks; empty where it has what it needs.
 function lack(relay) {
@@ -156,15 +160,16 @@ function board_ends(what) {
 
 function event_does() { return event (value % 2 ? " pushes" : " releases") " button " grouped(int(value / 2)) }
 
-# A part: its kind, its ends, and the relay or button that it names.
+# A part: its kind, its ends, which a mark has none of, and the relay or button that it names.
 function next_part(    last) {
     if (!go_past("the kind of " part)) return 0
     kind = value
-    if (!go_past("the first end of " part) || !go_past("the second end of " part)) return 0
+    if (kind != MARK && (!go_past("the first end of " part) || !go_past("the second end of " part))) return 0
     if (!(kind in NAMED)) return 1
     last = (NAMED[kind] == "relay" ? relays : buttons) - 1
     if (!go_past("the " NAMED[kind] " of " part, 0, last, NAMED[kind])) return 0
     if (kind in WINDING) wound[kind, value] = start
+    if (kind == MARK) marked_at[value] = start
     return 1
 }
 

@@ -1,21 +1,25 @@
 """Compares the proved program `file_cases` with the model of the rule book in tests/lib/board_model.py on thousands of
-generated cases: good files, damaged files, cut files, random bytes, boards handed in with and without a fault. Those are
-moved and run as well, by `run_cases`. Seeded, so each run tries the same cases; `python3 tests/board_files.py SEED CASES`
-tries others, or more (it is 1 and 10,500 else). Needs target/bin/file_cases and target/bin/run_cases, which
-`rt check file_cases run_cases` builds."""
+generated cases: good files, damaged files, files with a part twice, cut files, random bytes, boards handed in with and without
+a fault. Those are moved and run as well, by `run_cases`. Seeded, so each run tries the same cases;
+`python3 tests/board_files.py SEED CASES` tries others, or more (it is 1 and 10,500 else). Needs target/bin/file_cases and
+target/bin/run_cases, which `rt check file_cases run_cases` builds."""
 import os
 import random
 import sys
 
 sys.path.insert(0, os.path.join(os.path.dirname(os.path.abspath(__file__)), "lib"))
 import board_model as model
+import judge_model
+import judging
 import program
 import repository
+from running import total
 
-ODD_VALUES = [0, 1, 2, 3, 4, 5, 6, 7, 32, 33, 64, 65, 127, 128, 255, 256, 257, 16383, 16384, 2097151, 2097152]
+ODD_VALUES = [0, 1, 2, 3, 4, 5, 6, 7, 8, 32, 33, 64, 65, 127, 128, 255, 256, 257, 16383, 16384, 2097151, 2097152]
 ODD_VALUES += [268435455, 268435456, model.LARGEST, model.LARGEST + 1, 2**35 - 1]
 LONG_FORMS = [[0], [128, 0], [255, 127], [128, 128, 0], [128, 128, 128, 0], [255, 255, 255, 15], [255, 255, 255, 16], [128, 128, 128, 128, 0]]
-ASKED = {"^": [0, 0, 0, 0], "=": [0, 0, 0, 4]}  # a move of relay 0 and a run with a log of 4, both fresh and with no allowance
+HANDED_PARTS = 5 + program.START_BYTES  # the first part of a board handed in begins at this byte
+ASKED = {"^": [0, 0, 0, 0], "=": [0, 0, 0, 4]}  # a move of relay 0 and a run with a log of 4, both with nothing drawn or pushed and no allowance
 
 
 def board(dice):
@@ -35,6 +39,7 @@ def board(dice):
         kind = dice.choice([0, 1, 2, 3])
         names = buttons if kind == model.BUTTON else relays
         parts.append([kind] + ends() + [dice.randrange(names)] if kind and names else [0] + ends())
+    parts += judging.some_marks(dice, relays)
     dice.shuffle(parts)
     return [terminals, relays, buttons], parts
 
@@ -42,8 +47,11 @@ def board(dice):
 def file_case(dice):
     """The bytes of a board file, good or damaged in one of several ways."""
     counts, parts = board(dice)
-    numbers = counts + [len(parts)] + [number for part in parts for number in part]
     damage = dice.random()
+    if parts and 0.54 < damage < 0.58:
+        marks = [part for part in parts if part[0] == model.MARK]
+        parts.insert(dice.randint(0, len(parts)), dice.choice(marks or parts))
+    numbers = counts + [len(parts)] + [number for part in parts for number in part]
     if damage < 0.4:
         at = dice.randrange(len(numbers))
         numbers[at] = dice.choice(ODD_VALUES + [numbers[at] + 1] + [numbers[at] + 2**bits for bits in model.NARROW])
@@ -65,43 +73,63 @@ def file_case(dice):
     return bytes(data)
 
 
+def handed_row(dice, part):
+    """A part as kind a b name. What the table gives it no field for is any number."""
+    if part[0] == model.MARK:
+        return [model.MARK, *dice.choice([dice.randbytes(2), [dice.randrange(3)] * 2, dice.sample(range(3), 2)]), part[1]]
+    return (part + [dice.randrange(256)])[:4]
+
+
 def handed_case(dice):
-    """The bytes of a board handed in: T R B, C as two bytes, then kind a b name of each part."""
+    """The bytes of a board handed in, fine or with a fault. In some the start has a relay too many or too few."""
     counts, parts = board(dice)
-    data = counts + [len(parts) % 256, len(parts) // 256]
-    for part in parts:
-        data += (part + [dice.randrange(256)])[:4]
+    start = total(judge_model.start(parts))
+    if dice.random() < 0.15:
+        start ^= 1 << dice.choice([dice.randrange(max(counts[1], 1)), counts[1], dice.randrange(8 * program.START_BYTES)])
+    data = list(program.handed_board(counts, [handed_row(dice, part) for part in parts], start))
     if dice.random() < 0.6:
-        data[dice.randrange(len(data))] = dice.choice([0, 1, 2, 3, 4, 5, 6, 7, 32, 33, 64, 65, 128, 255])
+        data[dice.randrange(len(data))] = dice.choice([0, 1, 2, 3, 4, 5, 6, 7, 8, 32, 33, 64, 65, 128, 255])
     if dice.random() < 0.1:
         data = data[: dice.randrange(len(data) + 1)]
     return bytes(data)
 
 
+def typed_part(row):
+    """The numbers that the file has for a part handed in as kind a b name."""
+    kind, a, b, name = row
+    return [0, a, b] if kind == 0 else [model.MARK, name] if kind >= model.MARK else [kind, a, b, name]
+
+
+def handed_size(data):
+    """How long the file of a board handed in is; None for one that is not fine. It is fine exactly if its file reads and its
+    start is that of its marks."""
+    data = data + bytes(HANDED_PARTS + 4 * 256)
+    counts, parts, start = list(data[:3]), int.from_bytes(data[3:5], "little"), int.from_bytes(data[5:HANDED_PARTS], "little")
+    if parts > 256:
+        return None
+    rows = [typed_part(data[at : at + 4]) for at in range(HANDED_PARTS, HANDED_PARTS + 4 * parts, 4)]
+    try:
+        size, marked = model.read(model.file_of(counts, rows))
+    except model.Refused:
+        return None
+    return size if total(marked) == start else None
+
+
 def handed_answers(data):
-    """What the calls answer on a board handed in, a line of each program's: it is fine exactly if its file reads."""
-    data = data + bytes(5 + 4 * 256)
-    counts, parts = list(data[:3]), data[3] + 256 * data[4]
-    size = None
-    if parts <= 256:
-        rows = [[min(data[at], model.LAST_KIND)] + list(data[at + 1 : at + (4 if data[at] else 3)]) for at in range(5, 5 + 4 * parts, 4)]
-        written = model.file_of(counts, rows)
-        try:
-            size = model.read(written)
-        except model.Refused:
-            pass
+    """What the calls answer on a board handed in, a line of each program's."""
+    size, relays, buttons = handed_size(data), *(data + bytes(3))[1:3]
     if size is None:
         calls = " ".join(f"{call} refused 15" for call in ("write", "push", "again", "release", "absent", "beyond"))
         return calls, "moved refused 15 0 0", "ran refused 15 0 0 0 255:"
-    presses = "push done again refused 12 release refused 12" if counts[2] else "push refused 7 again refused 7 release refused 7"
-    moves = ("moved undecided 0 0", "ran undecided 0 0 0 0:") if counts[1] else ("moved refused 11 0 0", "ran idle 0 0 0 255:")
+    presses = "push done again refused 12 release refused 12" if buttons else "push refused 7 again refused 7 release refused 7"
+    moves = ("moved undecided 0 0", "ran undecided 0 0 0 0:") if relays else ("moved refused 11 0 0", "ran idle 0 0 0 255:")
     return f"write {size} {presses} absent refused 7 beyond refused 14", *moves
 
 
 def file_answer(ending, data):
     """What reading a file comes to, and writing it back: into a buffer that has room, or into one that is a byte too short."""
     try:
-        next_place = model.read(data)
+        next_place, _ = model.read(data)
     except model.Refused as refusal:
         return "refused %d %d" % refusal.args
     return f"read {next_place} wrote {next_place} same" if ending == ">" else "short refused 16 kept"
@@ -136,7 +164,7 @@ def compare(seed, count):
     for want in (line for _, _, lines in found for line in lines):
         words.update(f"refused {number.split()[0]}" for number in want.split("refused ")[1:])
         words.add(want.split()[0])
-    for word in ["read", "write", "short"] + [f"refused {number}" for number in (1, 2, 3, 4, 5, 6, 7, 8, 9, 11, 12, 14, 15, 16)]:
+    for word in ["read", "write", "short"] + [f"refused {number}" for number in (1, 2, 3, 4, 5, 6, 7, 8, 9, 11, 12, 14, 15, 16, 17)]:
         checks.append((f"some case answers {word}", word in words))
     return checks
 

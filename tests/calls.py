@@ -140,8 +140,8 @@ def broken(dice, own):
     """A board handed in with one or two bytes changed, so that it breaks a rule most often; moved and run in any state."""
     data = bytearray(running.handed(own.counts, own.parts))
     for _ in range(dice.choice([1, 1, 2])):
-        at = dice.randrange(5) if dice.random() < 0.3 else dice.randrange(len(data))
-        data[at] = dice.choice([(data[at] + 1) % 256, (data[at] - 1) % 256, dice.choice([0, 1, 2, 4, 5, 6, 7, 32, 33, 64, 65, 255])])
+        at = dice.randrange(board_files.HANDED_PARTS) if dice.random() < 0.3 else dice.randrange(len(data))
+        data[at] = dice.choice([(data[at] + 1) % 256, (data[at] - 1) % 256, dice.choice([0, 1, 2, 4, 5, 6, 7, 8, 32, 33, 64, 65, 255])])
     state = [total(own.drawn), total(own.pushed)] if dice.random() < 0.7 else [dice.getrandbits(24), dice.getrandbits(24)]
     yield program.handed_case(state + [dice.choice([0, 1, 40, LARGEST_HANDED]), dice.choice([0, 1, 50])], data, "^")
     yield program.handed_case(state + [dice.choice([0, 1, 50]), dice.choice([0, 1, 5, SHOWN, LONGEST_LOG, LONGEST_LOG + 1])], data, "=")
@@ -152,7 +152,7 @@ def hostile_files(dice, count):
     for _ in range(count):
         data = board_files.file_case(dice)
         try:
-            if board_model.read(data) == len(data):
+            if board_model.read(data)[0] == len(data):
                 yield (data + bytes([0, 0, dice.choice([0, 1, 31]), dice.randrange(2), dice.choice([0, 1, 100])])).hex() + "@\n"
         except board_model.Refused:
             yield data.hex() + "@\n"

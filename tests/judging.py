@@ -1,8 +1,8 @@
 """Compares the proved program `current_cases` with the model of judging in tests/lib/judge_model.py on generated judgements:
-random boards of 2 to 10 terminals, rings, ladders, paths through all 64 terminals, each with allowances around the effort,
-states within and beyond the board, relays that are there and that are not; and searches that nest deeply, with 2 MiB of
-stack. Seeded, so each run tries the same cases; `python3 tests/judging.py SEED BOARDS` tries others, or more (it is 1 and
-600 else). Needs target/bin/current_cases, which `rt check current_cases` builds."""
+random boards of 2 to 10 terminals, rings, ladders, paths through all 64 terminals, with marks and without, each with
+allowances around the effort, states within and beyond the board, relays that are there and that are not; and searches that
+nest deeply, with 2 MiB of stack. Seeded, so each run tries the same cases; `python3 tests/judging.py SEED BOARDS` tries
+others, or more (it is 1 and 600 else). Needs target/bin/current_cases, which `rt check current_cases` builds."""
 import os
 import random
 import sys
@@ -19,8 +19,14 @@ MOST_CHAINS = 200_000  # boards with more are left out
 STACK = 2 * 1024 * 1024
 
 
+def some_marks(dice, relays):
+    """Marks of some of these relays, in half of the cases none."""
+    share = dice.choice([0, dice.random()])
+    return [[model.MARK, relay] for relay in range(relays) if dice.random() < share]
+
+
 def some_parts(dice, relays, buttons, joined, ends):
-    """A part on each of the pairs that are to be joined, and each relay's windings on some of the pairs of ends."""
+    """A part on each of the pairs that are to be joined, each relay's windings on some of the pairs of ends, and some marks."""
     parts = []
     for relay in range(relays):
         for kind in dice.choice([[4], [5, 6], [6, 5]]):
@@ -33,6 +39,7 @@ def some_parts(dice, relays, buttons, joined, ends):
     for part in parts:
         if dice.random() < 0.5:
             part[1:3] = part[2:0:-1]
+    parts += some_marks(dice, relays)
     dice.shuffle(parts)
     return parts
 

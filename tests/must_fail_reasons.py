@@ -8,7 +8,7 @@ sys.path.insert(0, os.path.join(os.path.dirname(os.path.abspath(__file__)), "lib
 import repository
 
 # What says that an edit changed the code's shape, or never reached a fact.
-SHAPE = re.compile(r"has no `Need-|has no field|that can be named from here|expected type `tie\.Need-|is not in scope|Parse|expected `[\w-]+-spec` in .*the borrow checker")
+SHAPE = re.compile(r"has no `Need-|has no field|that can be named from here|expected type `tie\.(?:Need-|Then|Else|After-)|is not in scope|Parse|expected `[\w-]+-spec` in .*the borrow checker")
 
 
 def reason(crate, label):

@@ -1,22 +1,23 @@
 """Compares the proved program `run_cases` with the model of moving and running in tests/lib/run_model.py on generated
 single moves and runs: relays that feed each other by their contacts, in sequence and in rings, relays that hold themselves,
-steel relays fed by buttons and contacts, and the boards of tests/judging.py; states within and beyond the board, relays
-that are there and that are not, allowances around the efforts, logs around the number of moves. Of the program's own
-answers it compares any two runs from one board and state: the one with no shorter log and no less allowance starts with
-every move of the other, and is the same if that one ended idle or in conflict. Seeded, so each run tries the same cases;
-`python3 tests/running.py SEED BOARDS` tries others, or more (it is 1 and 130 else). Needs target/bin/run_cases, which
-`rt check run_cases` builds."""
+steel relays fed by buttons and contacts, and the boards of tests/judging.py, with marks and without; states within and
+beyond the board, relays that are there and that are not, allowances around the efforts, logs around the number of moves. Of
+the program's own answers it compares any two runs from one board and state: the one with no shorter log and no less
+allowance starts with every move of the other, and is the same if that one ended idle or in conflict. Seeded, so each run
+tries the same cases; `python3 tests/running.py SEED BOARDS` tries others, or more (it is 1 and 130 else). Needs
+target/bin/run_cases, which `rt check run_cases` builds."""
 import itertools
 import os
 import random
 import sys
 
 sys.path.insert(0, os.path.join(os.path.dirname(os.path.abspath(__file__)), "lib"))
+import judge_model
 import judging
 import program
 import repository
 import run_model as model
-from judge_model import BUTTON, DRAWING, DROPPING, LOWER, MINUS, PLUS, REGULAR, UPPER
+from judge_model import BUTTON, DRAWING, DROPPING, LOWER, MARK, MINUS, PLUS, REGULAR, UPPER
 from program import LARGEST_HANDED
 
 MOST_CHAINS = 400  # states with more, and runs that come to one, are left out
@@ -24,9 +25,10 @@ MANY_MOVES = 200  # a run that makes so many is taken for one that never ends
 SHOWN = 40  # the program prints so many moves of a log
 
 
-def wired(dice, relays, buttons, rows):
+def wired(dice, relays, buttons, rows, marks=None):
     """The board of these rows, its terminals in any order. A row is a winding, as its kind and relay, and the ways that feed
-    it from plus; a way is a list of switches in series, each a kind with its relay or button."""
+    it from plus; a way is a list of switches in series, each a kind with its relay or button. It has these marks besides, or
+    some if none are given."""
     terminals, parts = 2, []
     for kind, relay, ways in rows:
         fed, terminals = terminals, terminals + 1
@@ -40,6 +42,7 @@ def wired(dice, relays, buttons, rows):
     order = [PLUS, MINUS] + dice.sample(range(2, terminals), terminals - 2)
     for part in parts:
         part[1:3] = dice.sample([order[part[1]], order[part[2]]], 2)
+    parts += judging.some_marks(dice, relays) if marks is None else marks
     dice.shuffle(parts)
     return [terminals, relays, buttons], parts
 
@@ -108,8 +111,9 @@ def total(names):
 
 
 def handed(counts, parts):
-    """The bytes of a board handed in."""
-    return bytes(counts + [len(parts) % 256, len(parts) // 256] + [byte for part in parts for byte in (part + [0])[:4]])
+    """The bytes of a board handed in. A mark's ends are plus and the last terminal, so that it would show if it joined them."""
+    rows = [[MARK, PLUS, counts[0] - 1, part[1]] if part[0] == MARK else (part + [0])[:4] for part in parts]
+    return program.handed_board(counts, rows, total(judge_model.start(parts)))
 
 
 def case(own, numbers, ending):

@@ -50,7 +50,7 @@ def samples():
     refused = {name for name in typed if "refused" in sample(name, ".lines")}
     checks = [same("each session has its lines, and each file of lines its session", typed, lines), ("there are samples", len(typed) > 20)]
     checks.append(same("each session that meets a refusal has its words, and no other", words, refused))
-    for number in (*range(1, 11), 12):
+    for number in (*range(1, 11), 12, 17):
         checks.append((f"there is a sample of refusal {number}", any(f"(refusal {number})" in sample(name, ".words") for name in words)))
     with tempfile.TemporaryDirectory() as folder:
         raw = os.path.join(folder, "session")

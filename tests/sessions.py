@@ -28,9 +28,9 @@ SESSION_SHOWN = 2_200  # and of a session: those with few events are shown whole
 ALONE = 6  # of each sort, so many sessions are given to the program itself, one to a process
 OFTEN = 10  # each word and refusal occurs at least so many times
 WORDS = ("idle", "spent", "undecided", "conflict")
-FILE_REFUSALS = range(1, 11)
+FILE_REFUSALS = (*range(1, 10), 17, 10)
 EVENT_REFUSALS = (1, 2, 7)  # 12 has a line of its own form
-PLACES = 4  # each refusal but 10 occurs at so many places
+PLACES = 4  # each refusal but 10, the last, occurs at so many places
 RUN_LINE = re.compile(rb"(\d+) (idle|spent|undecided|conflict) (\d+) (\d+)")
 DOUBLE_LINE = re.compile(rb"(\d+) refused 12")
 REFUSED_LINE = re.compile(rb"refused (\d+) (\d+)")
@@ -77,6 +77,7 @@ class Seen:
         for number, line in enumerate(lines):
             if (form := RUN_LINE.fullmatch(line)) and int(form[1]) == number:
                 self.ran(form[2].decode(), int(form[3]), stopped)
+                self.words["drawn from the start, without a move"] += number == 0 == int(form[3]) < int(form[4])
                 stopped = form[2] != b"idle"
             elif (form := DOUBLE_LINE.fullmatch(line)) and int(form[1]) == number > 0:
                 self.words["event refused 12"] += 1
@@ -102,6 +103,7 @@ class Seen:
         """That all that must occur does, and nothing else."""
         known = [f"file refused {number}" for number in FILE_REFUSALS] + [f"event refused {number}" for number in EVENT_REFUSALS]
         known += [*WORDS, "event refused 12", "idle after 3 moves or more", "a move after a run that stopped", "undecided or conflict after a move"]
+        known += ["drawn from the start, without a move"]
         for word in known:
             yield f"{word} occurs {self.words[word]} times, at least {OFTEN}", self.words[word] >= OFTEN
         for number in FILE_REFUSALS[:-1]:

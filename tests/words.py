@@ -24,6 +24,7 @@ from repository import same
 
 H1 = "03 01 01 02\n03 00 02 00\n04 02 01 00\n"  # T 3, R 1, B 1: button 0 on 0-2, regular winding on 2-1
 H5 = "04 02 01 04\n05 00 02 00\n06 00 03 00\n04 02 01 01\n03 00 02 00\n"  # T 4, R 2, B 1: a steel relay and a regular one
+MARKED = H1.replace("01 02\n", "01 04\n")  # the same with two parts more to come
 END = "the input ends here"
 GOES_ON = "a byte of 80 or more says that another comes"
 TOO_LARGE = 'is too large: no number is above 4,294,967,295, typed "ff ff ff ff 0f"'
@@ -43,6 +44,9 @@ CASES = [
     ("03 01 01 02\n030002", ["refused 1 7"], [f"line 2, column 7: {END}, and the button of part 1 of 2 is wanted (refusal 1)"]),
     ("03 01 01 02\n0300020004 0201", ["refused 1 11"], [f"line 2, column 16: {END}, and the relay of part 2 of 2 is wanted (refusal 1)"]),
     ("03 01 01 02\n00 00 02", ["refused 1 7"], [f"line 2, column 9: {END}, and the kind of part 2 of 2 is wanted (refusal 1)"]),
+    (MARKED + "07", ["refused 1 13"], [f"line 4, column 3: {END}, and the relay of part 3 of 4 is wanted (refusal 1)"]),
+    (MARKED + "07 00", ["refused 1 14"], [f"line 4, column 6: {END}, and the kind of part 4 of 4 is wanted (refusal 1)"]),
+    (MARKED + "07 80", ["refused 1 14"], [f'line 4, column 6: {END}, inside the relay of part 3 of 4: "80" goes on, since {GOES_ON} (refusal 1)']),
     (H1, ["refused 1 12"], [f"line 3, column 12: {END}, and the allowance (W) is wanted (refusal 1)"]),
     (H1 + "ff ff", ["refused 1 14"], [f'line 4, column 6: {END}, inside the allowance (W): "ff ff" goes on, since {GOES_ON} (refusal 1)']),
     (H1 + "64 01 80", ["refused 1 15"], [f'line 4, column 9: {END}, inside event 2: "80" goes on, since {GOES_ON} (refusal 1)']),
@@ -63,6 +67,8 @@ CASES = [
     ("80 80 80 80 10", ["refused 2 0"], [f'line 1, column 1: "80 80 80 80 10": the number of terminals (T) {TOO_LARGE} (refusal 2)']),
     ("03 01 01 02\nff ff ff ff 7f", ["refused 2 4"], [f'line 2, column 1: "ff ff ff ff 7f": the kind of part 1 of 2 {TOO_LARGE} (refusal 2)']),
     ("03 01 01 02\n04 00 02 80 80 80 80 10", ["refused 2 7"], [f'line 2, column 10: "80 80 80 80 10": the relay of part 1 of 2 {TOO_LARGE} (refusal 2)']),
+    (MARKED + "07 80 80 80 80 10", ["refused 2 13"], [f'line 4, column 4: "80 80 80 80 10": the relay of part 3 of 4 {TOO_LARGE} (refusal 2)']),
+    (MARKED + "07 81 00", ["refused 2 13"], [f'line 4, column 4: "81 00": the relay of part 3 of 4 is not in its shortest form, since {GOES_ON}: type "01" (refusal 2)']),
     (H1 + "ff ff ff ff 10 01", ["refused 2 12"], [f'line 4, column 1: "ff ff ff ff 10": the allowance (W) {TOO_LARGE} (refusal 2)']),
     (H1 + "64 01 81 80 80 80 10", ["refused 2 14"], [f'line 4, column 7: "81 80 80 80 10": event 2 {TOO_LARGE} (refusal 2)']),
     # 3: a count outside its range
@@ -75,10 +81,10 @@ CASES = [
     ("03 80 80 80 80 08", ["refused 3 1"], ['line 1, column 4: "80 80 80 80 08": the number of relays (R) is 2,147,483,648, and must be 0 to 32 (refusal 3)']),
     ("03 01 ff ff ff ff 07", ["refused 3 2"], ['line 1, column 7: "ff ff ff ff 07": the number of buttons (B) is 2,147,483,647, and must be 0 to 32 (refusal 3)']),
     # 4: no such kind
-    ("03 01 01 02\n07 00 02", ["refused 4 4"], ['line 2, column 1: "07": there is no such kind of part: the kinds are 0 to 6 (refusal 4)']),
-    ("03 01 01 02\n10 00 02", ["refused 4 4"], ['line 2, column 1: "10": there is no kind 16 of part: the kinds are 0 to 6 (refusal 4)']),
-    ("03 01 01 02\n84 02 00 02 00", ["refused 4 4"], ['line 2, column 1: "84 02": there is no kind 260 of part: the kinds are 0 to 6 (refusal 4)']),
-    ("03 01 01 02\n84 80 80 80 08 00 02 00", ["refused 4 4"], ['line 2, column 1: "84 80 80 80 08": there is no kind 2,147,483,652 of part: the kinds are 0 to 6 (refusal 4)']),
+    ("03 01 01 02\n08 00 02", ["refused 4 4"], ['line 2, column 1: "08": there is no such kind of part: the kinds are 0 to 7 (refusal 4)']),
+    ("03 01 01 02\n10 00 02", ["refused 4 4"], ['line 2, column 1: "10": there is no kind 16 of part: the kinds are 0 to 7 (refusal 4)']),
+    ("03 01 01 02\n84 02 00 02 00", ["refused 4 4"], ['line 2, column 1: "84 02": there is no kind 260 of part: the kinds are 0 to 7 (refusal 4)']),
+    ("03 01 01 02\n84 80 80 80 08 00 02 00", ["refused 4 4"], ['line 2, column 1: "84 80 80 80 08": there is no kind 2,147,483,652 of part: the kinds are 0 to 7 (refusal 4)']),
     # 5: no such terminal
     ("03 01 01 02\n03 00 02 00\n04 02 09 00\n", ["refused 5 10"], ['line 3, column 7: "09": there is no such terminal: the board has 3, 0 to 2 (refusal 5)']),
     ("0c 01 01 02\n03 10 02 00\n", ["refused 5 5"], ['line 2, column 4: "10": there is no terminal 16: the board has 12, 0 to 11; "10" is 16, and 10 is typed "0a" (refusal 5)']),
@@ -91,6 +97,8 @@ CASES = [
     ("03 01 01 02\n03 00 02 01\n", ["refused 7 7"], ['line 2, column 10: "01": there is no such button: the board has 1, number 0 (refusal 7)']),
     ("03 00 00 02\n01 00 02 00\n", ["refused 7 7"], ['line 2, column 10: "00": there is no such relay: the board has none (refusal 7)']),
     ("03 0c 00 02\n04 00 02 11\n", ["refused 7 7"], ['line 2, column 10: "11": there is no relay 17: the board has 12, 0 to 11; "11" is 17, and 11 is typed "0b" (refusal 7)']),
+    (MARKED + "07 01\n", ["refused 7 13"], ['line 4, column 4: "01": there is no such relay: the board has 1, number 0 (refusal 7)']),
+    ("03 0c 00 02\n07 11\n", ["refused 7 5"], ['line 2, column 4: "11": there is no relay 17: the board has 12, 0 to 11; "11" is 17, and 11 is typed "0b" (refusal 7)']),
     (H1 + "64 01 05", ["refused 7 14"], ['line 4, column 7: "05": event 2 pushes button 2, and there is no such button: the board has 1, number 0 (refusal 7)']),
     (H1 + "64 01 ff 01", ["refused 7 14"], ['line 4, column 7: "ff 01": event 2 pushes button 127, and there is no button 127: the board has 1, number 0 (refusal 7)']),
     ("03 00 0a 00\n64 16", ["refused 7 5"], ['line 2, column 4: "16": event 1 releases button 11, and there is no button 11: the board has 10, 0 to 9; "16" is 22, and 16 is typed "10" (refusal 7)']),
@@ -103,7 +111,11 @@ CASES = [
     (H5.replace("04 02 01 01", "06 02 01 00"), ["refused 8 15"], ['line 4, column 10: "00": relay 0 has a dropping winding already, at line 3, column 10 (refusal 8)']),
     (H5.replace("04 02 01 01", "04 02 01 00"), ["refused 8 15"], ['line 4, column 10: "00": relay 0 has a drawing winding already, at line 2, column 10: so it can have no regular winding (refusal 8)']),
     ("03 01 01 02\n04 00 02 00\n06 02 01 00", ["refused 8 11"], ['line 3, column 10: "00": relay 0 has a regular winding already, at line 2, column 10: so it can have no dropping winding (refusal 8)']),
+    # 17: a relay marked twice
+    (MARKED + "07 00\n07 00\n64", ["refused 17 15"], ['line 5, column 4: "00": relay 0 is marked as starting drawn already, at line 4, column 4 (refusal 17)']),
+    ("03 02 00 04\n07 01 07 00\n07 01\n", ["refused 17 9"], ['line 3, column 4: "01": relay 1 is marked as starting drawn already, at line 2, column 4 (refusal 17)']),
     # 9: a winding too few
+    ("03 01 01 01\n07 00\n64", ["refused 9 6"], ['line 3, column 1: "64": the board ends before this, after 1 part: relay 0 has no winding (refusal 9)']),
     ("03 01 01 01\n03 00 02 00\n64", ["refused 9 8"], ['line 3, column 1: "64": the board ends before this, after 1 part: relay 0 has no winding (refusal 9)']),
     ("03 01 01 01\n03 00 02 00\n", ["refused 9 8"], ["line 2, column 12: the board ends here, and so does the input, after 1 part: relay 0 has no winding (refusal 9)"]),
     ("03 02 01 01\n05 00 02 00\na0 8d 06", ["refused 9 8"], ['line 3, column 1: "a0 8d 06": the board ends before this, after 1 part: relay 0 has a drawing winding and no dropping winding, and 1 other relay lacks one too (refusal 9)']),
@@ -123,11 +135,12 @@ FORMS = {
     1: r"the input ends here, (?:and .+ is wanted|inside .+: \"(?P<begun>[0-9a-f ]+)\" goes on, since .+)",
     2: rf".+ (?:(?P<long>is longer than 5 bytes, since .+)|(?P<large>{TOO_LARGE})|is not in its shortest form, since .+: type \"(?P<shortest>[0-9a-f ]+)\")",
     3: r"the number of (?:terminals|relays|buttons|parts) \([TRBC]\) is (?P<value>[\d,]+), and must be \d+ to \d+(?:; .*)?",
-    4: r"there is no (?:such kind|kind (?P<value>[\d,]+)) of part: the kinds are 0 to 6",
+    4: r"there is no (?:such kind|kind (?P<value>[\d,]+)) of part: the kinds are 0 to 7",
     5: r"there is no (?:such terminal|terminal (?P<value>[\d,]+)): the board has (?P<terminals>\d+), 0 to \d+(?:; .*)?",
     6: r"both ends of part \d+ of (?P<parts>\d+) are terminal (?P<value>\d+)",
     7: r"(?:event \d+ (?:pushes|releases) button (?P<button>[\d,]+), and )?there is no (?:such )?(?P<thing>relay|button)(?: [\d,]+)?: the board has (?P<many>none|\d+).*",
     8: r"relay (?P<value>\d+) has a \w+ winding already, at place (?P<earlier>\d+)(?:: so it can have no \w+ winding)?",
+    17: r"relay (?P<value>\d+) is marked as starting drawn already, at place (?P<earlier>\d+)",
     9: r"the board ends (?:before this|here, and so does the input), after (?P<parts>\d+) parts?: relay (?P<relay>\d+) has .+",
     10: r"the session is longer than 65,536 bytes: the first byte too many is at place 65536",
 }
@@ -170,7 +183,7 @@ def hints():
 def lies():
     """Refusals that a session does not meet: number and place are said, and nothing else."""
     board = bytes.fromhex(H1)
-    for line in ["refused 1 3", "refused 1 99", "refused 2 1", "refused 5 99", "refused 8 11", "refused 9 5", "refused 9 12", "refused 10 0", "refused 7 12", "refused 17 4"]:
+    for line in ["refused 1 3", "refused 1 99", "refused 2 1", "refused 5 99", "refused 8 11", "refused 9 5", "refused 9 12", "refused 10 0", "refused 7 12", "refused 17 4", "refused 18 4"]:
         number, place = line.split()[1:]
         yield same(f"{line}, which is not so", by_awk([line], board), [f"it: place {place}: this is refused (refusal {number})"])
 
@@ -206,7 +219,7 @@ def facts(data, number, place, found):
     if number == 7:
         many = {"relay": relays, "button": buttons}[named["thing"]]
         return named["many"] == (str(many) if many else "none") and int(named.get("button", value // 2)) == value // 2
-    if number == 8 and board_model.number_at(data, int(named["earlier"]))[0] != value:
+    if number in (8, 17) and board_model.number_at(data, int(named["earlier"]))[0] != value:
         return False
     return int(named.get("value", value)) == value and int(named.get("terminals", terminals)) == terminals and int(named.get("parts", parts)) == parts
 
@@ -246,7 +259,7 @@ def many(seed, count):
         told = workers.map(lambda own: by_awk(own[2], own[1]), refused)
     checks = [check for (name, data, said), words in zip(refused, told) for check in held(name, data, said, words)]
     met = {line.split()[1] if line.startswith("refused") else "12" for _, _, said in refused for line in said}
-    return checks + [same("every refusal is met", met, {str(number) for number in (*range(1, 11), 12)})]
+    return checks + [same("every refusal is met", met, {str(number) for number in (*range(1, 11), 12, 17)})]
 
 
 def main(seed, count):

@@ -1,7 +1,8 @@
 //! The board and its state.
 //!
-//! Renders "Parts of a board": the seven kinds of parts, when each conducts,
-//! which windings a relay has, and the state of relays and buttons.
+//! Renders "Parts of a board": the kinds of parts, when each conducts, which
+//! windings a relay has, and the state of relays and buttons; and, of request
+//! A2, the mark that says which relays start drawn.
 
 /// Terminal 0 is plus.
 pub const PLUS: usize = 0;
@@ -19,7 +20,11 @@ pub const MOST_PARTS: usize = 256;
 /// The two different terminals that a part joins.
 pub type Ends = (usize, usize);
 
-/// The kinds 0 to 6, each with the relay or button it names.
+/// What a board that was read holds for the ends of a mark, which has none.
+pub const NO_ENDS: Ends = (0, 0);
+
+/// The kinds 0 to 7, each with the relay or button it names. A mark says that
+/// its relay starts drawn.
 #[derive(Clone, Copy, Debug, PartialEq, Eq)]
 pub enum Kind {
     Wire,
@@ -29,16 +34,25 @@ pub enum Kind {
     RegularWinding(usize),
     DrawingWinding(usize),
     DroppingWinding(usize),
+    Mark(usize),
 }
 
-#[derive(Clone, Copy, Debug, PartialEq, Eq)]
+#[derive(Clone, Copy, Debug, Eq)]
 pub struct Part {
     pub ends: Ends,
     pub kind: Kind,
 }
 
+impl PartialEq for Part {
+    /// Parts are compared by their kind and its fields; a mark has no ends.
+    fn eq(&self, other: &Self) -> bool {
+        let has_ends = !matches!(self.kind, Kind::Mark(_));
+        self.kind == other.kind && (self.ends == other.ends || !has_ends)
+    }
+}
+
 impl Part {
-    /// The last column of the table of parts.
+    /// The last column of the table of parts; a mark conducts nothing.
     pub fn conducts(&self, state: &State) -> bool {
         match self.kind {
             Kind::UpperContact(relay) => state.is_drawn(relay),
@@ -48,6 +62,7 @@ impl Part {
             | Kind::RegularWinding(_)
             | Kind::DrawingWinding(_)
             | Kind::DroppingWinding(_) => true,
+            Kind::Mark(_) => false,
         }
     }
 }
@@ -94,11 +109,20 @@ pub struct State {
 
 impl State {
     /// No relay drawn, no button pushed.
-    pub fn fresh() -> Self {
+    pub fn empty() -> Self {
         State {
             drawn: [false; MOST_RELAYS],
             pushed: [false; MOST_BUTTONS],
         }
+    }
+
+    /// Exactly the relays drawn that the board has a mark of; no button pushed.
+    pub fn fresh(board: &Board) -> Self {
+        let parts = board.parts.iter();
+        parts.fold(Self::empty(), |state, part| match part.kind {
+            Kind::Mark(relay) => state.draw(relay),
+            _ => state,
+        })
     }
 
     pub fn is_drawn(&self, relay: usize) -> bool {
@@ -146,33 +170,47 @@ mod tests {
 
     #[test]
     fn contacts_and_buttons_follow_their_relay_or_button() {
-        let fresh = State::fresh();
-        assert!(!conducts(Kind::UpperContact(3), fresh));
-        assert!(conducts(Kind::UpperContact(3), fresh.draw(3)));
-        assert!(!conducts(Kind::UpperContact(3), fresh.draw(2).push(3)));
-        assert!(conducts(Kind::LowerContact(3), fresh));
-        assert!(!conducts(Kind::LowerContact(3), fresh.draw(3)));
-        assert!(conducts(Kind::LowerContact(3), fresh.draw(3).drop(3)));
-        assert!(!conducts(Kind::Button(3), fresh.draw(3)));
-        assert!(conducts(Kind::Button(3), fresh.push(3)));
-        assert!(!conducts(Kind::Button(3), fresh.push(3).release(3)));
+        let empty = State::empty();
+        assert!(!conducts(Kind::UpperContact(3), empty));
+        assert!(conducts(Kind::UpperContact(3), empty.draw(3)));
+        assert!(!conducts(Kind::UpperContact(3), empty.draw(2).push(3)));
+        assert!(conducts(Kind::LowerContact(3), empty));
+        assert!(!conducts(Kind::LowerContact(3), empty.draw(3)));
+        assert!(conducts(Kind::LowerContact(3), empty.draw(3).drop(3)));
+        assert!(!conducts(Kind::Button(3), empty.draw(3)));
+        assert!(conducts(Kind::Button(3), empty.push(3)));
+        assert!(!conducts(Kind::Button(3), empty.push(3).release(3)));
     }
 
     #[test]
-    fn wires_and_windings_always_conduct() {
-        for state in [State::fresh(), State::fresh().draw(0).push(0)] {
+    fn wires_and_windings_always_conduct_and_marks_never() {
+        for state in [State::empty(), State::empty().draw(0).push(0)] {
             assert!(conducts(Kind::Wire, state));
             assert!(conducts(Kind::RegularWinding(0), state));
             assert!(conducts(Kind::DrawingWinding(0), state));
             assert!(conducts(Kind::DroppingWinding(0), state));
+            assert!(!conducts(Kind::Mark(0), state));
         }
     }
 
     #[test]
     fn the_sum_reaches_the_highest_relay() {
-        let all = (0..MOST_RELAYS).fold(State::fresh(), State::draw);
+        let all = (0..MOST_RELAYS).fold(State::empty(), State::draw);
         assert_eq!(all.drawn_sum(), u64::from(u32::MAX));
-        assert_eq!(State::fresh().draw(31).drawn_sum(), 2_147_483_648);
-        assert_eq!(State::fresh().draw(0).draw(2).drawn_sum(), 5);
+        assert_eq!(State::empty().draw(31).drawn_sum(), 2_147_483_648);
+        assert_eq!(State::empty().draw(0).draw(2).drawn_sum(), 5);
+    }
+
+    #[test]
+    fn marks_are_compared_by_their_relay_and_other_parts_by_their_ends_too() {
+        let part = |kind, ends| Part { ends, kind };
+        assert_eq!(part(Kind::Mark(3), (2, 1)), part(Kind::Mark(3), NO_ENDS));
+        assert_ne!(part(Kind::Mark(3), (2, 1)), part(Kind::Mark(2), (2, 1)));
+        assert_ne!(
+            part(Kind::Mark(3), (2, 1)),
+            part(Kind::UpperContact(3), (2, 1))
+        );
+        assert_ne!(part(Kind::Wire, (2, 1)), part(Kind::Wire, (1, 2)));
+        assert_eq!(part(Kind::Wire, (2, 1)), part(Kind::Wire, (2, 1)));
     }
 }

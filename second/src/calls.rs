@@ -1,8 +1,9 @@
 //! The calls, each with what it is handed: a board, a state, and what is asked.
 //!
 //! Renders, of "Numbers for no", lines 11, 13, 14 and 15 in the order of calls
-//! (15, 14, 13, 11), and what a refused call returns. What is handed in may
-//! break any rule; what was accepted is a `Board` and a `State`.
+//! (15, 14, 13, 11), and what a refused call returns. Under 15 is also what
+//! request A2 asks of a board. What is handed in may break any rule; what was
+//! accepted is a `Board` and a `State`.
 
 use crate::board::{Board, Ends, Kind, Part, State, Windings};
 use crate::board::{MOST_BUTTONS, MOST_PARTS, MOST_RELAYS, MOST_TERMINALS};
@@ -16,14 +17,16 @@ const LONGEST_LOG: usize = 65_536;
 /// A number for no; the place of a refused call is always 0.
 pub type No = u8;
 
-/// A board that is handed in: its counts, with C as `count`, and its parts, of
-/// which the first C count.
+/// A board that is handed in: its counts, with C as `count`, the relays that
+/// start drawn, as the sum of 2 to the number of each, and its parts, of which
+/// the first C count.
 #[derive(Clone, Debug, PartialEq, Eq)]
 pub struct HandedBoard {
     pub terminals: usize,
     pub relays: usize,
     pub buttons: usize,
     pub count: usize,
+    pub start: u64,
     pub parts: Vec<Part>,
 }
 
@@ -48,7 +51,8 @@ pub struct Ran {
 }
 
 impl HandedBoard {
-    /// The board, if it breaks no rule of refusals 3 to 9; else 15.
+    /// The board, if it breaks no rule of refusals 3 to 9 and 17 and carries
+    /// the start that its marks give; else 15.
     fn accepted(&self) -> Result<Board, No> {
         let in_range = (2..=MOST_TERMINALS).contains(&self.terminals)
             && self.relays <= MOST_RELAYS
@@ -59,7 +63,8 @@ impl HandedBoard {
         }
         let parts = self.parts[..self.count].to_vec();
         let is_fine = parts.iter().all(|part| self.fits(part))
-            && (0..self.relays).all(|relay| is_wound(&parts, relay));
+            && (0..self.relays).all(|relay| is_wound(&parts, relay))
+            && self.starts_as_marked(&parts);
         if !is_fine {
             return Err(15);
         }
@@ -72,29 +77,43 @@ impl HandedBoard {
     }
 
     /// Whether a part joins two different terminals of the board and names a
-    /// relay or button of it: what 5, 6 and 7 ask.
+    /// relay or button of it: what 5, 6 and 7 ask. Of a mark only 7 is asked.
     fn fits(&self, part: &Part) -> bool {
         let (a, b) = part.ends;
-        let is_named = match part.kind {
-            Kind::Wire => true,
-            Kind::Button(button) => button < self.buttons,
+        let joins = a < self.terminals && b < self.terminals && a != b;
+        match part.kind {
+            Kind::Wire => joins,
+            Kind::Button(button) => joins && button < self.buttons,
             Kind::UpperContact(relay)
             | Kind::LowerContact(relay)
             | Kind::RegularWinding(relay)
             | Kind::DrawingWinding(relay)
-            | Kind::DroppingWinding(relay) => relay < self.relays,
-        };
-        a < self.terminals && b < self.terminals && a != b && is_named
+            | Kind::DroppingWinding(relay) => joins && relay < self.relays,
+            Kind::Mark(relay) => relay < self.relays,
+        }
     }
+
+    /// Whether each relay of the start has exactly one mark, and no other has
+    /// any: what 17 asks, and that the start is the one the marks give.
+    fn starts_as_marked(&self, parts: &[Part]) -> bool {
+        let marks = |relay| count(parts, Kind::Mark(relay)) as u64;
+        let mut relays = 0..self.relays;
+        self.start >> self.relays == 0
+            && relays.all(|relay| marks(relay) == self.start >> relay & 1)
+    }
+}
+
+/// How many of the parts are of this kind.
+fn count(parts: &[Part], kind: Kind) -> usize {
+    parts.iter().filter(|part| part.kind == kind).count()
 }
 
 /// Whether a relay is regular, with exactly one part of kind 4, or steel-core,
 /// with exactly one of kind 5 and one of kind 6: what 8 and 9 ask.
 fn is_wound(parts: &[Part], relay: usize) -> bool {
-    let count = |kind| parts.iter().filter(|part| part.kind == kind).count();
-    let regular = count(Kind::RegularWinding(relay));
-    let drawing = count(Kind::DrawingWinding(relay));
-    let dropping = count(Kind::DroppingWinding(relay));
+    let regular = count(parts, Kind::RegularWinding(relay));
+    let drawing = count(parts, Kind::DrawingWinding(relay));
+    let dropping = count(parts, Kind::DroppingWinding(relay));
     matches!((regular, drawing, dropping), (1, 0, 0) | (0, 1, 1))
 }
 
@@ -107,7 +126,7 @@ impl HandedState {
         let is_in = |set: u64| move |&number: &usize| set >> number & 1 == 1;
         let drawn = (0..board.relays).filter(is_in(self.drawn));
         let pushed = (0..board.buttons).filter(is_in(self.pushed));
-        let state = drawn.fold(State::fresh(), State::draw);
+        let state = drawn.fold(State::empty(), State::draw);
         Ok(pushed.fold(state, State::push))
     }
 
@@ -192,6 +211,7 @@ fn ran(answer: RunAnswer) -> Ran {
 #[cfg(test)]
 mod tests {
     use super::*;
+    use crate::board::NO_ENDS;
     use crate::judge::Verdict;
 
     const MUCH: u32 = u32::MAX;
@@ -215,6 +235,7 @@ mod tests {
             relays: 1,
             buttons: 1,
             count: 2,
+            start: 0,
             parts: vec![
                 part(Kind::Button(0), (0, 2)),
                 part(Kind::RegularWinding(0), (2, 1)),
@@ -231,6 +252,24 @@ mod tests {
             .extend(windings.iter().map(|&kind| part(kind, (2, 1))));
         board.count = board.parts.len();
         board
+    }
+
+    /// A board of 32 regular relays on 0-1, as many buttons, this start, and
+    /// marks of these relays, whose ends are beyond the board.
+    fn marked(start: u64, relays: impl IntoIterator<Item = usize>) -> HandedBoard {
+        let windings = (0..32).map(|relay| part(Kind::RegularWinding(relay), (0, 1)));
+        let marks = relays
+            .into_iter()
+            .map(|relay| part(Kind::Mark(relay), (255, 255)));
+        let parts: Vec<Part> = windings.chain(marks).collect();
+        HandedBoard {
+            terminals: 2,
+            relays: 32,
+            buttons: 32,
+            count: parts.len(),
+            start,
+            parts,
+        }
     }
 
     #[test]
@@ -284,23 +323,81 @@ mod tests {
 
     #[test]
     fn parts_beyond_the_count_do_not_matter() {
-        let mut board = h1();
-        board.parts.push(part(Kind::Button(9), (9, 9)));
-        assert!(board.accepted().is_ok());
+        for beyond in [Kind::Button(9), Kind::Mark(0), Kind::Mark(9)] {
+            let mut board = h1();
+            board.parts.push(part(beyond, (9, 9)));
+            assert!(board.accepted().is_ok());
+            board.start = 1;
+            assert_eq!(board.accepted(), Err(15));
+        }
+    }
+
+    #[test]
+    fn a_start_is_the_one_that_the_marks_give() {
+        for (start, relays) in [
+            (0, &[][..]),
+            (1, &[0]),
+            (5, &[0, 2]),
+            (5, &[2, 0]),
+            (1 << 31, &[31]),
+            (0xc000_0000, &[31, 30]),
+        ] {
+            let board = marked(start, relays.iter().copied());
+            let fresh = State::fresh(&board.accepted().unwrap());
+            assert_eq!(fresh.drawn_sum(), start);
+            for bit in 0..64 {
+                let other = start ^ (1 << bit);
+                let board = marked(other, relays.iter().copied());
+                assert_eq!(board.accepted(), Err(15));
+            }
+        }
+        assert!(marked(0xffff_ffff, 0..32).accepted().is_ok());
+        assert_eq!(marked(0xffff_ffff, 0..31).accepted(), Err(15));
+        assert_eq!(marked(u64::MAX, 0..32).accepted(), Err(15));
+    }
+
+    #[test]
+    fn a_mark_doubled_or_of_a_relay_that_is_not_there_is_refused_by_15() {
+        for start in [0, 1, 2, 3, 1 << 32, u64::MAX] {
+            for relays in [&[0, 0][..], &[0, 1, 0], &[1, 0, 0], &[32], &[0, 255]] {
+                let board = marked(start, relays.iter().copied());
+                assert_eq!(board.accepted(), Err(15));
+            }
+        }
+    }
+
+    #[test]
+    fn the_ends_of_a_mark_mean_nothing() {
+        for ends in [NO_ENDS, (2, 1), (2, 2), (0, 3), (255, 0), (255, 255)] {
+            let mut board = h1();
+            board.parts.insert(0, part(Kind::Mark(0), ends));
+            (board.count, board.start) = (3, 1);
+            assert_eq!(
+                board.accepted().unwrap().parts[0],
+                part(Kind::Mark(0), NO_ENDS)
+            );
+            let pushed = HandedState {
+                drawn: 0,
+                pushed: 1,
+            };
+            for state in [FRESH, pushed] {
+                let asked = (0, false);
+                let judged = judge_call(&board, state, asked, MUCH);
+                assert_eq!(judged, judge_call(&h1(), state, asked, MUCH));
+            }
+        }
+    }
+
+    #[test]
+    fn a_mark_is_no_winding() {
+        let mut board = wound(&[Kind::Mark(0)]);
+        board.start = 1;
+        assert_eq!(board.accepted(), Err(15));
     }
 
     #[test]
     fn a_state_is_handed_in_and_back() {
-        let board = HandedBoard {
-            terminals: 2,
-            relays: 32,
-            buttons: 32,
-            count: 32,
-            parts: (0..32)
-                .map(|relay| part(Kind::RegularWinding(relay), (0, 1)))
-                .collect(),
-        };
-        let board = board.accepted().unwrap();
+        let board = marked(0, []).accepted().unwrap();
         for (drawn, pushed) in [(0, 0), (1, 2), (0xffff_ffff, 0), (5, 0xffff_ffff)] {
             let handed = HandedState { drawn, pushed };
             assert_eq!(HandedState::of(&handed.accepted(&board).unwrap()), handed);

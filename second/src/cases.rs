@@ -13,10 +13,11 @@
 //! - `=`, a run: the same with the allowance and the log's length last.
 //!
 //! A board is handed in byte by byte: one each for T, R and B, two for C with
-//! the lower first, and four for a part, in the order of its fields. Kinds
-//! above 6 are taken as 6, as no part has them; missing bytes are 0.
+//! the lower first, five for the start, lowest first (a bit for each relay),
+//! and four for a part: its kind, both ends, and the relay or button. Kinds
+//! above 7 are taken as 7, as no part has them; missing bytes are 0.
 
-use crate::board::{Kind, Part, MOST_PARTS};
+use crate::board::{Kind, Part, State, MOST_PARTS};
 use crate::calls::{judge_call, move_call, run_call, HandedBoard, HandedState};
 use crate::file::read_board;
 use crate::judge::{Judgement, Verdict};
@@ -80,6 +81,7 @@ fn judge_case(case: &[u8]) -> Option<String> {
         relays: board.relays,
         buttons: board.buttons,
         count: board.parts.len(),
+        start: State::fresh(&board).drawn_sum(),
         parts: board.parts,
     };
     let state = HandedState {
@@ -151,6 +153,7 @@ fn handed(case: &[u8]) -> (HandedState, [u32; 2], HandedBoard) {
         drawn: number(0).into(),
         pushed: number(3).into(),
     };
+    let start = (0..5).map(|place| u64::from(byte(17 + place)) << (8 * place));
     let part = |at: usize| Part {
         ends: (byte(at + 1).into(), byte(at + 2).into()),
         kind: kind(byte(at), byte(at + 3).into()),
@@ -160,7 +163,8 @@ fn handed(case: &[u8]) -> (HandedState, [u32; 2], HandedBoard) {
         relays: byte(13).into(),
         buttons: byte(14).into(),
         count: u16::from_le_bytes([byte(15), byte(16)]).into(),
-        parts: (0..MOST_PARTS).map(|place| part(17 + 4 * place)).collect(),
+        start: start.sum(),
+        parts: (0..MOST_PARTS).map(|place| part(22 + 4 * place)).collect(),
     };
     (state, [number(6), number(9)], board)
 }
@@ -173,7 +177,8 @@ fn kind(number: u8, name: usize) -> Kind {
         3 => Kind::Button(name),
         4 => Kind::RegularWinding(name),
         5 => Kind::DrawingWinding(name),
-        _ => Kind::DroppingWinding(name),
+        6 => Kind::DroppingWinding(name),
+        _ => Kind::Mark(name),
     }
 }
 
@@ -182,8 +187,9 @@ mod tests {
     use super::*;
 
     const H1_FILE: &str = "03 01 01 02  03 00 02 00  04 02 01 00";
-    const H1_HANDED: &str = "03 01 01 02 00  03 00 02 00  04 02 01 00";
-    const H3_HANDED: &str = "03 01 00 02 00  02 00 02 00  04 02 01 00";
+    const H1_HANDED: &str = "03 01 01 02 00  00 00 00 00 00  03 00 02 00  04 02 01 00";
+    const H3_HANDED: &str = "03 01 00 02 00  00 00 00 00 00  02 00 02 00  04 02 01 00";
+    const ZERO: &str = "000000 000000 000000 000000";
 
     fn assert_answers(text: &str, lines: &[&str]) {
         let told = answers(text).unwrap();
@@ -267,19 +273,79 @@ mod tests {
     }
 
     #[test]
-    fn a_kind_above_6_stands_for_6_and_bytes_not_given_for_0() {
-        let zero = "000000 000000 000000 000000";
-        let steel = format!("{zero} 03 01 00 02 00  05 00 02 00  07 02 01 00 ^");
+    fn a_kind_above_7_stands_for_7_and_bytes_not_given_for_0() {
+        let steel = format!("{ZERO} 03 01 00 02 00  0000000000  05 00 02 00  06 02 01 00 ^");
         assert_answers(&steel, &["moved undecided 0 0"]);
+        for kind in ["07", "08", "ff"] {
+            let marked = format!("{ZERO} 02 01 00 02 00  0100000000  04 00 01 00  {kind} ^");
+            assert_answers(&marked, &["moved undecided 0 0"]);
+        }
         assert_answers(
-            &format!("{zero} =^"),
+            &format!("{ZERO} =^"),
             &["ran refused 15 0 0 0 255:", "moved refused 15 0 0"],
         );
-        assert_answers(&format!("{zero} 02 ="), &["ran idle 0 0 0 255:"]);
+        assert_answers(&format!("{ZERO} 02 ="), &["ran idle 0 0 0 255:"]);
         assert_answers(
-            &format!("{zero} 02 00 00 01 01 ="),
+            &format!("{ZERO} 02 00 00 01 01 ="),
             &["ran refused 15 0 0 0 255:"],
         );
+    }
+
+    #[test]
+    fn boards_handed_in_with_a_start_and_marks() {
+        // two relays on 0-1, a mark of relay 1 whose ends are beyond T, one of
+        // relay 0 whose ends are equal, and another of relay 0
+        let parts = "04 00 01 00  04 00 01 01  07 ff ff 01  07 01 01 00  07 00 01 00";
+        let case = |count, start| format!("{ZERO} 02 02 00 {count} 00 {start} {parts} ^");
+        for (count, start) in [
+            ("02", "0000000000"),
+            ("03", "0200000000"),
+            ("04", "0300000000"),
+        ] {
+            assert_answers(&case(count, start), &["moved undecided 0 0"]);
+        }
+        for (count, start) in [
+            ("02", "0100000000"),
+            ("02", "0300000000"),
+            ("03", "0000000000"),
+            ("03", "0100000000"),
+            ("03", "0300000000"),
+            ("04", "0000000000"),
+            ("04", "0301000000"),
+            ("04", "0300000001"),
+            ("04", "0300000080"),
+            ("05", "0200000000"),
+            ("05", "0300000000"),
+        ] {
+            assert_answers(&case(count, start), &["moved refused 15 0 0"]);
+        }
+    }
+
+    #[test]
+    fn a_start_goes_to_the_highest_relay_and_does_not_change_the_state() {
+        let windings: String = (0..32)
+            .map(|relay| format!(" 04 00 01 {relay:02x}"))
+            .collect();
+        let board = |start: &str| format!("02 20 00 21 00 {start} {windings} 07 00 00 1f");
+        let text = format!("000001 000000 000000 000064 {} ^", board("0000008000"));
+        assert_answers(&text, &["moved rests 1 0"]);
+        let text = format!("000001 000000 000064 000000 {} =", board("0000008000"));
+        assert_answers(&text, &["ran spent 0 1 0 1:"]);
+        for start in ["0000000000", "8000000000", "0000000080", "0000000001"] {
+            let text = format!("{ZERO} {} ^", board(start));
+            assert_answers(&text, &["moved refused 15 0 0"]);
+        }
+    }
+
+    #[test]
+    fn judgements_of_marked_boards_are_those_without_the_mark() {
+        let marked =
+            |asked: &str| format!("03 01 01 03  03 00 02 00  07 00  04 02 01 00 {asked} @");
+        assert_answers(&marked("00 00 00 00 64"), &["judged dead 1"]);
+        assert_answers(&marked("00 01 00 00 03"), &["judged live 3 3: 0 2 1"]);
+        assert_answers(&marked("01 01 00 00 02"), &["judged undecided 2"]);
+        assert_answers(&marked("02 01 00 00 03"), &["judged refused 14"]);
+        assert_answers("03 01 00 02  07 00  07 00 @", &["refused 17 7"]);
     }
 
     #[test]

@@ -104,7 +104,7 @@ mod tests {
     }
 
     fn all_chains(board: &Board) -> Vec<Vec<usize>> {
-        let mut chains = Chains::of(board, &State::fresh());
+        let mut chains = Chains::of(board, &State::fresh(board));
         let mut all = Vec::new();
         while let Some(chain) = chains.next_chain() {
             all.push(chain.to_vec());

@@ -3,8 +3,9 @@
 //! Renders "The board file" and lines 3 to 9 of "Numbers for no", in the order
 //! given under that table: left to right, each number's form before its
 //! meaning, for a part 4, 5, 5, 6, 7, 8 as its fields come, and 9 at the end.
+//! For a mark, of request A2, this is 4, 7, 17: its one field is a relay.
 
-use crate::board::{Board, Ends, Kind, Part};
+use crate::board::{Board, Ends, Kind, Part, NO_ENDS};
 use crate::board::{MOST_BUTTONS, MOST_PARTS, MOST_RELAYS, MOST_TERMINALS};
 use crate::number::{Number, Reader, Refusal};
 
@@ -35,16 +36,20 @@ pub fn read_board(reader: &mut Reader) -> Result<Board, Refusal> {
 
 /// Reads one part; `board` holds the parts before it.
 fn read_part(reader: &mut Reader, board: &Board) -> Result<Part, Refusal> {
-    let kind_number = reader.number()?.checked(0..7, 4)?;
-    let ends = read_ends(reader, board)?;
+    let kind_number = reader.number()?.checked(0..8, 4)?;
+    let ends = match kind_number {
+        7 => NO_ENDS,
+        _ => read_ends(reader, board)?,
+    };
     let kind = match kind_number {
         0 => Kind::Wire,
         1 => Kind::UpperContact(read_relay(reader, board)?),
         2 => Kind::LowerContact(read_relay(reader, board)?),
         3 => Kind::Button(reader.number()?.checked(0..board.buttons, 7)?),
-        4 => read_winding(reader, board, Kind::RegularWinding)?,
-        5 => read_winding(reader, board, Kind::DrawingWinding)?,
-        _ => read_winding(reader, board, Kind::DroppingWinding)?,
+        4 => read_single(reader, board, Kind::RegularWinding, 8)?,
+        5 => read_single(reader, board, Kind::DrawingWinding, 8)?,
+        6 => read_single(reader, board, Kind::DroppingWinding, 8)?,
+        _ => read_single(reader, board, Kind::Mark, 17)?,
     };
     Ok(Part { ends, kind })
 }
@@ -63,22 +68,25 @@ fn read_relay(reader: &mut Reader, board: &Board) -> Result<usize, Refusal> {
     reader.number()?.checked(0..board.relays, 7)
 }
 
-/// Reads the relay of a winding, which must have room for it (refusal 8).
-fn read_winding(
+/// Reads the relay of a winding or a mark, which must have room for it; else
+/// the refusal `no` (8 or 17).
+fn read_single(
     reader: &mut Reader,
     board: &Board,
-    winding: fn(usize) -> Kind,
+    kind: fn(usize) -> Kind,
+    no: u8,
 ) -> Result<Kind, Refusal> {
     let number: Number = reader.number()?;
-    let kind = winding(number.checked(0..board.relays, 7)?);
+    let kind = kind(number.checked(0..board.relays, 7)?);
     if board.parts.iter().any(|part| excludes(part.kind, kind)) {
-        return Err(number.refuse(8));
+        return Err(number.refuse(no));
     }
     Ok(kind)
 }
 
-/// Whether a relay with the winding `old` cannot also have the winding `new`:
-/// it is the same winding, or it belongs to the other sort of relay.
+/// Whether a relay with the winding or mark `old` cannot also have `new`: it is
+/// the same winding, or it belongs to the other sort of relay, or both are
+/// marks.
 fn excludes(old: Kind, new: Kind) -> bool {
     match (old, new) {
         (Kind::RegularWinding(old), Kind::RegularWinding(new))
@@ -87,7 +95,8 @@ fn excludes(old: Kind, new: Kind) -> bool {
         | (Kind::DrawingWinding(old), Kind::RegularWinding(new))
         | (Kind::DrawingWinding(old), Kind::DrawingWinding(new))
         | (Kind::DroppingWinding(old), Kind::RegularWinding(new))
-        | (Kind::DroppingWinding(old), Kind::DroppingWinding(new)) => old == new,
+        | (Kind::DroppingWinding(old), Kind::DroppingWinding(new))
+        | (Kind::Mark(old), Kind::Mark(new)) => old == new,
         _ => false,
     }
 }
@@ -158,7 +167,8 @@ mod tests {
         assert_eq!(refused(&[3, 0x80, 0x00]), (2, 1));
         assert_eq!(refused(&[3, 33, 0x80, 0x00]), (3, 1));
         assert_eq!(refused(&[3, 0, 0, 1]), (1, 4));
-        assert_eq!(refused(&[3, 0, 0, 1, 7]), (4, 4));
+        assert_eq!(refused(&[3, 0, 0, 1, 8]), (4, 4));
+        assert_eq!(refused(&[3, 0, 0, 1, 7]), (1, 5));
         assert_eq!(refused(&[3, 0, 0, 1, 0, 0x80, 0x80]), (1, 7));
         assert_eq!(refused(&[3, 0, 0, 1, 0, 0x83, 0x00]), (2, 5));
     }
@@ -209,5 +219,44 @@ mod tests {
         assert_eq!(refused(&[3, 2, 0, 1, 4, 0, 2, 0]), (9, 8));
         assert_eq!(refused(&[3, 2, 0, 1, 4, 0, 2, 1]), (9, 8));
         assert_eq!(refused(&[3, 1, 0, 1, 1, 0, 2, 0]), (9, 8));
+        assert_eq!(refused(&[3, 1, 0, 1, 7, 0, 77]), (9, 6));
+    }
+
+    #[test]
+    fn refusals_of_a_mark() {
+        let mark = |bytes: &[u8]| refused(&[&[3, 2, 0, 3, 7, 1, 7], bytes].concat());
+        assert_eq!(mark(&[]), (1, 7));
+        assert_eq!(mark(&[0x80]), (1, 8));
+        assert_eq!(mark(&[0x81, 0x00]), (2, 7));
+        assert_eq!(mark(&[2]), (7, 7));
+        assert_eq!(mark(&[0x81, 0x02]), (7, 7));
+        assert_eq!(mark(&[1]), (17, 7));
+        assert_eq!(mark(&[0]), (1, 8));
+        assert_eq!(refused(&[3, 0, 0, 1, 7, 0]), (7, 5));
+    }
+
+    #[test]
+    fn a_mark_has_one_field_and_its_place_among_the_parts() {
+        let (board, after) = read(&[3, 1, 0, 2, 7, 0, 4, 2, 1, 0, 7]).unwrap();
+        let fields: Vec<_> = board
+            .parts
+            .iter()
+            .map(|part| (part.kind, part.ends))
+            .collect();
+        let mark = (Kind::Mark(0), NO_ENDS);
+        let winding = (Kind::RegularWinding(0), (2, 1));
+        assert_eq!((fields, after), (vec![mark, winding], 10));
+        let (board, after) = read(&[3, 1, 0, 2, 4, 2, 1, 0, 7, 0, 7]).unwrap();
+        let kinds: Vec<_> = board.parts.iter().map(|part| part.kind).collect();
+        assert_eq!((kinds, after), (vec![winding.0, mark.0], 10));
+    }
+
+    #[test]
+    fn marks_and_windings_of_a_relay_do_not_clash_in_any_order() {
+        let parts = [&[5, 0, 2, 0][..], &[6, 2, 1, 0], &[7, 0]];
+        for (first, second, third) in [(0, 1, 2), (0, 2, 1), (2, 0, 1)] {
+            let input = [&[3, 1, 0, 3], parts[first], parts[second], parts[third]];
+            assert_eq!(read(&input.concat()).unwrap().1, 14);
+        }
     }
 }

@@ -90,7 +90,7 @@ mod tests {
                 part(Kind::RegularWinding(0), (2, 1)),
             ],
         };
-        let fresh = State::fresh();
+        let fresh = State::fresh(&board);
         let state = if is_pushed { fresh.push(0) } else { fresh };
         let chains = &mut Chains::of(&board, &state);
         let judgement = judge_on(chains, (2, 1), before, w);

@@ -1,12 +1,12 @@
 //! An independent second program for Herdspiral, the relay-board simulator.
 //!
-//! Each module renders one part of the rule book, in its order: `number` and
-//! `file` are "The board file" with the refusals of a read, `board` is "Parts
-//! of a board", `chains` and `judge` are "Chains and current", `moves` and
-//! `runs` are "How a relay moves", `calls` is the order of refusals for what is
-//! handed in, `session` is "The session program". Only `streams` and `cases`
-//! are not in the rule book: they fetch sessions, and single calls, from a
-//! stream.
+//! Each module renders one part of the rule book, as requests A1 and A2 changed
+//! it, in its order: `number` and `file` are "The board file" with the refusals
+//! of a read, `board` is "Parts of a board", `chains` and `judge` are "Chains
+//! and current", `moves` and `runs` are "How a relay moves", `calls` is the
+//! order of refusals for what is handed in, `session` is "The session program".
+//! Only `streams` and `cases` are not in the rule book: they fetch sessions,
+//! and single calls, from a stream.
 #![forbid(unsafe_code)]
 
 pub mod board;

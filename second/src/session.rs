@@ -1,7 +1,7 @@
 //! One whole session, from its bytes to its lines.
 //!
 //! Renders "The session program" and, of "Numbers for no", what a session can
-//! be refused for: 1 to 10 and 12.
+//! be refused for: 1 to 10, 12 and, of request A2, 17.
 
 use crate::board::{Board, State};
 use crate::file::read_board;
@@ -27,7 +27,7 @@ fn play(input: &[u8], lines: &mut String) -> Result<(), Refusal> {
     let mut reader = Reader::open(input)?;
     let board = read_board(&mut reader)?;
     let w = reader.number()?.value;
-    let mut state = run_event(&board, State::fresh(), w, 0, lines);
+    let mut state = run_event(&board, State::fresh(&board), w, 0, lines);
     let mut event = 0;
     while !reader.at_end() {
         event += 1;

@@ -1,5 +1,6 @@
 //! Tests over several modules: "Boards to try", "Slips to rule out" and the
-//! sessions of the rule book, the figure of document 000, and a few more.
+//! sessions of the rule book, the figure of document 000, the marks of request
+//! A2, and a few more.
 
 use crate::board::{Board, Ends, Kind, State, Windings};
 use crate::file::read_board;
@@ -33,8 +34,9 @@ fn board(bytes: &[u8]) -> Board {
     read_board(&mut Reader::open(bytes).unwrap()).unwrap()
 }
 
+/// The fresh state of a board without a mark.
 fn fresh() -> State {
-    State::fresh()
+    State::empty()
 }
 
 /// The ends of the first and, for a steel relay, the second winding.
@@ -310,13 +312,14 @@ fn refusals_of_a_bad_board_in_a_session() {
     assert_eq!(session(&[0x80; 5]), "refused 2 0\n");
     assert_eq!(after_w(&[1, 0, 0, 0]), "refused 3 0\n");
     assert_eq!(after_w(&[65, 0, 0, 0]), "refused 3 0\n");
-    assert_eq!(after_w(&[3, 0, 0, 1, 7, 0, 1]), "refused 4 4\n");
+    assert_eq!(after_w(&[3, 0, 0, 1, 8, 0, 1]), "refused 4 4\n");
     assert_eq!(after_w(&[3, 0, 0, 1, 0, 0, 3]), "refused 5 6\n");
     assert_eq!(after_w(&[3, 0, 0, 1, 0, 2, 2]), "refused 6 6\n");
     assert_eq!(after_w(&[3, 1, 0, 1, 4, 0, 1, 1]), "refused 7 7\n");
     let twice = [3, 1, 0, 2, 4, 0, 1, 0, 4, 0, 1, 0];
     assert_eq!(after_w(&twice), "refused 8 11\n");
     assert_eq!(after_w(&[3, 1, 0, 1, 0, 0, 1]), "refused 9 7\n");
+    assert_eq!(after_w(&[3, 1, 0, 2, 7, 0, 7, 0]), "refused 17 7\n");
 }
 
 #[test]
@@ -365,6 +368,56 @@ fn ten_counts_the_whole_session_and_comes_first() {
     bytes.push(0);
     assert_eq!(session(&bytes), "refused 10 0\n");
     assert_eq!(session(&[0x80; 65_537]), "refused 10 0\n");
+}
+
+/// The bytes of a board of fewer than 127 parts with one part more, a mark of
+/// this relay, before the others.
+fn with_mark(bytes: &[u8], relay: u8) -> Vec<u8> {
+    let (counts, parts) = bytes.split_at(4);
+    let [terminals, relays, buttons, count] = counts.try_into().unwrap();
+    let head = [terminals, relays, buttons, count + 1, 7, relay];
+    [&head[..], parts].concat()
+}
+
+#[test]
+fn a_fresh_state_has_exactly_the_marked_relays_drawn() {
+    for bytes in [&[2, 0, 0, 0][..], H1, &H2[..16], H3, H4, H5, H6, FIGURE] {
+        assert_eq!(State::fresh(&board(bytes)), fresh());
+    }
+    for bytes in [H1, H5] {
+        assert_eq!(State::fresh(&board(&with_mark(bytes, 0))), fresh().draw(0));
+    }
+    for (relays, state) in [
+        (&[0][..], fresh().draw(0)),
+        (&[1], fresh().draw(1)),
+        (&[1, 0], fresh().draw(0).draw(1)),
+    ] {
+        let marks = relays
+            .iter()
+            .fold(FIGURE.to_vec(), |bytes, &relay| with_mark(&bytes, relay));
+        assert_eq!(State::fresh(&board(&marks)), state);
+    }
+}
+
+#[test]
+fn a_mark_changes_no_judgement_and_no_run() {
+    for bytes in [H1, H3, H4, H4_ADDED, H5, H6, FIGURE] {
+        let marked = with_mark(bytes, 0);
+        for state in [
+            fresh(),
+            fresh().draw(0),
+            fresh().push(0),
+            fresh().draw(0).push(0),
+        ] {
+            for w in [0, 1, 2, 3, 4, 5, 6, 7, MUCH] {
+                assert_eq!(judge_first(&marked, state, w), judge_first(bytes, state, w));
+                assert_eq!(
+                    run_logged(&marked, state, w, 5),
+                    run_logged(bytes, state, w, 5)
+                );
+            }
+        }
+    }
 }
 
 #[test]

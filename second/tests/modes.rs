@@ -47,6 +47,19 @@ fn sessions_and_cases_with_the_greatest_allowance() {
 }
 
 #[test]
+fn sessions_and_cases_with_a_mark() {
+    let marked = [&[3, 1, 1, 4, 7, 0], &H2[4..]].concat();
+    let output = play(&[], &marked);
+    assert_eq!(output.status.code(), Some(0));
+    assert_eq!(lines(&output), "0 idle 0 1\n1 idle 0 1\n2 idle 0 1\n");
+    let text = b"000001 000000 000064 000002  02 01 00 02 00  01 00 00 00 00
+                 04 00 01 00  07 ff ff 00 =\n";
+    let output = play(&["--cases"], text);
+    assert_eq!(output.status.code(), Some(0));
+    assert_eq!(lines(&output), "ran idle 0 1 0 255:\n");
+}
+
+#[test]
 fn many_sessions_and_a_stream_cut_short() {
     let stream = [&[19, 0, 0, 0], H2, &[0; 4], &[1, 0, 0, 0, 65]].concat();
     let whole = format!("{H2_LINES}.\nrefused 1 0\n.\n");

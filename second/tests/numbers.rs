@@ -1,13 +1,13 @@
-//! Request A1 at every place of a session that takes a number: the forms of
-//! numbers, each whole and cut at every byte, and values that would fit if they
-//! were narrowed.
+//! Request A1 at every place of a session that takes a number, also in a mark
+//! (request A2): the forms of numbers, each whole and cut at every byte, and
+//! values that would fit if they were narrowed.
 
 use second::session::session;
 
 /// A session in which every number is one byte, so that a number's place is
 /// also its index: T, R, B, C, a part of each kind, W and two events.
 const SESSION: &[u8] = &[
-    5, 2, 1, 7, // T, R, B, C
+    5, 2, 1, 8, // T, R, B, C
     0, 0, 2, // wire
     1, 0, 2, 0, // upper contact
     2, 0, 2, 0, // lower contact
@@ -15,6 +15,7 @@ const SESSION: &[u8] = &[
     4, 2, 1, 0, // regular winding
     5, 3, 1, 1, // drawing winding
     6, 4, 1, 1, // dropping winding
+    7, 0, // mark
     100, 1, 0, // W, a push and a release
 ];
 
@@ -29,14 +30,15 @@ const NUMBERS_FOR_NO: &[u8] = &[
     4, 5, 5, 7, // regular winding
     4, 5, 5, 7, // drawing winding
     4, 5, 5, 7, // dropping winding
+    4, 7, // mark
     0, 7, 7, // W, a push and a release
 ];
 
 /// The lines of the session, one each for W and the events.
-const LINES: [&str; 3] = ["0 idle 1 1\n", "1 idle 1 3\n", "2 idle 0 3\n"];
+const LINES: [&str; 3] = ["0 idle 0 1\n", "1 idle 1 3\n", "2 idle 0 3\n"];
 
 /// The place of W; the events come after it.
-const W: usize = 31;
+const W: usize = 33;
 
 /// Forms that are refused by 2. Each byte but the last has its top bit set.
 const REFUSED: &[&[u8]] = &[
@@ -193,6 +195,6 @@ fn w_is_not_narrowed() {
         let w = shortest(1 << power);
         assert_eq!(session(&replaced(W, &w)), LINES.concat());
     }
-    let undecided = "0 undecided 0 0\n1 undecided 0 0\n2 undecided 0 0\n";
+    let undecided = "0 undecided 0 1\n1 undecided 0 1\n2 undecided 0 1\n";
     assert_eq!(session(&replaced(W, &[0])), undecided);
 }

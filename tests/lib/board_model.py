@@ -5,8 +5,8 @@ so it is a check on slips and not the independent second program."""
 LONGEST_NUMBER, LARGEST = 5, 4_294_967_295  # most bytes of a number, and its largest value
 NARROW = (8, 16, 24, 31)  # bits to which a slip may narrow a number before it is held to its limit
 RANGES = ((2, 64), (0, 32), (0, 32), (0, 256))  # T, R, B, C
-BUTTON = 3
-LAST_KIND = 6
+BUTTON, MARK = 3, 7
+LAST_KIND = MARK
 
 
 class Refused(Exception):
@@ -43,7 +43,7 @@ def winding_taken(windings, kind):
 
 
 def read(data):
-    """The place just after the board at the start of the data."""
+    """The place just after the board that begins the data, and its start: the relays that it marks."""
     if len(data) > 65536:
         raise Refused(10, 0)
     at, counts = 0, []
@@ -54,35 +54,44 @@ def read(data):
         counts.append(value)
         at = after
     terminals, relays, buttons, parts = counts
-    windings = [set() for _ in range(relays)]
+    windings, marked = [set() for _ in range(relays)], set()
     for _ in range(parts):
-        at = read_part(data, at, terminals, relays, buttons, windings)
+        at = read_part(data, at, terminals, relays, buttons, windings, marked)
     if any(own not in ({4}, {5, 6}) for own in windings):
         raise Refused(9, at)
-    return at
+    return at, marked
 
 
-def read_part(data, at, terminals, relays, buttons, windings):
-    """The place just after the part at a place."""
-    kind, after = number_at(data, at)
-    if kind > LAST_KIND:
-        raise Refused(4, at)
+def read_ends(data, at, terminals):
+    """The place just after the two ends at a place."""
     ends = []
     for _ in range(2):
-        at = after
         end, after = number_at(data, at)
         if end >= terminals:
             raise Refused(5, at)
+        if end in ends:
+            raise Refused(6, at)
         ends.append(end)
-    if ends[0] == ends[1]:
-        raise Refused(6, at)
+        at = after
+    return at
+
+
+def read_part(data, at, terminals, relays, buttons, windings, marked):
+    """The place just after the part at a place. Its winding or its mark is added to those before it."""
+    kind, after = number_at(data, at)
+    if kind > LAST_KIND:
+        raise Refused(4, at)
+    at = after if kind == MARK else read_ends(data, after, terminals)
     if kind == 0:
-        return after
-    at = after
+        return at
     name, after = number_at(data, at)
     if name >= (buttons if kind == BUTTON else relays):
         raise Refused(7, at)
-    if kind >= 4:
+    if kind == MARK:
+        if name in marked:
+            raise Refused(17, at)
+        marked.add(name)
+    elif kind >= 4:
         if winding_taken(windings[name], kind):
             raise Refused(8, at)
         windings[name].add(kind)
@@ -90,6 +99,6 @@ def read_part(data, at, terminals, relays, buttons, windings):
 
 
 def file_of(counts, parts):
-    """The file of a board: T, R, B, C, then each part's numbers."""
+    """The file of a board: T, R, B, C, then each part's numbers. A mark is its kind and its relay."""
     numbers = list(counts) + [len(parts)] + [number for part in parts for number in part]
     return bytes(byte for number in numbers for byte in number_bytes(number))

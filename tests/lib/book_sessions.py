@@ -8,6 +8,9 @@ H4 = "05 01 00 04  00 00 02  00 02 03  00 04 02  04 03 04 00"
 H4_AND_WIRE = "05 01 00 05  00 00 02  00 02 03  00 04 02  04 03 04 00  00 02 01"
 H5 = "04 01 02 04  03 00 02 00  03 00 03 01  05 02 01 00  06 03 01 00"
 H6 = "03 01 00 03  00 00 02  00 02 01  04 02 01 00"
+H1_DRAWN = "03 01 01 03  03 00 02 00  04 02 01 00  07 00"
+H2_DRAWN = "03 01 01 04  03 00 02 00  01 00 02 00  04 02 01 00  07 00"
+H5_DRAWN = "04 01 02 05  03 00 02 00  03 00 03 01  05 02 01 00  06 03 01 00  07 00"
 
 TYPED = [
     ("H0", "02 00 00 00  00", ["0 idle 0 0"]),
@@ -64,6 +67,26 @@ TYPED = [
     ("H1 pushed, W 256", H1 + "80 02  01", ["0 idle 0 0", "1 idle 1 1"]),
     ("H1 pushed, W 2,147,483,648", H1 + "80 80 80 80 08  01", ["0 idle 0 0", "1 idle 1 1"]),
     ("H1 pushed, W 4,294,967,295", H1 + "ff ff ff ff 0f  01", ["0 idle 0 0", "1 idle 1 1"]),
+    ("H1 and a mark", H1_DRAWN + "64  01", ["0 idle 1 0", "1 idle 1 1"]),
+    ("H1 and a mark, W 0", H1_DRAWN + "00", ["0 undecided 0 1"]),
+    ("H1 and a mark before the winding", "03 01 01 03  03 00 02 00  07 00  04 02 01 00" + "64  01", ["0 idle 1 0", "1 idle 1 1"]),
+    ("H2 and a mark", H2_DRAWN + "64  01 00", ["0 idle 0 1", "1 idle 0 1", "2 idle 0 1"]),
+    ("H2 and a mark before all else", "03 01 01 04  07 00  03 00 02 00  01 00 02 00  04 02 01 00" + "64", ["0 idle 0 1"]),
+    ("H3 and a mark", "03 01 00 03  02 00 02 00  04 02 01 00  07 00" + "64", ["0 spent 4096 1"]),
+    ("H5 and a mark: steel", H5_DRAWN + "64  03 02 01", ["0 idle 0 1", "1 idle 1 0", "2 idle 0 0", "3 idle 1 1"]),
+    ("marks of two relays of three", "02 03 00 05  07 02  04 00 01 00  07 00  04 00 01 01  04 00 01 02" + "01", ["0 undecided 0 5"]),
+    ("a mark and no other part", "02 01 00 01  07 00" + "64", ["refused 9 6"]),
+    ("a mark that C does not count", "02 01 00 01  04 00 01 00  07 00", ["0 idle 1 1", "refused 7 9"]),
+    ("a mark that C counts and that is not there", "02 01 00 02  04 00 01 00" + "64", ["refused 4 8"]),
+    ("a mark cut before its relay", "02 01 00 02  04 00 01 00  07", ["refused 1 9"]),
+    ("a mark cut in its relay", "02 01 00 02  04 00 01 00  07 80", ["refused 1 10"]),
+    ("a mark whose relay is not shortest", "02 01 00 02  04 00 01 00  07 80 00" + "64", ["refused 2 9"]),
+    ("a mark of a relay that is not there", "02 01 00 02  04 00 01 00  07 01" + "64", ["refused 7 9"]),
+    ("a mark of relay 256", "02 01 00 02  04 00 01 00  07 80 02" + "64", ["refused 7 9"]),
+    ("a relay marked twice", "02 01 00 03  04 00 01 00  07 00  07 00" + "64", ["refused 17 11"]),
+    ("a relay marked twice and without a winding", "02 01 00 02  07 00  07 00" + "64", ["refused 17 7"]),
+    ("8 as a kind", "02 01 00 02  04 00 01 00  08 00" + "64", ["refused 4 8"]),
+    ("263 as a kind", "02 01 00 02  04 00 01 00  87 02 00" + "64", ["refused 4 8"]),
 ]
 
 

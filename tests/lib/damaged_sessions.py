@@ -1,12 +1,17 @@
-"""Damaged sessions for tests/sessions.py, as bytes: files that the lines 1 to 9 of the rule book's refusals are for, one or two
-in a file, changed bytes and random bytes. A function that makes a session takes the dice; tests/lib/session_sorts.py says of
-which sort it is."""
+"""Damaged sessions for tests/sessions.py, as bytes: files that the lines 1 to 9 and 17 of the rule book's refusals are for, one
+or two in a file, damaged marks, changed bytes and random bytes. A function that makes a session takes the dice;
+tests/lib/session_sorts.py says of which sort it is."""
 import board_files
 import judge_model
 import session_boards as boards
 import session_files
 from board_model import LARGEST, LONGEST_NUMBER, RANGES, number_bytes
-from session_files import BAD_TAILS, TOP, widened
+from session_files import BAD_TAILS, TOP, bad_form, top_bits, typed, widened
+
+
+def numbers(parts):
+    """The numbers of these parts."""
+    return [number for part in parts for number in part]
 
 
 class Draft:
@@ -20,8 +25,7 @@ class Draft:
 
     def data(self):
         """Its bytes."""
-        numbers = self.counts + [number for part in self.parts for number in part] + self.rest
-        forms = [number_bytes(number) for number in numbers]
+        forms = [number_bytes(number) for number in self.counts + numbers(self.parts) + self.rest]
         for share, tail in self.bad:
             form = forms[int(share * len(forms))]
             form[-1] |= TOP
@@ -29,10 +33,20 @@ class Draft:
         data = bytes(byte for form in forms for byte in form)
         return data[: int(self.kept * len(data))]
 
+    def insert(self, dice, part):
+        """Adds a part at any place among the others."""
+        self.parts.insert(dice.randint(0, len(self.parts)), part)
+        self.counts[3] += 1
+
+
+def with_ends(draft):
+    """The parts of a draft that join terminals: all but its marks."""
+    return [part for part in draft.parts if len(part) > 2]
+
 
 def windings(draft):
     """The parts of a draft that are windings."""
-    return [part for part in draft.parts if part[0] >= judge_model.REGULAR]
+    return [part for part in draft.parts if len(part) == 4 and part[0] >= judge_model.REGULAR]
 
 
 # Damages: each changes a draft so that its line of the rule book holds somewhere.
@@ -54,30 +68,35 @@ def count_outside(dice, draft):
 
 def no_such_kind(dice, draft):
     part = dice.choice(draft.parts)
-    part[0] = dice.choice([7, 8, 64, 127, 128, LARGEST, widened(dice, part[0])])
+    part[0] = dice.choice([8, 9, 64, 127, 128, LARGEST, widened(dice, part[0])])
 
 
 def no_such_terminal(dice, draft):
-    part, end = dice.choice(draft.parts), dice.choice([1, 2])
+    part, end = dice.choice(with_ends(draft)), dice.choice([1, 2])
     part[end] = dice.choice([draft.counts[0], draft.counts[0] + 1, 64, 128, LARGEST, widened(dice, part[end])])
 
 
 def equal_ends(dice, draft):
-    part = dice.choice(draft.parts)
+    part = dice.choice(with_ends(draft))
     part[2] = part[1]
 
 
 def no_such_name(dice, draft):
-    part = dice.choice([part for part in draft.parts if len(part) == 4])
+    part = dice.choice([part for part in draft.parts if part[0] != boards.WIRE])
     limit = draft.counts[2 if part[0] == judge_model.BUTTON else 1]
-    part[3] = dice.choice([limit, limit + 1, 32, 128, LARGEST, widened(dice, part[3])])
+    part[-1] = dice.choice([limit, limit + 1, 32, 128, LARGEST, widened(dice, part[-1])])
 
 
 def winding_too_many(dice, draft):
     part = list(dice.choice(windings(draft)))
     part[0] = dice.choice([4, 5, 6]) if part[0] == 4 else dice.choice([4, part[0]])
-    draft.parts.insert(dice.randint(0, len(draft.parts)), part)
-    draft.counts[3] += 1
+    draft.insert(dice, part)
+
+
+def marked_twice(dice, draft):
+    relay = dice.choice(windings(draft))[3]
+    for _ in range(2):
+        draft.insert(dice, [judge_model.MARK, relay])
 
 
 def winding_missing(dice, draft):
@@ -88,8 +107,9 @@ def winding_missing(dice, draft):
         draft.counts[3] -= 1
 
 
-# In the order of the rule book's lines.
-DAMAGES = [cut, badly_formed, count_outside, no_such_kind, no_such_terminal, equal_ends, no_such_name, winding_too_many, winding_missing]
+# By the rule book's lines, in their order for a file: 17 stands in the place of 8.
+DAMAGES = {1: cut, 2: badly_formed, 3: count_outside, 4: no_such_kind, 5: no_such_terminal, 6: equal_ends, 7: no_such_name}
+DAMAGES |= {8: winding_too_many, 17: marked_twice, 9: winding_missing}
 
 
 def fine_draft(dice):
@@ -108,17 +128,29 @@ def damaged_session(dice, damage):
 
 
 def twice_damaged_session(dice):
-    draft = fine_draft(dice)
-    for damage in sorted(dice.sample(DAMAGES, 2), key=DAMAGES.index):
-        damage(dice, draft)
+    draft, lines = fine_draft(dice), list(DAMAGES)
+    for line in sorted(dice.sample(lines, 2), key=lines.index):
+        DAMAGES[line](dice, draft)
     return draft.data()
+
+
+def damaged_mark_session(dice):
+    """A mark more among the parts, and what follows it or nothing more: of a relay that is there, perhaps marked already, or is
+    not; with ends as a contact has; in a bad form or cut."""
+    draft = fine_draft(dice)
+    draft.counts[3] += 1
+    at, relay = dice.randint(0, len(draft.parts)), dice.choice(windings(draft))[3]
+    fields = typed(dice.choice([[relay], [relay], [draft.counts[1]], [32], [LARGEST], [widened(dice, relay)], [0, 2, relay]]))
+    form = dice.choice([fields, fields, bad_form(dice), top_bits(dice, dice.randrange(LONGEST_NUMBER))])
+    behind = typed(numbers(draft.parts[at:]) + draft.rest)
+    return typed(draft.counts + numbers(draft.parts[:at]) + [judge_model.MARK]) + form + dice.choice([behind, b""])
 
 
 def ending_number_session(dice):
     """Ends with one to five bytes that have their top bit set: cut, or at the fifth a bad form."""
     draft = fine_draft(dice)
     cut(dice, draft)
-    return draft.data() + session_files.top_bits(dice, dice.randint(1, LONGEST_NUMBER))
+    return draft.data() + top_bits(dice, dice.randint(1, LONGEST_NUMBER))
 
 
 def changed_byte_session(dice):
@@ -129,7 +161,7 @@ def changed_byte_session(dice):
 
 def file_session(dice):
     """A board file of tests/board_files.py, fine or damaged, with a small allowance."""
-    return board_files.file_case(dice) + session_files.typed([dice.choice([0, 1, 2, 3])] + [dice.randrange(6) for _ in range(dice.randint(0, 3))])
+    return board_files.file_case(dice) + typed([dice.choice([0, 1, 2, 3])] + [dice.randrange(6) for _ in range(dice.randint(0, 3))])
 
 
 def random_session(dice):
@@ -140,5 +172,5 @@ def like_board_session(dice):
     """Random bytes behind the counts of a board, most of them small."""
     terminals = dice.randint(2, 5)
     counts = [terminals, dice.randint(0, 2), dice.randint(0, 2), dice.randint(0, 3)]
-    low = dice.choice([terminals, terminals, 7])
-    return session_files.typed(counts) + bytes(dice.randrange(dice.choice([low] * 19 + [256])) for _ in range(dice.randint(5, 20)))
+    low = dice.choice([terminals, terminals, 8])
+    return typed(counts) + bytes(dice.randrange(dice.choice([low] * 19 + [256])) for _ in range(dice.randint(5, 20)))

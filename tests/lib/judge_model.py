@@ -1,9 +1,10 @@
 """Judging a winding once more, in plain Python, after the rule book (docs/RULES.md), "Parts of a board", "Chains and
 current" and "Numbers for no". Its author had read the crates, so it is not the independent second program. A part is
-[kind, a, b] or [kind, a, b, relay or button]."""
+[kind, a, b] or [kind, a, b, relay or button], a mark [kind, relay]."""
 
 PLUS, MINUS = 0, 1
-UPPER, LOWER, BUTTON, REGULAR, DRAWING, DROPPING = 1, 2, 3, 4, 5, 6
+UPPER, LOWER, BUTTON, REGULAR, DRAWING, DROPPING, MARK = 1, 2, 3, 4, 5, 6, 7
+WINDINGS = (REGULAR, DRAWING, DROPPING)
 NO_SUCH_WINDING, STATE_BEYOND_BOARD = 11, 14
 
 
@@ -16,7 +17,12 @@ def conducts(part, drawn, pushed):
         return part[3] not in drawn
     if kind == BUTTON:
         return part[3] in pushed
-    return True
+    return kind != MARK
+
+
+def start(parts):
+    """The relays that start drawn: those that are marked."""
+    return {part[1] for part in parts if part[0] == MARK}
 
 
 def neighbours(terminals, parts, drawn, pushed):

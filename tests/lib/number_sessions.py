@@ -1,7 +1,7 @@
-"""Sessions for tests/sessions.py and tests/words.py that are H2 with one of its numbers typed otherwise: at each place, forms of
-one to five bytes at their edges, numbers that would fit if they were narrowed before they are held to their limit, and forms
-that are too large, too long, not shortest or cut. Whole, and cut at every byte. What each must print is worked out by the models
-beside this file."""
+"""Sessions for tests/sessions.py and tests/words.py that are H2 with one of its numbers typed otherwise, or H2 with a mark and one
+of the mark's numbers typed otherwise: at each place, forms of one to five bytes at their edges, numbers that would fit if they
+were narrowed before they are held to their limit, and forms that are too large, too long, not shortest or cut. Whole, and cut
+at every byte. What each must print is worked out by the models beside this file."""
 import board_model as model
 import run_model
 from board_model import LARGEST, LONGEST_NUMBER, NARROW, number_bytes
@@ -10,8 +10,10 @@ from running import total
 MOST_CHAINS = 10  # it has fewer
 COUNTS, PARTS = [3, 1, 1], [[3, 0, 2, 0], [1, 0, 2, 0], [4, 2, 1, 0]]
 H2 = run_model.Board(COUNTS, PARTS, MOST_CHAINS)
-NUMBERS = [*COUNTS, len(PARTS), *(number for part in PARTS for number in part), 100, 1, 0]  # W 100, a push and a release
+REST = [100, 1, 0]  # W 100, a push and a release
+NUMBERS = [*COUNTS, len(PARTS), *(number for part in PARTS for number in part)]
 NAMES = "T R B C kind a b button kind a b relay kind a b relay W event event".split()
+MARK = {"kind": model.MARK, "relay": 0}
 LOG = 4_096
 EDGES = [edge for groups in range(1, LONGEST_NUMBER + 1) for edge in (128**groups - 1, 128**groups)]
 EDGES += [2**31 - 1, 2**31, LARGEST, LARGEST + 1, LARGEST + 128**4]  # the last is ff ff ff ff 10
@@ -28,20 +30,31 @@ def forms(number):
     return [bytes(form) for form in found]
 
 
+def otherwise(numbers, at):
+    """The sessions of these numbers, each below 128, with the one at a place typed otherwise: each with what is typed."""
+    for form in forms(numbers[at]):
+        yield bytes(numbers[:at]) + form + bytes(numbers[at + 1 :]), form.hex(" ")
+
+
 def whole():
     """The sessions that are not cut, none twice: each with its name."""
-    typed, found = [bytes([number]) for number in NUMBERS], {}
-    for at, (name, number) in enumerate(zip(NAMES, NUMBERS)):
-        for form in forms(number):
-            found.setdefault(b"".join(typed[:at] + [form] + typed[at + 1 :]), f"H2, number {at}, {name}: {form.hex(' ')}")
+    found = {}
+    for at, name in enumerate(NAMES):
+        for data, form in otherwise(NUMBERS + REST, at):
+            found.setdefault(data, f"H2, number {at}, {name}: {form}")
+    marked = [*COUNTS, len(PARTS) + 1, *NUMBERS[4:], *MARK.values()]
+    for at, name in enumerate(MARK, len(NUMBERS)):
+        for data, form in otherwise(marked + REST, at):
+            found.setdefault(data, f"H2 with a mark, its {name}: {form}")
     return found
 
 
 def lines(data):
-    """The lines of a session whose board is that of H2 or is refused."""
-    found, drawn, pushed, event = [], set(), set(), None
+    """The lines of a session whose board is that of H2, with a mark or without, or is refused."""
+    found, pushed, event = [], set(), None
     try:
-        allowance, at = model.number_at(data, model.read(data))
+        at, drawn = model.read(data)
+        allowance, at = model.number_at(data, at)
         while True:
             if event is not None and event % 2 == (event // 2 in pushed):
                 found.append(f"{len(found)} refused 12")

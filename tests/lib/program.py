@@ -13,6 +13,7 @@ import repository
 PATIENCE = 120  # seconds that a run may take
 HANDED_BITS = 24  # of a number in a case for `run_cases`
 LARGEST_HANDED = 2**HANDED_BITS - 1
+START_BYTES = 5  # of the start of a board handed in
 TEXT_ROOM = 65_400  # a program of typed cases takes texts of fewer than 65,536 bytes
 SESSION_END = b".\n"  # of many sessions, the line after those of each
 
@@ -43,6 +44,12 @@ def command(name, stack=None):
     if emulator():
         return [emulator()] + (["-s", str(stack)] if stack else []) + start
     return ["sh", "-c", 'ulimit -s "$0" && exec "$@"', str(stack // 1024)] + start if stack else start
+
+
+def handed_board(counts, rows, start):
+    """The bytes of a board handed in: T R B, C as two bytes and the start as five, lowest first, then kind a b name of each
+    part. The start is given as a sum of 2 to each of its relays."""
+    return bytes(counts) + len(rows).to_bytes(2, "little") + start.to_bytes(START_BYTES, "little") + bytes(byte for row in rows for byte in row)
 
 
 def handed_case(numbers, board, ending):

@@ -1,12 +1,20 @@
 """Fine boards for the comparison of whole sessions in tests/sessions.py, each as its counts T, R, B and its parts: relays that
 feed each other, relays that buzz, relays that count, steel relays in conflict, every kind of part, many parallel parts, the
-most of everything, and boards with many chains. Built with the generators of tests/running.py and tests/judging.py."""
+most of everything, and boards with many chains; most of them with marks in half of the cases. Built with the generators of
+tests/running.py and tests/judging.py."""
 import judging
 import running
-from judge_model import BUTTON, DRAWING, DROPPING, LOWER, MINUS, PLUS, REGULAR, UPPER
+from judge_model import BUTTON, DRAWING, DROPPING, LOWER, MARK, MINUS, PLUS, REGULAR, UPPER
 
 WIRE = 0
 MOST_TERMINALS, MOST_RELAYS, MOST_BUTTONS, MOST_PARTS = 64, 32, 32, 256
+
+
+def marked(dice, board):
+    """A board with marks of some of its relays, in half of the cases none."""
+    counts, parts = board
+    parts = parts + judging.some_marks(dice, counts[1])
+    return counts, dice.sample(parts, len(parts))
 
 
 def feeding(dice):
@@ -41,12 +49,12 @@ def conflicting(dice):
 
 
 def every_kind(dice):
-    """A regular and a steel relay, with parts of all seven kinds."""
+    """A regular and a steel relay, with parts of all eight kinds."""
     regular, steel = dice.sample([0, 1], 2)
     feeds = [[BUTTON, 0], [UPPER, regular], [LOWER, steel], [WIRE], [BUTTON, 1], [dice.choice([UPPER, LOWER]), steel]]
     dice.shuffle(feeds)
     rows = [(REGULAR, regular, [feeds[:2]]), (DRAWING, steel, [feeds[2:4]]), (DROPPING, steel, [feeds[4:]])]
-    return running.wired(dice, 2, 2, rows)
+    return running.wired(dice, 2, 2, rows, [[MARK, relay] for relay in dice.sample([0, 1], dice.randint(1, 2))])
 
 
 def holding(dice):
@@ -112,11 +120,12 @@ def largest(dice):
     steel = dice.sample(order, dice.randint(1, 12))
     rows = [(kind, relay, []) for relay in order for kind in ([DRAWING, DROPPING] if relay in steel else [REGULAR])]
     between = MOST_TERMINALS - 2 - len(rows)  # terminals for ways of two switches
-    for number in range(MOST_PARTS - len(rows) - between):
+    marks = judging.some_marks(dice, MOST_RELAYS)
+    for number in range(MOST_PARTS - len(rows) - between - len(marks)):
         _, relay, ways = rows[number] if number < len(rows) else dice.choice(rows)
         earlier = order[: order.index(relay)]
         ways.append([earlier_switch(dice, earlier) for _ in range(2 if number < between else 1)])
-    return running.wired(dice, MOST_RELAYS, MOST_BUTTONS, rows)
+    return running.wired(dice, MOST_RELAYS, MOST_BUTTONS, rows, marks)
 
 
 def dense(dice, terminals):

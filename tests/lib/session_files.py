@@ -54,7 +54,7 @@ def some_allowance(dice):
 def pressed_states(own, events):
     """Runs a board from a fresh state and after each event, so that it knows the efforts of all states on the way. Whether
     every run comes to an end."""
-    drawn, pushed = set(), set()
+    drawn, pushed = judge_model.start(own.parts), set()
     for event in [None] + events:
         if event is not None:
             pushed ^= {event // 2}
@@ -81,7 +81,7 @@ def allowance_around(dice, board, events):
     found = efforts(board, events)
     if found:
         return dice.choice([max(0, dice.choice(found) + dice.choice([-1, 0, 1]))] * 5 + [LARGEST])
-    windings = sum(part[0] >= judge_model.REGULAR for part in board[1])
+    windings = sum(part[0] in judge_model.WINDINGS for part in board[1])
     affordable = MUCH_WORK // (max(windings, 1) * MOST_MOVES * (len(events) + 1))
     return dice.choice([affordable, dice.randint(0, affordable)])
 
@@ -97,7 +97,7 @@ def buzzing_session(dice):
 
 
 def counting_session(dice):
-    board = boards.counting(dice, dice.randint(2, 7), dice.randint(0, 3))
+    board = boards.marked(dice, boards.counting(dice, dice.randint(2, 7), dice.randint(0, 3)))
     events = some_presses(dice, board)
     return session(board, dice.choice([LARGEST, allowance_around(dice, board, events)]), events)
 
@@ -126,7 +126,7 @@ def effort_session(dice):
 
 def diamonds_session(dice):
     board, effort = boards.diamonds(dice, dice.randint(0, 11))
-    return session(board, max(0, effort + dice.choice([-1, 0, 1])), [])
+    return session(boards.marked(dice, board), max(0, effort + dice.choice([-1, 0, 1])), [])
 
 
 def crowded_session(dice):

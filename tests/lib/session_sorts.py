@@ -29,13 +29,14 @@ SORTS = {
     "an event in a bad form": (150, fine.bad_event_session),
     "an allowance cut or in a bad form": (100, fine.bad_allowance_session),
     "two damages": (400, damaged.twice_damaged_session),
+    "a damaged mark": (150, damaged.damaged_mark_session),
     "an end of top bits": (100, damaged.ending_number_session),
     "one byte changed": (200, damaged.changed_byte_session),
     "a board file with few numbers behind it": (150, damaged.file_session),
     "random bytes": (100, damaged.random_session),
     "random bytes behind counts": (200, damaged.like_board_session),
 }
-for line, damage in enumerate(DAMAGES, 1):
+for line, damage in DAMAGES.items():
     SORTS[f"damaged by line {line}: {damage.__name__.replace('_', ' ')}"] = (80, lambda dice, damage=damage: damaged.damaged_session(dice, damage))
 
 # The bytes of an event that is cut, in a bad form, or of a button that is not there.
@@ -50,10 +51,10 @@ FEW = {
     "65,536 bytes, nearly all events": (long_sessions.longest_session, boards.CALM),
     "65,536 bytes, half the events refused by 12": (long_sessions.doubles_session, [boards.holding]),
     "65,536 bytes, the last event bad": (long_sessions.bad_end_session, BAD_ENDS),
-    "65,536 bytes with a damaged board": (long_sessions.longest_bad_session, DAMAGES[1:]),
+    "65,536 bytes with a damaged board": (long_sessions.longest_bad_session, list(DAMAGES.values())[1:]),
     "65,536 random bytes": (long_sessions.random_session, [0] * 4),
     "65,537 bytes and more, nearly all events": (long_sessions.too_long_session, [1, 1, 2, 1_000]),
-    "65,537 bytes and more with a damaged board": (long_sessions.too_long_bad_session, DAMAGES[1:]),
+    "65,537 bytes and more with a damaged board": (long_sessions.too_long_bad_session, list(DAMAGES.values())[1:]),
     "65,537 bytes and more, random": (long_sessions.random_session, [1, 1, 2, 100_000]),
 }
 

@@ -1,7 +1,7 @@
 -- Laws of tests: both of two in a row hold exactly if their conjunction does, one of two exactly if their disjunction
 -- does, and a test goes one way or the other; so does the test of one number below another.
 use Prim.Native.Nat.{ℕ, _<_, _≤_}
-use mathlib.Core.Path.{_≡_, refl}
+use mathlib.Core.Path.{_≡_, refl, sym}
 use mathlib.Core.Logic.{_⊎_, inl, inr}
 use mathlib.Core.Bool.{Bool, true, false, _&&_, _||_, false≢true}
 use borrow.Author.Tests.{ltb-true, ltb-false}
@@ -30,3 +30,9 @@ by-test false on off = off refl
 
 pub by-less : {A : Type 0} (m n : ℕ) → (m < n → A) → (n ≤ m → A) → A
 by-less m n less more = by-test (ltb m n) (λ e. less (ltb-true m n e)) (λ e. more (ltb-false m n e))
+
+-- two tests of which each holds where the other does are one
+pub both-ways : (p q : Bool) → (p ≡ true → q ≡ true) → (q ≡ true → p ≡ true) → p ≡ q
+both-ways true q there back = sym (there refl)
+both-ways false true there back = back refl
+both-ways false false there back = refl

@@ -163,6 +163,17 @@ no-members =
     (λ none. refl)
     (λ s half none. omega (arith, half (λ n. sym (member-next s n) ∙ none (suc n)), member-clear s 0 (none 0)))
 
+-- sets with the same members are one number
+pub members-equal : (s t : ℕ) → ((n : ℕ) → member s n ≡ member t n) → s ≡ t
+members-equal =
+    bin-ind (λ (s : ℕ). (t : ℕ) → ((n : ℕ) → member s n ≡ member t n) → s ≡ t)
+    (λ t same. sym (no-members t (λ n. sym (same n) ∙ member-none n)))
+    (λ s half t same.
+    let halves = half (t / 2) (λ n. sym (member-next s n) ∙ same (suc n) ∙ member-next t n) in
+    by-test (member s 0)
+    (λ set. omega (arith, halves, member-set s 0 set, member-set t 0 (sym (same 0) ∙ set)))
+    (λ clear. omega (arith, halves, member-clear s 0 clear, member-clear t 0 (sym (same 0) ∙ clear))))
+
 -- ---- the width: every member is below k exactly if the number is below 2 ^ k
 
 pub member-beyond : (s k n : ℕ) → s < 2 ^ k → k ≤ n → member s n ≡ false

@@ -15,8 +15,8 @@
 --     SetLowestFrom s n r    promise: `lowest_from` of s and n answers r
 --     SetAllBelow s n r      promise: `all_below` of s and n answers r
 --     WideByte x r           promise: `wide` of the byte x answers r, which is below 256
--- The rule book's sets are the drawn relays, the pushed buttons and the windings that each relay has; its "sum of 2 to
--- the relay number over drawn relays" is such a set as a number.
+-- The rule book's sets are the drawn relays, the pushed buttons, the windings that each relay has, and the marked
+-- relays, which are a board's start; its "sum of 2 to the relay number over drawn relays" is such a set as a number.
 use Prim.Native.Nat.{ℕ, zero, suc, _+_, _-_, _/_, _%_, _^_, _<_}
 use mathlib.Core.Path.{_≡_}
 use mathlib.Core.Bool.{Bool, cond}

@@ -14,9 +14,9 @@ unfolding padded
 padded-first ps = filled-first mostParts blank ps
 
 -- a board whose count is right has these parts
-pub padded-parts : (c : Counts) (ps : List Part) → c .parts ≡ length ps
-    → partsOf (record { counts = c; parts = padded ps }) ≡ ps
-padded-parts c ps count = ap (λ (n : ℕ). take n (padded ps)) count ∙ padded-first ps
+pub padded-parts : (c : Counts) (ps : List Part) (s : ℕ) → c .parts ≡ length ps
+    → partsOf (record { counts = c; parts = padded ps; start = s }) ≡ ps
+padded-parts c ps s count = ap (λ (n : ℕ). take n (padded ps)) count ∙ padded-first ps
 
 pub padded-set : (ps : List Part) (p : Part) → length ps < mostParts
     → set (padded ps) (length ps) p ≡ padded (ps ++ (p ∷ []))

@@ -1,5 +1,5 @@
--- Laws of the rules behind refusals 3 to 9: what `countsFine` says as bounds, and a walk along a row of parts with the
--- windings so far.
+-- Laws of the rules behind refusals 3 to 9 and 17: what `countsFine` says as bounds, and a walk along a row of parts
+-- with the windings and marks so far.
 use Prim.Native.Nat.{ℕ, _+_, _≤_, _<_}
 use mathlib.Core.Path.{_≡_, refl, sym, ap, _∙_}
 use mathlib.Core.List.{List, [], _∷_, _++_}
@@ -35,7 +35,7 @@ counts-in-range c fine =
       most-parts = leb-true (c .parts) mostParts (both-true (leb 0 (c .parts)) _ (parts .1) .1);
     }
 
--- a row of parts after the windings so far, part by part
+-- a row of parts after the windings and marks so far, part by part
 module _ (c : Counts) (w : WoundSoFar) (p : Part) where
   row-off : (ps : List Part) → partFine c w p ≡ false → rowAfter c w (p ∷ ps) ≡ none
   unfolding partsFine rowAfter
@@ -49,14 +49,14 @@ row-end : (c : Counts) (w : WoundSoFar) → rowAfter c w [] ≡ some w
 unfolding gainedAll partsFine rowAfter
 row-end c w = refl
 
--- the windings once one more part has come
+-- the windings and marks once one more part has come
 pub gained-more : (w : WoundSoFar) (ps : List Part) (p : Part)
     → gainedAll w (ps ++ (p ∷ [])) ≡ gained (gainedAll w ps) (p .kind)
 unfolding gainedAll
 gained-more w [] p = refl
 gained-more w (q ∷ ps) p = gained-more (gained w (q .kind)) ps p
 
--- a row that is fine has its windings, and one that is not has none
+-- a row that is fine has its windings and marks, and one that is not has none
 pub row-fine : (c : Counts) (w v : WoundSoFar) (ps : List Part) → some v ≡ rowAfter c w ps
     → (partsFine c w ps ≡ true) × (v ≡ gainedAll w ps)
 unfolding rowAfter
@@ -74,7 +74,7 @@ row-broken c w ps h = by (partsFine c w ps) h
     by true e = absurd (Option·none-ne-some (gainedAll w ps) e)
     by false e = refl
 
--- a walk along the first n parts of l: at place i, `all` is what the parts from there on come to after the windings w
+-- a walk along the first n parts of l: at place i, `all` is what the parts from there on come to after w
 module _ (c : Counts) (w : WoundSoFar) (l : List Part) (n i : ℕ) (all : Option WoundSoFar) (long : n ≤ length l)
     (here : all ≡ rowAfter c w (drop i (take n l))) where
   pub row-walk-off : i < n → partFine c w (getD l i blank) ≡ false → none ≡ all

@@ -1,9 +1,9 @@
 -- Laws of the comparison of boards: a walk along their parts, or along the fields of two parts, and that boards
--- compare as the same exactly if their counts and first C parts are equal.
+-- compare as the same exactly if their counts are equal and their first C parts are, by kind and fields.
 use Prim.Native.Nat.{ℕ, suc, _+_, _<_, _≤_}
 use mathlib.Core.Path.{_≡_, refl, sym, ap, ap₂, _∙_}
 use mathlib.Core.Bool.{Bool, true, false, false≢true}
-use mathlib.Core.List.{List, [], _∷_}
+use mathlib.Core.List.{List, [], _∷_, map}
 use lib.Dec.{eqb}
 use lib.ListN.{length, getD, take, drop}
 use lib.Seq.{take-all, length-take-le}
@@ -16,9 +16,10 @@ use Rattle.board.specs.declared.Part.{Part}
 use Rattle.board.specs.declared.Board.{Board}
 use Rattle.board.specs.Parts.{fieldsOf, partsOf, mostParts}
 use Rattle.board.specs.Same.{sameCounts, alike, samePart, sameParts, sameBoard}
+use Rattle.board.specs.SameExactly.{compared, Same}
 use Rattle.lists.proofs.FirstLaws.{first-from, first-past}
 use Rattle.bits.proofs.BoolLaws.{both-true, true-both, by-test}
-use Rattle.kinds.proofs.KindLaws.{fields-few, in-places-first, fields-injective}
+use Rattle.kinds.proofs.KindLaws.{fields-few, in-places-first, fields-kind}
 
 -- ---- members compared one by one
 
@@ -43,20 +44,26 @@ module _ {A : Type 0} (same : A → A → Bool) where
   alike-long (x ∷ xs) [] on = absurd (false≢true on)
   alike-long (x ∷ xs) (y ∷ ys) on = ap suc (alike-long xs ys (both-true (same x y) (alike same xs ys) on .1))
 
-  -- where the test says that two members are equal, so are all; and where it holds of any member and itself
-  alike-equal : ((x y : A) → same x y ≡ true → x ≡ y) → (xs ys : List A) → alike same xs ys ≡ true → xs ≡ ys
-  unfolding alike
-  alike-equal equal [] [] on = refl
-  alike-equal equal [] (y ∷ ys) on = absurd (false≢true on)
-  alike-equal equal (x ∷ xs) [] on = absurd (false≢true on)
-  alike-equal equal (x ∷ xs) (y ∷ ys) on =
-      let both = both-true (same x y) (alike same xs ys) on in
-      ap₂ _∷_ (equal x y (both .0)) (alike-equal equal xs ys (both .1))
+  -- where the test says that two members are alike by f, so are all; and back
+  module _ {B : Type 0} (f : A → B) where
+    alike-equal : ((x y : A) → same x y ≡ true → f x ≡ f y) → (xs ys : List A) → alike same xs ys ≡ true
+        → map f xs ≡ map f ys
+    unfolding alike
+    alike-equal equal [] [] on = refl
+    alike-equal equal [] (y ∷ ys) on = absurd (false≢true on)
+    alike-equal equal (x ∷ xs) [] on = absurd (false≢true on)
+    alike-equal equal (x ∷ xs) (y ∷ ys) on =
+        let both = both-true (same x y) (alike same xs ys) on in
+        ap₂ _∷_ (equal x y (both .0)) (alike-equal equal xs ys (both .1))
 
-  alike-self : ((x : A) → same x x ≡ true) → (xs : List A) → alike same xs xs ≡ true
-  unfolding alike
-  alike-self self [] = refl
-  alike-self self (x ∷ xs) = true-both (self x) (alike-self self xs)
+    equal-alike : ((x y : A) → f x ≡ f y → same x y ≡ true) → (xs ys : List A) → map f xs ≡ map f ys
+        → alike same xs ys ≡ true
+    unfolding alike
+    equal-alike test [] [] equal = refl
+    equal-alike test [] (y ∷ ys) equal = absurd (omega (arith, ap length equal))
+    equal-alike test (x ∷ xs) [] equal = absurd (omega (arith, ap length equal))
+    equal-alike test (x ∷ xs) (y ∷ ys) equal =
+        true-both (test x y (ap (λ (l : List B). getD l 0 (f x)) equal)) (equal-alike test xs ys (ap (drop 1) equal))
 
   -- a walk along the first n members of l and m: at place i, `all` is what those from there on come to
   module _ (d : A) (l m : List A) (n i : ℕ) (all : Bool) (long : n ≤ length l) (longer : n ≤ length m)
@@ -150,16 +157,33 @@ module _ (p q : Part) where
 pub fields-room : (p : Part) {x : Fields} → x ≡ inPlaces (fieldsOf p) → x .count ≤ mostFields
 fields-room p is = rw is (fields-few (p .kind) (p .a) (p .b))
 
--- what compares as the same is equal, and a thing compares as the same as itself
-parts-equal : (p q : Part) → samePart p q ≡ true → p ≡ q
+-- what compares as the same is equal in what it is compared by, and back
+map-id : (vs : List ℕ) → map (λ (v : ℕ). v) vs ≡ vs
+map-id [] = refl
+map-id (v ∷ vs) = ap (λ (ws : List ℕ). v ∷ ws) (map-id vs)
+
+fields-equal : (vs ws : List ℕ) → alike eqb vs ws ≡ true → vs ≡ ws
+fields-equal vs ws on = sym (map-id vs) ∙ alike-equal eqb (λ (v : ℕ). v) eqb-true vs ws on ∙ map-id ws
+
+equal-fields : (vs ws : List ℕ) → vs ≡ ws → alike eqb vs ws ≡ true
+equal-fields vs ws equal = equal-alike eqb (λ (v : ℕ). v) eq-eqb vs ws (ap (map (λ (v : ℕ). v)) equal)
+
+part-compared : (p q : Part) → samePart p q ≡ true → compared p ≡ compared q
 unfolding samePart
-parts-equal p q same =
+part-compared p q same =
     let both = both-true _ _ same in
-    let is =
-    fields-injective (p .kind) (q .kind) (p .a) (p .b) (q .a) (q .b)
-    (eqb-true (kindNumber (p .kind)) (kindNumber (q .kind)) (both .0))
-    (alike-equal eqb eqb-true (fieldsOf p) (fieldsOf q) (both .1)) in
-    λ i. record { a = is .1 i; b = is .2 i; kind = is .0 i }
+    let fields = fields-equal (fieldsOf p) (fieldsOf q) (both .1) in
+    let kind =
+    fields-kind (p .kind) (q .kind) (p .a) (p .b) (q .a) (q .b)
+    (eqb-true (kindNumber (p .kind)) (kindNumber (q .kind)) (both .0)) fields in
+    λ i. (kind i, fields i)
+
+compared-part : (p q : Part) → compared p ≡ compared q → samePart p q ≡ true
+unfolding samePart
+compared-part p q equal =
+    true-both
+    (eq-eqb (kindNumber (p .kind)) (kindNumber (q .kind)) (λ i. kindNumber (equal i .0)))
+    (equal-fields (fieldsOf p) (fieldsOf q) (λ i. equal i .1))
 
 eqb-self : (n : ℕ) → eqb n n ≡ true
 eqb-self n = eq-eqb n n refl
@@ -168,19 +192,17 @@ counts-self : (c : Counts) → sameCounts c c ≡ true
 unfolding sameCounts
 counts-self c = simp eqb-self
 
-part-self : (p : Part) → samePart p p ≡ true
-unfolding samePart
-part-self p = true-both (eqb-self (kindNumber (p .kind))) (alike-self eqb eqb-self (fieldsOf p))
-
-pub same-board-equal : (x y : Board) → sameBoard x y ≡ true → (x .counts ≡ y .counts) × (partsOf x ≡ partsOf y)
+pub same-board-equal : (x y : Board) → sameBoard x y ≡ true → Same x y
 unfolding sameBoard
 same-board-equal x y same =
-    let both = both-true _ _ same in
-    (counts-equal (x .counts) (y .counts) (both .0), alike-equal samePart parts-equal (partsOf x) (partsOf y) (both .1))
+    let both = both-true _ _ same in (
+      counts-equal (x .counts) (y .counts) (both .0),
+      alike-equal samePart compared part-compared (partsOf x) (partsOf y) (both .1),
+    )
 
-pub equal-same-board : (x y : Board) → x .counts ≡ y .counts → partsOf x ≡ partsOf y → sameBoard x y ≡ true
+pub equal-same-board : (x y : Board) → Same x y → sameBoard x y ≡ true
 unfolding sameBoard
-equal-same-board x y counts parts =
+equal-same-board x y same =
     true-both
-    (ap (sameCounts (x .counts)) (sym counts) ∙ counts-self (x .counts))
-    (ap (sameParts (partsOf x)) (sym parts) ∙ alike-self samePart part-self (partsOf x))
+    (ap (sameCounts (x .counts)) (sym (same .0)) ∙ counts-self (x .counts))
+    (equal-alike samePart compared compared-part (partsOf x) (partsOf y) (same .1))

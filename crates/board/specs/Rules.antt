@@ -1,5 +1,5 @@
--- The rules behind refusals 3 to 9, one test each, and all of them together on a board. The reader of board files goes
--- by the same tests, each where its field comes.
+-- The rules behind refusals 3 to 9 and 17, one test each, and all of them together on a board. The reader of board
+-- files goes by the same tests, each where its field comes.
 --     leastTerminals, mostTerminals    the range of T
 --     mostRelays, mostButtons          the most that R and B can be
 --     inRange low high x               x is from low to high, both among them
@@ -8,18 +8,20 @@
 --     endsFine a b                     6: the two ends differ
 --     limitOf c k                      what a name carried by a kind of number k must be below: B for a button, else R
 --     nameFine c k                     7: the relay or button that kind k carries is below R or B
+--     endsFit c p                      5 and 6 of the part p; a mark "joins nothing" and passes
 --     partFits c p                     5 to 7 of the part p, on which no other part bears
---     partFine c w p                   5 to 8 of the part p after parts that gave the windings w
---     gainedAll w ps                   the windings once the parts ps have come too
---     partsFine c w ps                 5 to 8 of each of the parts ps after parts that gave the windings w
---     rowAfter c w ps                  the windings after the parts ps, where they are fine after the windings w
+--     partFine c w p                   5 to 8 and 17 of the part p after parts that gave the windings and marks w
+--     gainedAll w ps                   the windings and marks once the parts ps have come too
+--     partsFine c w ps                 5 to 8 and 17 of each of the parts ps after parts that gave w
+--     startOf ps                       the start that the marks among the parts ps give: the relays that they name
 --     allWound c ps                    9: after the parts ps no relay lacks a winding. It is asked once, after the last
 --                                      part
---     boardFine b                      a board breaks no rule of refusals 3 to 9: 15 does not hold
+--     boardFine b                      a board breaks no rule of refusals 3 to 9 and 17, and "the board record carries
+--                                      the start its marks give" (request A2): 15 does not hold
 --     NameLimit c k r                  promise: `limit` of a kind of number k answers r
 --     Checks b r                       promise: `check` of board b answers r
 -- What the functions of this crate promise each other:
---     rowAfter c w ps                  the windings after the parts ps, if 5 to 8 hold of none of them
+--     rowAfter c w ps                  the windings and marks after the parts ps, if 5 to 8 and 17 hold of none of them
 --     toldRow                          the cases of a row that was checked, as `rowAfter` has them
 use Prim.Native.Nat.{ℕ}
 use mathlib.Core.Path.{_≡_}
@@ -30,13 +32,13 @@ use lib.Dec.{ltb, leb, eqb}
 use Rattle.kinds.specs.declared.Kind.{Kind}
 use Rattle.windings.specs.declared.WoundSoFar.{WoundSoFar}
 use Rattle.kinds.specs.Kinds.{kindNumber, nameOf, wireKind, buttonKind}
-use Rattle.windings.specs.Windings.{noneWound, windingFree, gained, complete}
+use Rattle.windings.specs.Windings.{noneWound, windingFree, unmarked, gained, complete}
 use Rattle.board.specs.declared.Part.{Part}
 use Rattle.board.specs.declared.Counts.{Counts}
 use Rattle.board.specs.declared.Board.{Board}
 use Rattle.board.specs.declared.RowChecked.{RowChecked}
 use Rattle.board.specs.declared.RowChecked.the-variants.{Fine, Broken}
-use Rattle.board.specs.Parts.{partsOf, mostParts}
+use Rattle.board.specs.Parts.{isMark, partsOf, mostParts}
 
 abbrev pub leastTerminals : ℕ
 leastTerminals = 2
@@ -72,11 +74,14 @@ limitOf c k = cond (eqb k buttonKind) (c .buttons) (c .relays)
 unfoldable pub nameFine : Counts → Kind → Bool
 nameFine c k = eqb (kindNumber k) wireKind || ltb (nameOf k) (limitOf c (kindNumber k))
 
+unfoldable pub endsFit : Counts → Part → Bool
+endsFit c p = isMark p || terminalFine c (p .a) && terminalFine c (p .b) && endsFine (p .a) (p .b)
+
 unfoldable pub partFits : Counts → Part → Bool
-partFits c p = terminalFine c (p .a) && terminalFine c (p .b) && endsFine (p .a) (p .b) && nameFine c (p .kind)
+partFits c p = endsFit c p && nameFine c (p .kind)
 
 unfoldable pub partFine : Counts → WoundSoFar → Part → Bool
-partFine c w p = partFits c p && windingFree w (p .kind)
+partFine c w p = partFits c p && windingFree w (p .kind) && unmarked w (p .kind)
 
 unfoldable pub gainedAll : WoundSoFar → List Part → WoundSoFar
 gainedAll w [] = w
@@ -86,8 +91,8 @@ unfoldable pub partsFine : Counts → WoundSoFar → List Part → Bool
 partsFine c w [] = true
 partsFine c w (p ∷ ps) = partFine c w p && partsFine c (gained w (p .kind)) ps
 
-unfoldable pub rowAfter : Counts → WoundSoFar → List Part → Option WoundSoFar
-rowAfter c w ps = cond (partsFine c w ps) (some (gainedAll w ps)) none
+abbrev pub startOf : List Part → ℕ
+startOf ps = gainedAll noneWound ps .marked
 
 abbrev pub allWound : Counts → List Part → Bool
 allWound c ps = complete (c .relays) (gainedAll noneWound ps)
@@ -95,13 +100,17 @@ allWound c ps = complete (c .relays) (gainedAll noneWound ps)
 unfoldable pub boardFine : Board → Bool
 boardFine b =
     countsFine (b .counts) && partsFine (b .counts) noneWound (partsOf b) && allWound (b .counts) (partsOf b)
-
-abbrev pub toldRow : RowChecked → Option WoundSoFar
-toldRow (Fine w) = some w
-toldRow Broken = none
+    && eqb (b .start) (startOf (partsOf b))
 
 abbrev pub NameLimit : Counts → ℕ → ℕ → Type 0
 NameLimit c k r = r ≡ limitOf c k
 
 abbrev pub Checks : Board → Bool → Type 0
 Checks b r = r ≡ boardFine b
+
+unfoldable pub rowAfter : Counts → WoundSoFar → List Part → Option WoundSoFar
+rowAfter c w ps = cond (partsFine c w ps) (some (gainedAll w ps)) none
+
+abbrev pub toldRow : RowChecked → Option WoundSoFar
+toldRow (Fine w) = some w
+toldRow Broken = none

@@ -1,5 +1,6 @@
 -- When two boards are the same. Rule book: "Boards are compared by their counts and first C parts, each part by its
--- kind and the fields the table gives it."
+-- kind and the fields the table gives it." Since the table gives a mark its relay and no ends, it is "compared by its
+-- relay alone" (request A2); and the start is what the marks give.
 --     sameCounts          the same counts, field by field
 --     alike same xs ys    the members of xs and ys are the same one by one, by the test `same`
 --     samePart            the same part, by its kind and its fields

@@ -1,12 +1,13 @@
-// Parts and boards, and the rules behind refusals 3 to 9: the reader of board files uses them one by one, and `check`
-// all together on a board handed in (15).
+// Parts and boards, and the rules behind refusals 3 to 9 and 17: the reader of board files uses them one by one, and
+// `check` all together on a board handed in (15).
 ghost use mathlib.Core.Path.{_≡_};
 ghost use Prim.Native.Nat.{_≤_};
 ghost use lib.ListN.{take};
 ghost use lib.Dec.{eqb};
 ghost use Rattle.kinds.specs.Kinds.{mostFields};
 ghost use Rattle.board.specs.Parts.{mostParts, BlankPart, EmptyBoard};
-ghost use Rattle.board.specs.Rules.{nameFine, countsFine, partFine, rowAfter, toldRow, NameLimit, Checks};
+ghost use Rattle.board.specs.Rules.{nameFine, countsFine, endsFit, partFine, rowAfter, toldRow};
+ghost use Rattle.board.specs.Rules.{NameLimit, Checks};
 ghost use Rattle.board.specs.Same.{sameCounts, alike, samePart, sameParts, SameBoards};
 use kinds::Fields;
 use kinds::Kind;
@@ -23,7 +24,7 @@ pub const MOST_BUTTONS: u8 = 32;
 
 pub const MOST_PARTS: usize = 256;
 
-// A part joins the terminals a and b.
+// A part joins the terminals a and b; what a mark has there means nothing.
 pub struct Part {
     pub a: u8,
     pub b: u8,
@@ -38,13 +39,14 @@ pub struct Counts {
     pub parts: usize,
 }
 
-// A board: its counts, and its parts in the first C places.
+// A board: its counts, its parts in the first C places, and the set of relays that they mark, which start drawn.
 pub struct Board {
     pub counts: Counts,
     pub parts: [Part; 256],
+    pub start: u64,
 }
 
-// What checking a row of parts came to: the windings after it, or that one of its parts breaks a rule.
+// What checking a row of parts came to: the windings and marks after it, or that one of its parts breaks a rule.
 enum RowChecked {
     Fine(WoundSoFar),
     Broken,
@@ -84,7 +86,11 @@ pub fn empty() -> Board
         parts: 0,
     };
     let parts = [filler; 256];
-    Board { counts, parts }
+    Board {
+        counts,
+        parts,
+        start: 0,
+    }
 }
 
 // Whether a kind's relay or button is there (7).
@@ -117,28 +123,42 @@ fn counts_fine(counts: Counts) -> bool
     counts.parts <= MOST_PARTS
 }
 
-// Whether a part breaks none of 5 to 8 after parts that gave these windings.
-fn part_fine(counts: Counts, windings: WoundSoFar, part: Part) -> bool
-    ensures { λ r. ⌜ r ≡ partFine counts windings part ⌝ }
+// Whether the ends of a part break none of 5 and 6; a mark has no ends.
+fn ends_fit(counts: Counts, part: Part) -> bool
+    ensures { λ r. ⌜ r ≡ endsFit counts part ⌝ }
 {
+    let kind = part.kind;
+    if kind.number() == kinds::MARK_KIND {
+        return true;
+    }
     if counts.terminals <= part.a {
         return false;
     }
     if counts.terminals <= part.b {
         return false;
     }
-    if part.a == part.b {
+    part.a != part.b
+}
+
+// Whether a part breaks none of 5 to 8 and 17 after parts that gave these windings and marks.
+fn part_fine(counts: Counts, windings: WoundSoFar, part: Part) -> bool
+    ensures { λ r. ⌜ r ≡ partFine counts windings part ⌝ }
+{
+    if !ends_fit(counts, part) {
         return false;
     }
     let kind = part.kind;
-    if names_one(counts, kind) {
-        windings.free(kind)
-    } else {
-        false
+    if !names_one(counts, kind) {
+        return false;
     }
+    if !windings.free(kind) {
+        return false;
+    }
+    windings.unmarked(kind)
 }
 
-// The windings after the first C parts, which come after parts that gave these windings, if each breaks none of 5 to 8.
+// The windings and marks after the first C parts, which come after parts that gave these, if each breaks none of 5 to 8
+// and 17.
 fn row_after(parts: [Part; 256], counts: Counts, windings: WoundSoFar) -> RowChecked
     requires { ⌜ counts .parts ≤ mostParts ⌝ }
     ensures { λ r. ⌜ toldRow r ≡ rowAfter counts windings (take (counts .parts) parts) ⌝ }
@@ -158,7 +178,8 @@ fn row_after(parts: [Part; 256], counts: Counts, windings: WoundSoFar) -> RowChe
     RowChecked::Fine(after)
 }
 
-// Whether a board breaks none of the rules behind refusals 3 to 9; one that does is refused by 15.
+// Whether a board breaks none of the rules behind refusals 3 to 9 and 17, and carries the start that its marks give;
+// one that does not is refused by 15.
 pub fn check(board: Board) -> bool
     ensures { λ r. ⌜ Checks board r ⌝ }
 {
@@ -171,7 +192,10 @@ pub fn check(board: Board) -> bool
     let RowChecked::Fine(windings) = row else {
         return false;
     };
-    windings.complete(counts.relays)
+    if !windings.complete(counts.relays) {
+        return false;
+    }
+    board.start == windings.marked
 }
 
 // Whether two boards' counts are the same.

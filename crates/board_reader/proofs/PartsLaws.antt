@@ -54,8 +54,8 @@ parts-done : (e : Edition) (c : Counts) (w : WoundSoFar) (s : List ℕ) (at : �
 unfolding partsAt
 parts-done e c w s at = refl
 
--- all the parts are those read so far, which fill the array and give the windings w after w₀, and then those from `at`
--- on after the windings w
+-- all the parts are those read so far, which fill the array and give the windings and marks w after w₀, and then those
+-- from `at` on after w
 pub record Walk (e : Edition) (c : Counts) (s : List ℕ) (start : ℕ) (w₀ : WoundSoFar) (parts : List Part)
     (w : WoundSoFar) (at i : ℕ) : Type 0 where
   pub so-far : List Part
@@ -183,9 +183,11 @@ module _ (c : Counts) (o : Outcome (Found (List Part))) where
         rw (read .read, lacks)
 
     pub board-found : complete (c .relays) w ≡ true
-        → _≡_ {A = Board × Outcome ℕ} (record { counts = c; parts = parts }, given next) (answered (boardFrom c o))
+        → _≡_ {A = Board × Outcome ℕ} (record { counts = c; parts = parts; start = w .marked }, given next)
+        (answered (boardFrom c o))
     unfolding boardFrom answered
     board-found full =
         let whole : complete (c .relays) (gainedAll noneWound (read .row)) ≡ true =
         ap (complete (c .relays)) (sym (read .after)) ∙ full in
-        rw (read .read, whole) (λ i. (record { counts = c; parts = read .array i }, given next))
+        rw (read .read, whole)
+        (λ i. (record { counts = c; parts = read .array i; start = read .after i .marked }, given next))

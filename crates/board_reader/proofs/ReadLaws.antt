@@ -18,7 +18,7 @@ use Rattle.board.specs.Parts.{emptyBoard}
 use Rattle.board_reader.specs.Editions.{Edition}
 use Rattle.board_reader.specs.Reading.{countsAt, partsAt, boardFrom, boardAt, longestInput, answered, reading}
 use Rattle.board_reader.specs.Steps.{rowFrom}
-use Rattle.refusals.proofs.OutcomeLaws.{refused-never}
+use Rattle.refusals.proofs.OutcomeLaws.{refused-never, given-injective}
 use Rattle.board_reader.proofs.PartsLaws.{RowFound, row-stopped, row-went, board-refused, board-lacking}
 use Rattle.board_reader.proofs.PartsLaws.{board-found}
 
@@ -53,7 +53,7 @@ module _ (e : Edition) (s : List ℕ) where
       let went : boardFrom c (partsAt e c (c .parts) noneWound s at) ≡ boardAt e s = rw h in
       ap answered went ∙ reading-board short
 
-  -- the row of parts after the counts, with the windings w before it, and then 9
+  -- the row of parts after the counts, with the windings and marks w before it, and then 9
   module _ (c : Counts) (at : ℕ) (short : length s ≤ longestInput) (counts : countsAt e s ≡ found c at)
       {w : WoundSoFar} (begins : w ≡ noneWound) where
     pub row-refused : (k p : ℕ) → rowFrom w (partsAt e c (c .parts) w s at) ≡ refused k p
@@ -74,12 +74,19 @@ module _ (e : Edition) (s : List ℕ) where
           ∙ reading-went c at short counts
 
       pub row-found : complete (c .relays) w′ ≡ true
-          → _≡_ {A = Board × Outcome ℕ} (record { counts = c; parts = parts }, given next) (reading e s)
+          → _≡_ {A = Board × Outcome ℕ} (record { counts = c; parts = parts; start = w′ .marked }, given next)
+          (reading e s)
       row-found full =
           board-found c (partsAt e c (c .parts) noneWound s at) parts w′ next read full
           ∙ reading-went c at short counts
 
--- an answer is refused as what was read is, and a refused read returns the empty board
+-- an answer gives what was read, and is refused as that is; and a refused read returns the empty board
+pub answered-given : (o : Outcome (Found Board)) (b : Board) (n : ℕ) → answered o ≡ (b, given n) → o ≡ found b n
+unfolding answered
+answered-given (given f) b n e =
+    let place = given-injective (f .next) n (λ i. e i .1) in λ i. found (e i .0) (place i)
+answered-given (refused k p) b n e = absurd (refused-never k p n (λ i. e i .1))
+
 pub answered-refused : (o : Outcome (Found Board)) (k p : ℕ) → answered o .1 ≡ refused k p → o ≡ refused k p
 unfolding answered
 answered-refused (given f) k p e = absurd (refused-never k p (f .next) (sym e))

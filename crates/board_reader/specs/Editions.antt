@@ -3,6 +3,8 @@
 --     Edition             what an edition says of a file: `width`, how wide its numbers are, and `lastKind`, the
 --                         highest kind number that it has
 --     threeByteEdition    the rule book before request A1: numbers of at most three bytes, kinds 0 to 6
+--     firstEdition        the rule book before request A2, which makes the second edition of it: numbers as today,
+--                         kinds 0 to 6
 --     currentEdition      the rule book as it stands
 use Prim.Native.Nat.{ℕ}
 use Rattle.number.specs.Numbers.{Width, threeBytes, currentWidth}
@@ -13,7 +15,10 @@ pub record Edition : Type 0 where
   pub lastKind : ℕ
 
 abbrev pub threeByteEdition : Edition
-threeByteEdition = record { width = threeBytes; lastKind = 6 }
+threeByteEdition = record { width = threeBytes; lastKind = kinds.droppingKind }
+
+abbrev pub firstEdition : Edition
+firstEdition = record { width = currentWidth; lastKind = kinds.droppingKind }
 
 abbrev pub currentEdition : Edition
 currentEdition = record { width = currentWidth; lastKind = kinds.lastKind }

@@ -2,10 +2,11 @@
 -- as an outcome.
 --     foundAt a o                     the thing a, which ends where o says; a refusal leaves a aside
 --     placeOf o                       where a thing that was read ends
---     rowFrom w o                     the parts that were read, in their places, and the windings after them, where the
---                                     parts before them gave the windings w
+--     rowFrom w o                     the parts that were read, in their places, and the windings and marks after them,
+--                                     where the parts before them gave w
+--     toldEndsRead                    what was read of a part's ends, as an outcome
 --     toldPartRead, toldCountsRead    what was read of a part, and of the counts, as an outcome
---     toldRowRead                     what was read of a row of parts, with the windings after it
+--     toldRowRead                     what was read of a row of parts, with the windings and marks after it
 use Prim.Native.Nat.{ℕ}
 use mathlib.Core.List.{List}
 use Rattle.refusals.specs.Outcomes.{Outcome, given, refused, Found, found, _>>=_}
@@ -15,6 +16,7 @@ use Rattle.board.specs.declared.Counts.{Counts}
 use Rattle.board.specs.Parts.{padded}
 use Rattle.board.specs.Rules.{gainedAll}
 use Rattle.board_reader.specs.Reading.{toldReadAnswer}
+use Rattle.board_reader.specs.declared.parts.EndsRead.{EndsRead}
 use Rattle.board_reader.specs.declared.parts.PartRead.{PartRead}
 use Rattle.board_reader.specs.declared.parts.RowRead.{RowRead}
 use Rattle.board_reader.specs.declared.counts.CountsRead.{CountsRead}
@@ -31,6 +33,9 @@ unfoldable pub rowFrom : WoundSoFar → Outcome (Found (List Part)) → Outcome 
 rowFrom w o = do
   ps ← o
   found (padded (ps .value), gainedAll w (ps .value)) (ps .next)
+
+abbrev pub toldEndsRead : EndsRead → Outcome (Found (ℕ × ℕ))
+toldEndsRead r = foundAt (r .a, r .b) (toldReadAnswer (r .answer))
 
 abbrev pub toldPartRead : PartRead → Outcome (Found Part)
 toldPartRead r = foundAt (r .part) (toldReadAnswer (r .answer))

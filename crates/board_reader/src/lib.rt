@@ -58,8 +58,13 @@ pub fn read(s: &[u8]) -> BoardRead
         return no_board(fields::refuse(refusals::WINDING_LACKING, next));
     }
     let parts = row.parts;
+    let board = Board {
+        counts,
+        parts,
+        start: windings.marked,
+    };
     BoardRead {
-        board: Board { counts, parts },
+        board,
         answer: ReadAnswer::Read(next),
     }
 }

@@ -13,8 +13,15 @@ ghost use Rattle.refusals.specs.Refusals.{noSuchTerminal};
 ghost use Rattle.board.specs.Parts.{mostParts};
 ghost use Rattle.board.specs.Rules.{terminalFine};
 ghost use Rattle.board_reader.specs.Editions.{currentEdition};
-ghost use Rattle.board_reader.specs.Reading.{wanted, nameAt, partAt, partsAt, toldReadAnswer};
-ghost use Rattle.board_reader.specs.Steps.{placeOf, rowFrom, toldPartRead, toldRowRead};
+ghost use Rattle.board_reader.specs.Reading.{wanted, nameAt, endsAt, partAt, partsAt, toldReadAnswer};
+ghost use Rattle.board_reader.specs.Steps.{placeOf, rowFrom, toldEndsRead, toldPartRead, toldRowRead};
+
+// The ends that were read, where the answer is no refusal. Those of a mark, which has none, are 0.
+pub struct EndsRead {
+    pub a: u8,
+    pub b: u8,
+    pub answer: ReadAnswer,
+}
 
 // The part that was read, where the answer is no refusal.
 pub struct PartRead {
@@ -22,11 +29,18 @@ pub struct PartRead {
     pub answer: ReadAnswer,
 }
 
-// A row of parts that was read, and the windings after it, where the answer is no refusal.
+// A row of parts that was read, and the windings and marks after it, where the answer is no refusal.
 pub struct RowRead {
     pub parts: [Part; 256],
     pub windings: WoundSoFar,
     pub answer: ReadAnswer,
+}
+
+// Refused ends, or those of a mark.
+fn no_ends(answer: ReadAnswer) -> EndsRead
+    ensures { λ r. ⌜ r ≡ record { a = 0; b = 0; answer = answer } ⌝ }
+{
+    EndsRead { a: 0, b: 0, answer }
 }
 
 // A refused part.
@@ -63,25 +77,44 @@ fn read_name(s: &[u8], at: usize, counts: Counts, kind: u32) -> Number
     fields::read_below(s, at, limit, refusals::NO_SUCH_NAME)
 }
 
-// The part at a place, after parts that gave these windings.
+// The ends of a part of this kind number; a mark has none.
+fn read_ends(s: &[u8], at: usize, counts: Counts, kind: u32) -> EndsRead
+    ensures { λ r. ⌜ toldEndsRead r ≡ endsAt currentEdition counts kind (now (s .entry)) at ⌝ }
+{
+    if kind == kinds::MARK_KIND {
+        return no_ends(ReadAnswer::Read(at));
+    }
+    let a_read = read_terminal(s, at, counts);
+    let Number::Read(a, b_at) = a_read else {
+        return no_ends(fields::place_of(a_read));
+    };
+    let b_read = read_terminal(s, b_at, counts);
+    let Number::Read(b, next) = b_read else {
+        return no_ends(fields::place_of(b_read));
+    };
+    if a == b {
+        return no_ends(fields::refuse(refusals::ENDS_EQUAL, b_at));
+    }
+    EndsRead {
+        a: a as u8,
+        b: b as u8,
+        answer: ReadAnswer::Read(next),
+    }
+}
+
+// The part at a place, after parts that gave these windings and marks.
 fn read_part(s: &[u8], at: usize, counts: Counts, windings: WoundSoFar) -> PartRead
     ensures { λ r. ⌜ toldPartRead r ≡ partAt currentEdition counts windings (now (s .entry)) at ⌝ }
 {
     let kind_read = fields::read_within(s, at, 0, kinds::LAST_KIND, refusals::NO_SUCH_KIND);
-    let Number::Read(kind_number, a_at) = kind_read else {
+    let Number::Read(kind_number, ends_at) = kind_read else {
         return no_field(kind_read);
     };
-    let a_read = read_terminal(s, a_at, counts);
-    let Number::Read(a, b_at) = a_read else {
-        return no_field(a_read);
+    let ends_read = read_ends(s, ends_at, counts, kind_number);
+    let answer = ends_read.answer;
+    let ReadAnswer::Read(name_at) = answer else {
+        return no_part(answer);
     };
-    let b_read = read_terminal(s, b_at, counts);
-    let Number::Read(b, name_at) = b_read else {
-        return no_field(b_read);
-    };
-    if a == b {
-        return no_part(fields::refuse(refusals::ENDS_EQUAL, b_at));
-    }
     let name_read = read_name(s, name_at, counts, kind_number);
     let Number::Read(name, next) = name_read else {
         return no_field(name_read);
@@ -90,9 +123,12 @@ fn read_part(s: &[u8], at: usize, counts: Counts, windings: WoundSoFar) -> PartR
     if !windings.free(kind) {
         return no_part(fields::refuse(refusals::WINDING_TAKEN, name_at));
     }
+    if !windings.unmarked(kind) {
+        return no_part(fields::refuse(refusals::MARKED_TWICE, name_at));
+    }
     let part = Part {
-        a: a as u8,
-        b: b as u8,
+        a: ends_read.a,
+        b: ends_read.b,
         kind,
     };
     PartRead {
@@ -101,7 +137,7 @@ fn read_part(s: &[u8], at: usize, counts: Counts, windings: WoundSoFar) -> PartR
     }
 }
 
-// The first C parts from a place on, after parts that gave these windings.
+// The first C parts from a place on, after parts that gave these windings and marks.
 pub fn read_parts(s: &[u8], start: usize, counts: Counts, windings: WoundSoFar) -> RowRead
     requires { ⌜ counts .parts ≤ mostParts ⌝ }
     ensures { λ r. ⌜ toldRowRead r

@@ -15,16 +15,16 @@ use Rattle.refusals.specs.Refusals.{brokenBoard, bufferTooShort}
 use Rattle.number.specs.Numbers.{numberBytes}
 use Rattle.number.proofs.NumberLaws.{number-bytes-one, number-bytes-length-two}
 use Rattle.kinds.specs.declared.Kind.{Kind}
-use Rattle.kinds.specs.declared.Kind.the-variants.{Wire, Upper, Lower, Button, Regular, Drawing, Dropping}
-use Rattle.kinds.specs.Kinds.{kindNumber, buttonKind, fields, mostFields}
+use Rattle.kinds.specs.declared.Kind.the-variants.{Wire, Upper, Lower, Button, Regular, Drawing, Dropping, Mark}
+use Rattle.kinds.specs.Kinds.{kindNumber, buttonKind, markKind, fields, mostFields}
 use Rattle.board.specs.declared.Part.{Part}
 use Rattle.board.specs.declared.Counts.{Counts}
 use Rattle.board.specs.declared.Board.{Board}
 use Rattle.board.specs.Parts.{fieldsOf, partsOf}
-use Rattle.board.specs.Rules.{mostRelays, terminalFine, endsFine, limitOf, nameFine, partFits, boardFine}
+use Rattle.board.specs.Rules.{mostRelays, limitOf, boardFine}
 use Rattle.board.specs.BreaksNoRule.{InRange, Names, Fits}
 use Rattle.lists.specs.Members.{All}
-use Rattle.bits.proofs.BoolLaws.{both-true, by-test}
+use Rattle.bits.proofs.BoolLaws.{by-test}
 use Rattle.kinds.proofs.KindLaws.{kind-number-most, fields-few}
 use Rattle.board.proofs.BreaksNoRule.{fine-fits}
 use Rattle.board_writer.specs.declared.Written.{Written}
@@ -61,21 +61,6 @@ limit-most c k fit = by (eqb k buttonKind)
     by true = fit .most-buttons
     by false = fit .most-relays
 
--- the rules of 5 to 7 that a part keeps, one by one
-pub record PartRules (c : Counts) (p : Part) : Type 0 where
-  pub a-below : terminalFine c (p .a) ≡ true
-  pub b-below : terminalFine c (p .b) ≡ true
-  pub apart : endsFine (p .a) (p .b) ≡ true
-  pub named : nameFine c (p .kind) ≡ true
-
-pub part-rules : (c : Counts) (p : Part) → partFits c p ≡ true → PartRules c p
-unfolding partFits
-part-rules c p fits =
-    let named = both-true _ _ fits in
-    let apart = both-true _ _ (named .0) in
-    let below = both-true _ _ (apart .0) in
-    record { a-below = below .0; b-below = below .1; apart = apart .1; named = named .1 }
-
 -- small numbers take a byte each
 numbers-few : (vs : List ℕ) → All (λ v. v < 128) vs → length (numbersBytes vs) ≡ length vs
 unfolding rowBytes
@@ -99,15 +84,22 @@ module _ (c : Counts) (fit : InRange c) where
   button : {n : ℕ} → n < c .buttons → n < 128
   button below = omega (arith, below, fit)
 
-  fields-small : (k : Kind) (a b : ℕ) → a < c .terminals → b < c .terminals → Names c k
+  fields-small : (k : Kind) (a b : ℕ) → (¬ (kindNumber k ≡ markKind) → (a < 128) × (b < 128)) → Names c k
       → All (λ v. v < 128) (fields k a b)
-  fields-small Wire a b first second named = (end first, (end second, tt))
-  fields-small (Upper r) a b first second named = (end first, (end second, (relay named, tt)))
-  fields-small (Lower r) a b first second named = (end first, (end second, (relay named, tt)))
-  fields-small (Button n) a b first second named = (end first, (end second, (button named, tt)))
-  fields-small (Regular r) a b first second named = (end first, (end second, (relay named, tt)))
-  fields-small (Drawing r) a b first second named = (end first, (end second, (relay named, tt)))
-  fields-small (Dropping r) a b first second named = (end first, (end second, (relay named, tt)))
+  fields-small Wire a b ends named = let small = ends (λ e. omega (arith, e)) in (small .0, (small .1, tt))
+  fields-small (Upper r) a b ends named =
+      let small = ends (λ e. omega (arith, e)) in (small .0, (small .1, (relay named, tt)))
+  fields-small (Lower r) a b ends named =
+      let small = ends (λ e. omega (arith, e)) in (small .0, (small .1, (relay named, tt)))
+  fields-small (Button n) a b ends named =
+      let small = ends (λ e. omega (arith, e)) in (small .0, (small .1, (button named, tt)))
+  fields-small (Regular r) a b ends named =
+      let small = ends (λ e. omega (arith, e)) in (small .0, (small .1, (relay named, tt)))
+  fields-small (Drawing r) a b ends named =
+      let small = ends (λ e. omega (arith, e)) in (small .0, (small .1, (relay named, tt)))
+  fields-small (Dropping r) a b ends named =
+      let small = ends (λ e. omega (arith, e)) in (small .0, (small .1, (relay named, tt)))
+  fields-small (Mark r) a b ends named = (relay named, tt)
 
   part-bytes-few : (p : Part) → Fits c p → length (partBytes p) ≤ 1 + mostFields
   part-bytes-few p fits =
@@ -115,7 +107,8 @@ module _ (c : Counts) (fit : InRange c) where
         arith,
         part-bytes-sum p,
         one-byte (kindNumber (p .kind)) (omega (arith, kind-number-most (p .kind))),
-        numbers-few (fieldsOf p) (fields-small (p .kind) (p .a) (p .b) (fits .a-below) (fits .b-below) (fits .named)),
+        numbers-few (fieldsOf p) (fields-small (p .kind) (p .a) (p .b) (λ joins.
+            let ends = fits .ends joins in (end (ends .a-below), end (ends .b-below))) (fits .named)),
         fields-few (p .kind) (p .a) (p .b),
       )
 

@@ -2,10 +2,12 @@
 use Rattle.number.proofs.NumberTrip.{number-written-back, number-read-back}
 use Rattle.board.proofs.SameExactly.{same-exactly}
 use Rattle.board.proofs.BreaksNoRule.{every-relay-sort}
+use Rattle.state.proofs.FreshFollows.{fresh-follows}
 use Rattle.file_means.proofs.RoundTrip.{write-then-read, rest-stays, read-then-write}
 use Rattle.file_means.proofs.BytesAfter.{bytes-after}
 use Rattle.file_means.proofs.FileRefusals.{file-accepted}
 use Rattle.file_means.proofs.FilesKept.{files-kept, only-by-two}
+use Rattle.file_means.proofs.SecondEdition.{first-files-kept, only-by-four, markless-as-before, mark-turned-away}
 use Rattle.judge_means.proofs.Circuits.{paths-are-chains, live-is-carrying}
 use Rattle.judge_means.proofs.Exactness.{judges-keep, as-published}
 use Rattle.judge_means.proofs.Eleven.{the-winding, every-relay-wound}
@@ -17,7 +19,7 @@ use Rattle.session_means.proofs.HandedLines.{lines-handed-out, all-handed-out}
 use Rattle.session_means.proofs.FilledBuffers.{buffers-filled, all-filled}
 use Rattle.session_means.proofs.EventRefusals.{events-refused, events-closed}
 use Rattle.session_means.proofs.LinesDrawn.{lines-drawn}
-use Rattle.session_means.proofs.SessionsKept.{sessions-kept, lines-stand}
+use Rattle.session_means.proofs.SessionsKept.{sessions-kept, first-sessions-kept, lines-stand}
 use Rattle.demands.specs.AsTheModelSays.{AsTheModelSays}
 
 pub as-the-model-says : AsTheModelSays
@@ -33,6 +35,7 @@ as-the-model-says = record {
   moves = move-exactly;
   changes = changes-one-relay;
   runs = run-exactly;
+  fresh = fresh-follows;
   written-read = write-then-read;
   read-written = read-then-write;
   rest-stays = rest-stays;
@@ -44,6 +47,11 @@ as-the-model-says = record {
   files-kept = files-kept;
   only-by-two = only-by-two;
   sessions-kept = sessions-kept;
+  first-files-kept = first-files-kept;
+  only-by-four = only-by-four;
+  markless-as-before = markless-as-before;
+  mark-turned-away = mark-turned-away;
+  first-sessions-kept = first-sessions-kept;
   lines-stand = lines-stand;
   lines = lines-handed-out;
   all-lines = all-handed-out;

@@ -7,9 +7,10 @@ use Rattle.refusals.specs.Order.{firstNo}
 use Rattle.bits.specs.Sets.{member, including, excluding, within}
 use Rattle.windings.specs.Windings.{every, complete}
 use Rattle.board.specs.Parts.{padded}
-use Rattle.board.specs.Rules.{inRange, countsFine, nameFine, partFits, partFine, gainedAll, partsFine, boardFine}
+use Rattle.board.specs.Rules.{inRange, countsFine, nameFine, endsFit, partFits, partFine, gainedAll, partsFine}
+use Rattle.board.specs.Rules.{boardFine}
 use Rattle.board.specs.Sorts.{carries}
-use Rattle.state.specs.States.{freshState, stateFine}
+use Rattle.state.specs.States.{emptyState, stateFine}
 use Rattle.neighbours.specs.Neighbours.{setAt, tableFrom, setsAt, neighbours}
 use Rattle.chains.specs.ChainList.{isIn, canFollow, tries, beyond, chains, crosses, someCrosses, beside, shows}
 use Rattle.search.specs.declared.Winding.{Winding}
@@ -49,33 +50,33 @@ ends = record { a = 2; b = 1 }
 -- what H1 comes to while its button is pushed, and while it is not
 record H1 : Type 0 where
   pushed-taken : AcceptedWinding h1 pushed0 0 First ends
-  fresh-taken : AcceptedWinding h1 freshState 0 First ends
+  rest-taken : AcceptedWinding h1 emptyState 0 First ends
   pushed : Judges h1 pushed0 0 First 100 (liveVerdict 3 (0 ∷ 2 ∷ 1 ∷ []))
-  fresh : Judges h1 freshState 0 First 100 (deadVerdict 1)
+  rest : Judges h1 emptyState 0 First 100 (deadVerdict 1)
 
 h1-judged : H1
-unfolding firstNo member including excluding within every complete padded inRange countsFine nameFine partFits
+unfolding firstNo member including excluding within every complete padded inRange countsFine nameFine endsFit partFits
     partFine gainedAll partsFine boardFine carries stateFine setAt tableFrom setsAt neighbours isIn canFollow tries
     beyond chains crosses someCrosses beside shows firstShown effort places weighed verdictBy inSets windingOf
     judgedBy windingFor judging
-h1-judged = record { pushed-taken = refl; fresh-taken = refl; pushed = refl; fresh = refl }
+h1-judged = record { pushed-taken = refl; rest-taken = refl; pushed = refl; rest = refl }
 
 pushed-live : IsLive h1 pushed0 ends × (effortOf h1 pushed0 ends ≤ 100)
 pushed-live =
     live-exactly _ judges-keep h1 pushed0 0 First 100 ends _ (h1-judged .pushed) (h1-judged .pushed-taken) .0 refl
 
-fresh-dead : ¬ (IsLive h1 freshState ends) × (effortOf h1 freshState ends ≤ 100)
-fresh-dead =
-    dead-exactly _ judges-keep h1 freshState 0 First 100 ends _ (h1-judged .fresh) (h1-judged .fresh-taken) .0 refl
+rest-dead : ¬ (IsLive h1 emptyState ends) × (effortOf h1 emptyState ends ≤ 100)
+rest-dead =
+    dead-exactly _ judges-keep h1 emptyState 0 First 100 ends _ (h1-judged .rest) (h1-judged .rest-taken) .0 refl
 
 -- one word for both cannot be right for both
 no-word-always : NoWordAlways
 no-word-always f = (
   λ exactly.
       let live = exactly h1 pushed0 0 First 100 ends (saying f) refl (h1-judged .pushed-taken) .1 pushed-live in
-      fresh-dead .0 (exactly h1 freshState 0 First 100 ends (saying f) refl (h1-judged .fresh-taken) .0 live .0),
+      rest-dead .0 (exactly h1 emptyState 0 First 100 ends (saying f) refl (h1-judged .rest-taken) .0 live .0),
   λ exactly.
-      let dead = exactly h1 freshState 0 First 100 ends (saying f) refl (h1-judged .fresh-taken) .1 fresh-dead in
+      let dead = exactly h1 emptyState 0 First 100 ends (saying f) refl (h1-judged .rest-taken) .1 rest-dead in
       exactly h1 pushed0 0 First 100 ends (saying f) refl (h1-judged .pushed-taken) .0 dead .0 (pushed-live .0),
 )
   where

@@ -7,11 +7,13 @@ use Rattle.kinds.specs.Kinds.{kindOf}
 use Rattle.bits.specs.Sets.{member, including, excluding, within}
 use Rattle.windings.specs.Windings.{every, complete}
 use Rattle.board.specs.Parts.{padded}
-use Rattle.board.specs.Rules.{inRange, countsFine, nameFine, partFits, partFine, gainedAll, partsFine, boardFine}
+use Rattle.board.specs.Rules.{inRange, countsFine, nameFine, endsFit, partFits, partFine, gainedAll, partsFine}
+use Rattle.board.specs.Rules.{boardFine}
 use Rattle.board.specs.Sorts.{carries}
 use Rattle.state.specs.States.{stateFine, left}
 use Rattle.presses.specs.Presses.{pushing, releasing}
-use Rattle.board_reader.specs.Reading.{wanted, countsAt, nameAt, partAt, partsAt, boardFrom, boardAt, answered, reading}
+use Rattle.board_reader.specs.Reading.{wanted, countsAt, nameAt, endsAt, partAt, partsAt, boardFrom, boardAt}
+use Rattle.board_reader.specs.Reading.{answered, reading}
 use Rattle.neighbours.specs.Neighbours.{setAt, tableFrom, setsAt, neighbours}
 use Rattle.chains.specs.ChainList.{isIn, canFollow, tries, beyond, chains, crosses, someCrosses, beside, shows}
 use Rattle.search.specs.Verdicts.{firstShown, effort, places, weighed, verdictBy, inSets}
@@ -36,12 +38,12 @@ a & b = (a, b)
 
 pub starred-boards : Starred
 unfolding firstNo kindOf below form placed numberAt member including excluding within every complete padded inRange
-    countsFine nameFine partFits partFine gainedAll partsFine boardFine carries stateFine left pushing releasing
-    wanted countsAt nameAt partAt partsAt boardFrom boardAt answered reading setAt tableFrom setsAt neighbours isIn
-    canFollow tries beyond chains crosses someCrosses beside shows firstShown effort places weighed verdictBy inSets
-    windingOf windingsAt judgedBy windingFor judging regularMove steelMove decide findingsOn stepBy stepOf movable
-    moving lookFrom runOf runnable ran running digitsOf decimal lineText eventAt pressing ranLine pressedLine eventLine
-    withAllowance headAt linesFrom headLines sessionLines lineTexts printed sessionText
+    countsFine nameFine endsFit partFits partFine gainedAll partsFine boardFine carries stateFine left pushing
+    releasing wanted countsAt nameAt endsAt partAt partsAt boardFrom boardAt answered reading setAt tableFrom setsAt
+    neighbours isIn canFollow tries beyond chains crosses someCrosses beside shows firstShown effort places weighed
+    verdictBy inSets windingOf windingsAt judgedBy windingFor judging regularMove steelMove decide findingsOn stepBy
+    stepOf movable moving lookFrom runOf runnable ran running digitsOf decimal lineText eventAt pressing ranLine
+    pressedLine eventLine withAllowance headAt linesFrom headLines sessionLines lineTexts printed sessionText
 starred-boards =
     (λ x told. told) & (λ a k told. told) & (λ v told. told) & (λ v told. told) & (λ v told. told)
     & (λ a k told. told) & (λ a k told. told) & (λ v told. told) & (λ v told. told) & (λ v told. told)
@@ -50,4 +52,7 @@ starred-boards =
     & (λ x told. told) & (λ x told. told) & refl & (λ v told. told) & (λ a told. told) & (λ a k told. told)
     & (λ a k told. told) & (λ a k told. told) & (λ a k told. told) & (λ a k told. told) & (λ a k told. told)
     & (λ x told. told) & (λ x told. told) & (λ x told. told) & (λ x told. told) & (λ x told. told)
-    & (λ x told. told) & (λ x told. told) & (λ x told. told) & (λ x told. told) & (λ x told. told) & refl & refl & tt
+    & (λ x told. told) & (λ x told. told) & (λ x told. told) & (λ x told. told) & (λ x told. told) & refl & refl
+    & (λ x told. told) & (λ x told. told) & (λ x told. told) & (λ x told. told) & (λ x told. told)
+    & (λ x told. told) & (λ x told. told) & (λ x told. told) & (λ v told. told) & (λ v told. told)
+    & (λ v told. told) & (λ v told. told) & (λ a k told. told) & refl & tt

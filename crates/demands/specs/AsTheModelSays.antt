@@ -13,22 +13,28 @@
 --         `written-read`, `read-written`; `rest-stays`: behind the bytes written a buffer is as lent; `file-read`: a
 --         board that was read is what stands in the file; `bytes-after`: what stands behind a board does not bear on
 --         it; `same`: which boards are the same; `number-written-read`, `number-read-written`: both ways for every
---         number to 4,294,967,295; `files-kept`, `only-by-two`, `sessions-kept`, `lines-stand`: files and sessions of
---         the days when numbers had at most three bytes keep their meaning (request A1)
+--         number to 4,294,967,295; `files-kept`, `only-by-two`, `sessions-kept`: files and sessions of the days when
+--         numbers had at most three bytes keep their meaning (request A1); `first-files-kept`, `only-by-four`,
+--         `first-sessions-kept`: so do those of the first edition, which had no marks, and `markless-as-before`,
+--         `mark-turned-away`: its reader takes a file of today's without marks, and turns one with a mark away by 4
+--         (request A2); `lines-stand`: what became of any session's lines by either request
 --     "A run moves the lowest relay that can move until it is idle or must stop."
---         `runs`; and what a session prints of its runs: `lines`, `all-lines`, in buffers `filled`, `all-filled`;
---         `events`, `closed`, `drawn`
+--         `runs`; `fresh`: in the fresh state of a board exactly the relays are drawn that it marks (request A2); and
+--         what a session prints of its runs, from that state on: `lines`, `all-lines`, in buffers `filled`,
+--         `all-filled`; `events`, `closed`, `drawn`
 -- Each field is put into words in the file that defines it. `paths`, `carrying`, `winding`, `sorts` and `wound` are of
--- boards and states, `events`, `closed` and `drawn` of the session's lines; `files-kept`, `only-by-two`,
--- `sessions-kept` and `lines-stand` are of the definitions at two editions; the others are over the calls.
+-- boards and states, `events`, `closed` and `drawn` of the session's lines; those of requests A1 and A2 from
+-- `files-kept` to `lines-stand` are of the definitions at two editions; the others are over the calls.
 --     AsTheModelSays    the demand
 use Rattle.number.specs.NumberTrip.{NumberWrittenRead, NumberReadWritten}
 use Rattle.board.specs.SameExactly.{SameExactly}
 use Rattle.board.specs.BreaksNoRule.{EveryRelaySort}
+use Rattle.state.specs.FreshFollows.{FreshFollows}
 use Rattle.file_means.specs.RoundTrip.{WriteThenRead, RestStays, ReadThenWrite}
 use Rattle.file_means.specs.BytesAfter.{BytesAfter}
 use Rattle.file_means.specs.FileRefusals.{FileAccepted}
 use Rattle.file_means.specs.FilesKept.{FilesKept, OnlyByTwo}
+use Rattle.file_means.specs.SecondEdition.{FirstFilesKept, OnlyByFour, MarklessAsBefore, MarkTurnedAway}
 use Rattle.judge.specs.Judging.{Judges}
 use Rattle.judge_means.specs.Circuits.{PathsAreChains, LiveIsCarrying}
 use Rattle.judge_means.specs.Exactness.{AsPublished}
@@ -41,7 +47,7 @@ use Rattle.session_means.specs.HandedLines.{LinesHandedOut, AllHandedOut}
 use Rattle.session_means.specs.FilledBuffers.{BuffersFilled, AllFilled}
 use Rattle.session_means.specs.EventRefusals.{EventsRefused, EventsClosed}
 use Rattle.session_means.specs.LinesDrawn.{LinesDrawn}
-use Rattle.session_means.specs.SessionsKept.{SessionsKept, LinesStand}
+use Rattle.session_means.specs.SessionsKept.{SessionsKept, FirstSessionsKept, LinesStand}
 
 pub record AsTheModelSays : Type 0 where
   -- the chains to minus are the published model's paths, and a winding is live exactly if it is current carrying
@@ -63,6 +69,8 @@ pub record AsTheModelSays : Type 0 where
   pub changes : ChangesOneRelay
   -- a run makes the lowest relay's move, again and again, until it is idle or must stop
   pub runs : RunExactly
+  -- in a fresh state exactly the relays that the board marks are drawn
+  pub fresh : FreshFollows
   -- board files keep their meaning
   pub written-read : WriteThenRead
   pub read-written : ReadThenWrite
@@ -77,6 +85,12 @@ pub record AsTheModelSays : Type 0 where
   pub files-kept : FilesKept
   pub only-by-two : OnlyByTwo
   pub sessions-kept : SessionsKept
+  -- so does what was read by the first edition; its reader never shows a board with a mark
+  pub first-files-kept : FirstFilesKept
+  pub only-by-four : OnlyByFour
+  pub markless-as-before : MarklessAsBefore
+  pub mark-turned-away : MarkTurnedAway
+  pub first-sessions-kept : FirstSessionsKept
   pub lines-stand : LinesStand
   -- the lines handed out, one by one or as many as fill a buffer, are the session's lines; its events are refused by 12
   -- alone, it is ended by 1, 2 or 7, and each line prints the sum over the drawn relays

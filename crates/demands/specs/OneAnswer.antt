@@ -16,7 +16,7 @@ use Rattle.number.specs.Numbers.{ReadsNumber, NumberLength, WritesNumber}
 use Rattle.kinds.specs.declared.Kind.{Kind}
 use Rattle.kinds.specs.Kinds.{KindOf, KindNumber, KindName, KindFields}
 use Rattle.windings.specs.declared.WoundSoFar.{WoundSoFar}
-use Rattle.windings.specs.Windings.{WoundNone, WoundFree, WoundWith, WoundComplete}
+use Rattle.windings.specs.Windings.{WoundNone, WoundFree, WoundUnmarked, WoundWith, WoundComplete}
 use Rattle.board.specs.declared.Counts.{Counts}
 use Rattle.board.specs.declared.Board.{Board}
 use Rattle.board.specs.Parts.{BlankPart, EmptyBoard}
@@ -79,6 +79,7 @@ pub record OneAnswer : Type 0 where
   pub kinds-fields : (k : Kind) (a b : ℕ) → One (KindFields k a b)
   pub windings-none : One WoundNone
   pub windings-free : (w : WoundSoFar) (k : Kind) → One (WoundFree w k)
+  pub windings-unmarked : (w : WoundSoFar) (k : Kind) → One (WoundUnmarked w k)
   pub windings-with : (w : WoundSoFar) (k : Kind) → One (WoundWith w k)
   pub windings-complete : (w : WoundSoFar) (n : ℕ) → One (WoundComplete w n)
   pub board-limit : (c : Counts) (k : ℕ) → One (NameLimit c k)
@@ -86,7 +87,7 @@ pub record OneAnswer : Type 0 where
   pub board-empty : One EmptyBoard
   pub board-check : (b : Board) → One (Checks b)
   pub board-same : (x y : Board) → One (SameBoards x y)
-  pub state-fresh : One StateFresh
+  pub state-fresh : (b : Board) → One (StateFresh b)
   pub state-draw : (s : State) (r : ℕ) → One (StateDraws s r)
   pub state-drop : (s : State) (r : ℕ) → One (StateDrops s r)
   pub state-push : (s : State) (n : ℕ) → One (StatePushes s n)

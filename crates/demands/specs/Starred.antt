@@ -1,13 +1,17 @@
 -- The rule book's "Boards to try (starred: proved)" as one table: the rows that it stars, and others that compute
 -- quickly. The rest are run and compared.
 --     part k x y, board t r b ps    a part of kind k between x and y; a board of T t, R r, B b and the parts ps
+--     mark r                        a mark of relay r, as it is read
+--     started n b                   the board b with the set n of relays for its start
 --     h0 .. h6, pair                the boards; `pair` is one of ours, on which two relays can move at once
+--     takenOver                     a hut that was taken over in service: both relays were up, and one holds itself
 --     pushed0, pushedBoth           the states with button 0 pushed, and with buttons 0 and 1
 --     drawn0 s                      the state s with relay 0 drawn
 --     liveWith e c, deadWith e      live with effort e and the chain c shown; dead with effort e
 --     lent n                        a lent log of n bytes, each 7
 --     h0File, h2Session             H0 as a file, H2 as a session, byte by byte as the rule book prints them
 --     h2Lines, h0Line               what H2 and H0 print, character by character
+--     takenOverFile                 that hut as a file
 --     Row                           a call and the answer that the rule book states for it:
 --       reads s b o                 `read` of the bytes s: the board, and the place just after it or the refusal
 --       judges b s k w j            `judge` of winding k of relay 0 of board b in state s within the allowance w
@@ -21,7 +25,8 @@
 --     starred                       the rows that the rule book stars
 --     besides                       rows that it does not star, and H2, with rows of ours: two relays that can move
 --                                   at once, logs that are just long enough, the numbers of request A1
---     Starred                       every row of either holds
+--     marks                         rows on the marks of request A2: in files, on boards handed in, and in a session
+--     Starred                       every row of the three holds
 use Prim.Native.Nat.{ℕ}
 use mathlib.Core.Path.{_≡_}
 use mathlib.Core.List.{List, [], _∷_, _++_}
@@ -29,19 +34,20 @@ use mathlib.Core.Option.{none, some}
 use lib.ListN.{length, replicate}
 use Rattle.lists.specs.Members.{All}
 use Rattle.refusals.specs.Outcomes.{Outcome, given, refused}
-use Rattle.refusals.specs.Refusals.{inputEnds, badForm, outOfRange, noSuchKind}
+use Rattle.refusals.specs.Refusals.{inputEnds, badForm, outOfRange, noSuchKind, noSuchName, windingLacking}
+use Rattle.refusals.specs.Refusals.{brokenBoard, markedTwice}
 use Rattle.kinds.specs.declared.Kind.{Kind}
-use Rattle.kinds.specs.declared.Kind.the-variants.{Wire, Lower, Button, Regular, Drawing, Dropping}
+use Rattle.kinds.specs.declared.Kind.the-variants.{Wire, Upper, Lower, Button, Regular, Drawing, Dropping, Mark}
 use Rattle.board.specs.declared.Part.{Part}
 use Rattle.board.specs.declared.Board.{Board}
 use Rattle.board.specs.Parts.{padded, emptyBoard}
 use Rattle.state.specs.declared.State.{State}
-use Rattle.state.specs.States.{freshState, withDrawn, withPushed, withReleased}
+use Rattle.state.specs.States.{emptyState, freshState, withDrawn, withPushed, withReleased}
 use Rattle.board_reader.specs.declared.BoardRead.{BoardRead}
 use Rattle.board_reader.specs.Editions.{currentEdition}
 use Rattle.board_reader.specs.Reading.{toldBoardRead, Reads}
 use Rattle.search.specs.declared.Verdict as code-verdict
-use Rattle.search.specs.Verdicts.{Verdict, settled, unsettled, toldVerdict}
+use Rattle.search.specs.Verdicts.{Verdict, settled, unsettled, unanswered, toldVerdict}
 use Rattle.judge.specs.declared.Which.{Which}
 use Rattle.judge.specs.declared.Which.the-variants.{First, Second}
 use Rattle.judge.specs.Judging.{Judges}
@@ -59,7 +65,17 @@ part k x y = record { a = x; b = y; kind = k }
 
 abbrev pub board : ℕ → ℕ → ℕ → List Part → Board
 board t r b ps =
-    record { counts = record { terminals = t; relays = r; buttons = b; parts = length ps }; parts = padded ps }
+    record {
+      counts = record { terminals = t; relays = r; buttons = b; parts = length ps };
+      parts = padded ps;
+      start = 0;
+    }
+
+abbrev pub mark : ℕ → Part
+mark r = part (Mark r) 0 0
+
+abbrev pub started : ℕ → Board → Board
+started n b = record { counts = b .counts; parts = b .parts; start = n }
 
 -- `02 00 00 00`
 abbrev pub h0File : List ℕ
@@ -111,8 +127,19 @@ h6 = board 3 1 0 (part Wire 0 2 ∷ part Wire 2 1 ∷ part (Regular 0) 2 1 ∷ [
 abbrev pub pair : Board
 pair = board 3 2 0 (part Wire 0 2 ∷ part (Regular 1) 2 1 ∷ part (Regular 0) 2 1 ∷ [])
 
+-- T 4, upper contact of relay 0 on 0-2, its winding on 2-1, relay 1's on 3-1, and both start drawn
+abbrev pub takenOver : Board
+takenOver =
+    started 3
+    (board 4 2 0 (part (Upper 0) 0 2 ∷ part (Regular 0) 2 1 ∷ mark 0 ∷ part (Regular 1) 3 1 ∷ mark 1 ∷ []))
+
+-- `04 02 00 05 01 00 02 00 04 02 01 00 07 00 04 03 01 01 07 01`
+abbrev pub takenOverFile : List ℕ
+takenOverFile =
+    4 ∷ 2 ∷ 0 ∷ 5 ∷ 1 ∷ 0 ∷ 2 ∷ 0 ∷ 4 ∷ 2 ∷ 1 ∷ 0 ∷ 7 ∷ 0 ∷ 4 ∷ 3 ∷ 1 ∷ 1 ∷ 7 ∷ 1 ∷ []
+
 abbrev pub pushed0 : State
-pushed0 = withPushed freshState 0
+pushed0 = withPushed emptyState 0
 
 abbrev pub pushedBoth : State
 pushedBoth = withPushed pushed0 1
@@ -150,27 +177,27 @@ RowHolds (prints s x) = sessionText currentEdition s ≡ x
 abbrev pub starred : List Row
 starred =
     reads h0File h0 (given 4)
-    ∷ runs h0 freshState (lent 2) 100 idle 0 freshState noRelay (lent 2)
-    ∷ judges h1 freshState First 100 (deadWith 1)
+    ∷ runs h0 emptyState (lent 2) 100 idle 0 emptyState noRelay (lent 2)
+    ∷ judges h1 emptyState First 100 (deadWith 1)
     ∷ judges h1 pushed0 First 100 (liveWith 3 (0 ∷ 2 ∷ 1 ∷ []))
     ∷ judges h1 pushed0 First 2 (unsettled 2)
-    ∷ runs h3 freshState (lent 5) 100 spent 5 (drawn0 freshState) 0 (128 ∷ 0 ∷ 128 ∷ 0 ∷ 128 ∷ [])
-    ∷ runs h3 freshState [] 100 spent 0 freshState 0 []
-    ∷ judges h4 freshState First 100 (deadWith 6)
-    ∷ judges h4 freshState First 5 (unsettled 5)
-    ∷ judges h4wired freshState First 100 (deadWith 7)
+    ∷ runs h3 emptyState (lent 5) 100 spent 5 (drawn0 emptyState) 0 (128 ∷ 0 ∷ 128 ∷ 0 ∷ 128 ∷ [])
+    ∷ runs h3 emptyState [] 100 spent 0 emptyState 0 []
+    ∷ judges h4 emptyState First 100 (deadWith 6)
+    ∷ judges h4 emptyState First 5 (unsettled 5)
+    ∷ judges h4wired emptyState First 100 (deadWith 7)
     ∷ judges h5 pushedBoth First 100 (liveWith 3 (0 ∷ 2 ∷ 1 ∷ []))
     ∷ judges h5 pushedBoth Second 100 (liveWith 5 (0 ∷ 3 ∷ 1 ∷ []))
     ∷ moves h5 pushedBoth 100 pushedBoth step.conflict
     ∷ moves h5 pushed0 100 (drawn0 pushed0) step.drew
-    ∷ moves h5 (drawn0 freshState) 100 (drawn0 freshState) step.rests
-    ∷ judges h6 freshState First 100 (liveWith 3 (0 ∷ 2 ∷ 1 ∷ []))
+    ∷ moves h5 (drawn0 emptyState) 100 (drawn0 emptyState) step.rests
+    ∷ judges h6 emptyState First 100 (liveWith 3 (0 ∷ 2 ∷ 1 ∷ []))
     ∷ reads (128 ∷ 0 ∷ []) emptyBoard (refused badForm 0)
     ∷ []
 
 abbrev pub besides : List Row
 besides =
-    runs h0 freshState [] 100 idle 0 freshState noRelay []
+    runs h0 emptyState [] 100 idle 0 emptyState noRelay []
     ∷ reads [] emptyBoard (refused inputEnds 0)
     ∷ reads (1 ∷ 0 ∷ 0 ∷ 0 ∷ []) emptyBoard (refused outOfRange 0)
     ∷ reads (65 ∷ 0 ∷ 0 ∷ 0 ∷ []) emptyBoard (refused outOfRange 0)
@@ -182,8 +209,8 @@ besides =
     ∷ runs h5 pushedBoth (lent 2) 4 undecided 0 pushedBoth 0 (lent 2)
     ∷ runs h5 pushed0 (lent 2) 100 idle 1 (drawn0 pushed0) noRelay (128 ∷ 7 ∷ [])
     ∷ runs h5 pushed0 (lent 1) 100 idle 1 (drawn0 pushed0) noRelay (128 ∷ [])
-    ∷ runs h5 (withReleased (drawn0 pushed0) 0) (lent 2) 100 idle 0 (drawn0 freshState) noRelay (lent 2)
-    ∷ runs pair freshState (lent 3) 100 idle 2 (withDrawn (drawn0 freshState) 1) noRelay (128 ∷ 129 ∷ 7 ∷ [])
+    ∷ runs h5 (withReleased (drawn0 pushed0) 0) (lent 2) 100 idle 0 (drawn0 emptyState) noRelay (lent 2)
+    ∷ runs pair emptyState (lent 3) 100 idle 2 (withDrawn (drawn0 emptyState) 1) noRelay (128 ∷ 129 ∷ 7 ∷ [])
     ∷ reads (128 ∷ 128 ∷ []) emptyBoard (refused inputEnds 2)
     ∷ reads (128 ∷ 128 ∷ 128 ∷ []) emptyBoard (refused inputEnds 3)
     ∷ reads (128 ∷ 128 ∷ 128 ∷ 128 ∷ []) emptyBoard (refused inputEnds 4)
@@ -198,5 +225,25 @@ besides =
     ∷ prints (h0File ++ (255 ∷ 255 ∷ 255 ∷ 255 ∷ 15 ∷ [])) h0Line
     ∷ []
 
+abbrev pub marks : List Row
+marks =
+    reads takenOverFile takenOver (given 20)
+    ∷ reads (2 ∷ 1 ∷ 0 ∷ 3 ∷ 7 ∷ 0 ∷ 5 ∷ 0 ∷ 1 ∷ 0 ∷ 6 ∷ 0 ∷ 1 ∷ 0 ∷ [])
+    (started 1 (board 2 1 0 (mark 0 ∷ part (Drawing 0) 0 1 ∷ part (Dropping 0) 0 1 ∷ []))) (given 14)
+    ∷ reads (2 ∷ 1 ∷ 0 ∷ 1 ∷ 7 ∷ 0 ∷ []) emptyBoard (refused windingLacking 6)
+    ∷ reads (2 ∷ 1 ∷ 0 ∷ 3 ∷ 4 ∷ 0 ∷ 1 ∷ 0 ∷ 7 ∷ 0 ∷ []) emptyBoard (refused inputEnds 10)
+    ∷ reads (2 ∷ 1 ∷ 0 ∷ 3 ∷ 4 ∷ 0 ∷ 1 ∷ 0 ∷ 7 ∷ 0 ∷ 7 ∷ 0 ∷ []) emptyBoard (refused markedTwice 11)
+    ∷ reads (2 ∷ 1 ∷ 0 ∷ 1 ∷ 7 ∷ 1 ∷ []) emptyBoard (refused noSuchName 5)
+    ∷ reads (2 ∷ 1 ∷ 0 ∷ 1 ∷ 7 ∷ []) emptyBoard (refused inputEnds 5)
+    ∷ reads (2 ∷ 1 ∷ 0 ∷ 1 ∷ 8 ∷ 0 ∷ []) emptyBoard (refused noSuchKind 4)
+    ∷ judges (started 1 h1) pushed0 First 100 (unanswered brokenBoard 0)
+    ∷ judges (started 0 takenOver) emptyState First 100 (unanswered brokenBoard 0)
+    ∷ judges (started 1 (board 3 1 0 (part (Regular 0) 2 1 ∷ part (Mark 0) 0 2 ∷ []))) emptyState First 100 (deadWith 1)
+    ∷ judges (started 1 (board 2 1 0 (part (Regular 0) 0 1 ∷ part (Mark 0) 200 200 ∷ []))) emptyState First 100
+    (liveWith 2 (0 ∷ 1 ∷ []))
+    ∷ runs takenOver (freshState takenOver) (lent 2) 100 idle 1 (drawn0 emptyState) noRelay (1 ∷ 7 ∷ [])
+    ∷ prints (takenOverFile ++ (100 ∷ [])) (48 ∷ 32 ∷ 105 ∷ 100 ∷ 108 ∷ 101 ∷ 32 ∷ 49 ∷ 32 ∷ 49 ∷ 10 ∷ [])
+    ∷ []
+
 abbrev pub Starred : Type 0
-Starred = All RowHolds (starred ++ besides)
+Starred = All RowHolds (starred ++ besides ++ marks)

@@ -1,5 +1,5 @@
-// Boards handed in. The bytes are T, R, B, C (low byte, high byte), then kind, a, b and name of each part; bytes that
-// are not given are 0, so that places without a part are blank wires.
+// Boards handed in. The bytes are T, R, B, C (low byte, high byte), the start as a set in five bytes, lowest first,
+// then kind, a, b and name of each part; bytes that are not given are 0, so that places without a part are blank wires.
 use crate::print;
 use board::Board;
 use board::Counts;
@@ -31,7 +31,7 @@ fn byte_at(bytes: &[u8], at: usize) -> u8 {
 
 // The part whose four bytes begin at a place.
 fn handed_part(bytes: &[u8], at: usize) -> Part
-    requires { ⌜ at ≤ 1025 ⌝ }
+    requires { ⌜ at ≤ 1030 ⌝ }
 {
     Part {
         a: byte_at(bytes, at + 1),
@@ -52,17 +52,32 @@ fn handed_counts(bytes: &[u8]) -> Counts {
     }
 }
 
+// The start.
+fn handed_start(bytes: &[u8]) -> u64 {
+    let lowest = byte_at(bytes, 5) as u64;
+    let low = byte_at(bytes, 6) as u64;
+    let middle = byte_at(bytes, 7) as u64;
+    let high = byte_at(bytes, 8) as u64;
+    let highest = byte_at(bytes, 9) as u64;
+    lowest + 256 * low + 65_536 * middle + 16_777_216 * high + 4_294_967_296 * highest
+}
+
 // The board that is handed in.
 fn handed_board(bytes: &[u8]) -> Board {
     let counts = handed_counts(bytes);
-    let first = handed_part(bytes, 5);
+    let start = handed_start(bytes);
+    let first = handed_part(bytes, 10);
     let mut parts = [first; 256];
     let mut i = 1;
     while i < MOST_PARTS {
-        parts[i] = handed_part(bytes, 5 + 4 * i);
+        parts[i] = handed_part(bytes, 10 + 4 * i);
         i += 1;
     }
-    Board { counts, parts }
+    Board {
+        counts,
+        parts,
+        start,
+    }
 }
 
 // Prints the name of a push or a release, and what came of it.
@@ -77,7 +92,7 @@ fn print_pressed(name: &[u8], pressed: Pressed) {
 
 // Pushes and releases buttons of a board, and prints what came of each.
 fn press_buttons(board: Board) {
-    let fresh = State::fresh();
+    let fresh = State::fresh(board);
     let pushed = presses::push(board, fresh, 0);
     print_pressed(b" push ", pushed);
     let after = pushed.state;

@@ -4,7 +4,7 @@ use Prim.Native.Nat.{ℕ, zero, suc, _+_, _≤_}
 use native.Mathlib.Omega.{arith}
 use mathlib.Core.Path.{_≡_, refl, sym, ap, _∙_}
 use mathlib.Core.Bool.{true}
-use mathlib.Core.List.{List, [], _∷_, _++_, append-nil}
+use mathlib.Core.List.{List, [], _∷_, _++_, map, append-nil}
 use lib.ListN.{length}
 use lib.Seq.{length-take-le}
 use Rattle.refusals.specs.Outcomes.{Found, found}
@@ -17,7 +17,7 @@ use Rattle.board.specs.declared.Counts.{Counts}
 use Rattle.board.specs.declared.Board.{Board}
 use Rattle.board.specs.Parts.{mostParts, partsOf}
 use Rattle.board.specs.Rules.{leastTerminals, mostTerminals, mostRelays, mostButtons, inRange}
-use Rattle.board.specs.Rules.{partFine, gainedAll, partsFine, boardFine}
+use Rattle.board.specs.Rules.{partFine, gainedAll, partsFine, startOf, boardFine}
 use Rattle.bits.proofs.BoolLaws.{both-true, true-both}
 use Rattle.board.proofs.PaddedLaws.{padded-parts}
 use Rattle.board.proofs.RuleLaws.{InRange}
@@ -30,7 +30,7 @@ use Rattle.board_reader.proofs.CountsLaws.{CountsFound, counts-found, counts-fo
 use Rattle.board_writer.specs.File.{rowBytes, countsBytes, partBytes, partsBytes, boardBytes}
 use Rattle.file_means.proofs.StandLaws.{StandsTo, stands-none, stands-append, stands-first, stands-second}
 use Rattle.file_means.proofs.StandLaws.{AsWritten, wanted-reads, wanted-stands}
-use Rattle.file_means.proofs.PartTrip.{part-reads, PartIsFine, part-read}
+use Rattle.file_means.proofs.PartTrip.{asRead, part-reads, PartIsFine, part-read}
 use Rattle.file_means.proofs.GivesLaws.{Gives, gives-then, gives-after, gives-unless}
 
 -- counts
@@ -62,7 +62,7 @@ counts-reads c s next range here =
     (count-reads 0 mostParts s p-at next (c .parts) (omega arith) (omega arith) (range .most-parts)
     (rw (append-nil p) at (stands-second s b-at next b (p ++ []) from-b))))
 
-counts-stand : (e : Edition) (c : Counts) (s : List ℕ) (next : ℕ) → AsWritten e s → CountsFound e s c next
+pub counts-stand : (e : Edition) (c : Counts) (s : List ℕ) (next : ℕ) → AsWritten e s → CountsFound e s c next
     → StandsTo s 0 next (countsBytes c)
 unfolding countsBytes rowBytes
 counts-stand e c s next written read =
@@ -74,7 +74,7 @@ counts-stand e c s next written read =
 -- parts one after the other
 parts-reads : (c : Counts) (ps : List Part) (w : WoundSoFar) (s : List ℕ) (at next : ℕ) → InRange c
     → partsFine c w ps ≡ true → StandsTo s at next (partsBytes ps)
-    → partsAt currentEdition c (length ps) w s at ≡ found ps next
+    → partsAt currentEdition c (length ps) w s at ≡ found (map asRead ps) next
 unfolding partsFine rowBytes partsAt
 parts-reads c [] w s at next range fine here =
     let same : at ≡ next = omega (arith, here .ends) in
@@ -88,13 +88,19 @@ parts-reads c (p ∷ ps) w s at next range fine here =
     (stands-second s at next (partBytes p) (partsBytes ps) here) in
     rw (first, rest)
 
-record PartsRead (e : Edition) (c : Counts) (n : ℕ) (w : WoundSoFar) (s : List ℕ) (at : ℕ)
-    (ps : Found (List Part)) : Type 0 where
-  counted : length (ps .value) ≡ n
-  fine : partsFine c w (ps .value) ≡ true
-  stands : AsWritten e s → StandsTo s at (ps .next) (partsBytes (ps .value))
+-- parts give the same windings and marks as they are read back
+pub gained-as-read : (w : WoundSoFar) (ps : List Part) → gainedAll w (map asRead ps) ≡ gainedAll w ps
+unfolding gainedAll
+gained-as-read w [] = refl
+gained-as-read w (p ∷ ps) = gained-as-read (gained w (p .kind)) ps
 
-parts-read : (e : Edition) → Known e → (c : Counts) (n : ℕ) (w : WoundSoFar) (s : List ℕ) (at : ℕ)
+pub record PartsRead (e : Edition) (c : Counts) (n : ℕ) (w : WoundSoFar) (s : List ℕ) (at : ℕ)
+    (ps : Found (List Part)) : Type 0 where
+  pub counted : length (ps .value) ≡ n
+  pub fine : partsFine c w (ps .value) ≡ true
+  pub stands : AsWritten e s → StandsTo s at (ps .next) (partsBytes (ps .value))
+
+pub parts-read : (e : Edition) → Known e → (c : Counts) (n : ℕ) (w : WoundSoFar) (s : List ℕ) (at : ℕ)
     → Gives (PartsRead e c n w s at) (partsAt e c n w s at)
 unfolding partsAt partsFine rowBytes
 parts-read e known c zero w s at =
@@ -113,7 +119,8 @@ parts-read e known c (suc n) w s at =
 
 -- a board. An array of parts has 256 places, which a list does not say by itself
 pub board-reads : (b : Board) (s : List ℕ) (next : ℕ) → length (b .parts) ≡ mostParts → boardFine b ≡ true
-    → StandsTo s 0 next (boardBytes b) → boardAt currentEdition s ≡ found (boardOf (b .counts) (partsOf b)) next
+    → StandsTo s 0 next (boardBytes b)
+    → boardAt currentEdition s ≡ found (boardOf (b .counts) (map asRead (partsOf b))) next
 unfolding boardBytes boardAt boardFrom
 board-reads b s next places fine here =
     let tests = fine-splits b fine in
@@ -127,9 +134,12 @@ board-reads b s next places fine here =
     let parts =
     parts-reads (b .counts) (partsOf b) noneWound s mid next range (tests .parts)
     (stands-second s 0 next (countsBytes (b .counts)) (partsBytes (partsOf b)) here) in
-    let all : partsAt currentEdition (b .counts) (b .counts .parts) noneWound s mid ≡ found (partsOf b) next =
+    let all : partsAt currentEdition (b .counts) (b .counts .parts) noneWound s mid
+    ≡ found (map asRead (partsOf b)) next =
     ap (λ (n : ℕ). partsAt currentEdition (b .counts) n noneWound s mid) (sym counted) ∙ parts in
-    rw (counts, all, tests .whole)
+    let whole : complete (b .counts .relays) (gainedAll noneWound (map asRead (partsOf b))) ≡ true =
+    ap (complete (b .counts .relays)) (gained-as-read noneWound (partsOf b)) ∙ tests .whole in
+    rw (counts, all, whole)
 
 pub record BoardIsFine (e : Edition) (s : List ℕ) (b : Board) (next : ℕ) : Type 0 where
   pub fine : boardFine b ≡ true
@@ -140,7 +150,7 @@ board-made : (e : Edition) (c : Counts) (s : List ℕ) (mid : ℕ) (ps : Found (
     → BoardIsFine e s (boardOf c (ps .value)) (ps .next)
 unfolding boardBytes
 board-made e c s mid ps first rest full =
-    let same = padded-parts c (ps .value) (sym (rest .counted)) in
+    let same = padded-parts c (ps .value) (startOf (ps .value)) (sym (rest .counted)) in
     record {
       fine =
           splits-fine (boardOf c (ps .value))
@@ -148,6 +158,7 @@ board-made e c s mid ps first rest full =
             counts = counts-found-fine e s c mid first;
             parts = rw same (rest .fine);
             whole = rw same full;
+            start = rw same refl;
           });
       stands =
           λ written. rw same (stands-append s 0 mid (ps .next) _ _ (counts-stand e c s mid written first)

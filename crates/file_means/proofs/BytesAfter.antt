@@ -2,7 +2,7 @@
 -- place, in every input that begins with the same bytes up to there.
 use Prim.Native.Nat.{ℕ, _≤_}
 use native.Mathlib.Omega.{arith}
-use mathlib.Core.Path.{_≡_, refl, sym, ap, _∙_}
+use mathlib.Core.Path.{_≡_, sym, ap, _∙_}
 use mathlib.Core.List.{List}
 use lib.ListN.{length, take}
 use lib.Seq.{take-take}
@@ -12,11 +12,13 @@ use Rattle.board.specs.declared.Board.{Board}
 use Rattle.board.specs.Parts.{partsOf}
 use Rattle.board_reader.specs.Editions.{Edition, currentEdition}
 use Rattle.board_reader.proofs.EditionLaws.{current-known}
+use Rattle.kinds.specs.Kinds.{markKind}
 use Rattle.file_means.specs.FileRefusals.{StandsAt, FileStage, at-T, at-R, at-B, at-C, at-part, at-first}
 use Rattle.file_means.specs.FileRefusals.{at-second, at-name, Reached, start, T-fine, R-fine, B-fine, C-fine}
-use Rattle.file_means.specs.FileRefusals.{kind-fine, first-fine, second-fine, wire-fine, button-fine, relay-fine}
+use Rattle.file_means.specs.FileRefusals.{kind-fine, mark-fine, first-fine, second-fine, wire-fine, button-fine}
+use Rattle.file_means.specs.FileRefusals.{relay-fine}
 use Rattle.file_means.specs.BytesAfter.{BytesAfter}
-use Rattle.file_means.proofs.FileRefusals.{reached-reading, file-accepted}
+use Rattle.file_means.proofs.FileRefusals.{reached-reading, table-accepted}
 
 -- a stage is reached within the input
 reached-within : (e : Edition) (s : List ℕ) (f : FileStage) (at : ℕ) → Reached e s f at → at ≤ length s
@@ -25,12 +27,13 @@ reached-within e s f at (T-fine x stands least most) = number-next-within (e .wi
 reached-within e s f at (R-fine x stands most) = number-next-within (e .width) s _ _ at stands .0
 reached-within e s f at (B-fine x stands most) = number-next-within (e .width) s _ _ at stands .0
 reached-within e s f at (C-fine x stands most) = number-next-within (e .width) s _ _ at stands .0
-reached-within e s f at (kind-fine x more stands most) = number-next-within (e .width) s _ _ at stands .0
+reached-within e s f at (kind-fine x more stands most joins) = number-next-within (e .width) s _ _ at stands .0
+reached-within e s f at (mark-fine x more stands known) = number-next-within (e .width) s _ _ at stands .0
 reached-within e s f at (first-fine x stands below) = number-next-within (e .width) s _ _ at stands .0
 reached-within e s f at (second-fine x stands below apart) = number-next-within (e .width) s _ _ at stands .0
 reached-within e s f at (wire-fine x) = reached-within e s _ at x
 reached-within e s f at (button-fine x stands below) = number-next-within (e .width) s _ _ at stands .0
-reached-within e s f at (relay-fine x carries relay stands below untaken) =
+reached-within e s f at (relay-fine x carries relay stands below untaken once) =
     number-next-within (e .width) s _ _ at stands .0
 
 module _ (e : Edition) (s s′ : List ℕ) where
@@ -53,9 +56,12 @@ module _ (e : Edition) (s s′ : List ℕ) where
       B-fine (reached-same (at-B t r) p (before-same p b at same stands) x) (stands-same p b at same stands) most
   reached-same f at same (C-fine {t} {r} {b} {c} {p} x stands most) =
       C-fine (reached-same (at-C t r b) p (before-same p c at same stands) x) (stands-same p c at same stands) most
-  reached-same f at same (kind-fine {c} {ps} {k} {p} x more stands most) =
+  reached-same f at same (kind-fine {c} {ps} {k} {p} x more stands most joins) =
       kind-fine (reached-same (at-part c ps) p (before-same p k at same stands) x) more
-      (stands-same p k at same stands) most
+      (stands-same p k at same stands) most joins
+  reached-same f at same (mark-fine {c} {ps} {p} x more stands known) =
+      mark-fine (reached-same (at-part c ps) p (before-same p markKind at same stands) x) more
+      (stands-same p markKind at same stands) known
   reached-same f at same (first-fine {c} {ps} {k} {a} {p} x stands below) =
       first-fine (reached-same (at-first c ps k) p (before-same p a at same stands) x)
       (stands-same p a at same stands) below
@@ -66,22 +72,27 @@ module _ (e : Edition) (s s′ : List ℕ) where
   reached-same f at same (button-fine {c} {ps} {a} {b} {v} {p} x stands below) =
       button-fine (reached-same (at-name c ps _ a b) p (before-same p v at same stands) x)
       (stands-same p v at same stands) below
-  reached-same f at same (relay-fine {c} {ps} {k} {a} {b} {v} {p} x carries relay stands below untaken) =
+  reached-same f at same (relay-fine {c} {ps} {k} {a} {b} {v} {p} x carries relay stands below untaken once) =
       relay-fine (reached-same (at-name c ps k a b) p (before-same p v at same stands) x) carries relay
-      (stands-same p v at same stands) below untaken
+      (stands-same p v at same stands) below untaken once
 
 pub bytes-after : BytesAfter
 bytes-after s s′ r r′ n read told =
     let c = r .board .counts in
     let ps = partsOf (r .board) in
-    let was = file-accepted s r c ps n read .0 (told, refl, refl) in
-    let here = was .1 in (
-      reached-within currentEdition s (at-part c ps) n here,
+    let was =
+    table-accepted currentEdition current-known s (r .board) n
+    (sym read ∙ ap (λ (o : Outcome ℕ). (r .board, o)) told) in
+    let there = was .1 in (
+      reached-within currentEdition s (at-part c ps) n (there .reached),
       λ short same read′.
-          (let first = read ∙ reached-reading currentEdition current-known s c ps n (was .0) here (was .2) (was .3) in
+          (let first =
+          read ∙ reached-reading currentEdition current-known s c ps n (was .0) (there .reached) (there .counted)
+          (there .all-wound) in
           let again =
           read′ ∙ reached-reading currentEdition current-known s′ c ps n short
-          (reached-same currentEdition s s′ (at-part c ps) n same here) (was .2) (was .3) in (
+          (reached-same currentEdition s s′ (at-part c ps) n same (there .reached)) (there .counted)
+          (there .all-wound) in (
             ap (λ (x : Board × Outcome ℕ). x .0) (again ∙ sym first),
             ap (λ (x : Board × Outcome ℕ). x .1) again,
           )),

@@ -7,30 +7,24 @@ use mathlib.Core.List.{List}
 use lib.Dec.{leb}
 use lib.ListN.{length}
 use borrow.Author.Tests.{leb-true, leb-false, le-leb, lt-leb}
-use Rattle.refusals.specs.Outcomes.{Outcome, given, refused, Found, found}
+use Rattle.refusals.specs.Outcomes.{Outcome, given, refused, Found}
 use Rattle.refusals.specs.Refusals.{inputTooLong}
-use Rattle.refusals.proofs.OutcomeLaws.{refused-never, given-injective}
 use Rattle.board.specs.declared.Board.{Board}
 use Rattle.board.specs.declared.Counts.{Counts}
 use Rattle.board.specs.declared.Part.{Part}
 use Rattle.board.specs.Parts.{partsOf}
+use Rattle.board.specs.Rules.{startOf}
 use Rattle.board.specs.Sorts.{Wound}
 use Rattle.board.proofs.PaddedLaws.{padded-parts}
 use Rattle.board_reader.specs.Editions.{Edition, currentEdition}
 use Rattle.board_reader.specs.Reading.{boardOf, boardAt, answered, reading, longestInput}
 use Rattle.board_reader.proofs.EditionLaws.{Known, current-known}
-use Rattle.board_reader.proofs.ReadLaws.{boardWithin, answered-refused}
+use Rattle.board_reader.proofs.ReadLaws.{boardWithin, answered-given, answered-refused}
 use Rattle.file_means.specs.FileRefusals.{at-part, Reached, LineHolds, FileRefused, FileAccepted}
 use Rattle.file_means.proofs.LeadsLaws.{Leads, leads-refused, leads-given, leads-each, leads-unless}
 use Rattle.file_means.proofs.ReadLeads.{BoardReached, board-leads}
 use Rattle.file_means.proofs.ReachedRead.{reached-board}
 use Rattle.file_means.proofs.HoldsRefused.{holds-board}
-
-answered-given : (o : Outcome (Found Board)) (b : Board) (n : ℕ) → answered o ≡ (b, given n) → o ≡ found b n
-unfolding answered
-answered-given (given f) b n e =
-    let place = given-injective (f .next) n (λ i. e i .1) in λ i. found (e i .0) (place i)
-answered-given (refused k p) b n e = absurd (refused-never k p n (λ i. e i .1))
 
 -- what reading by an edition answers, by the table of that edition
 module _ (e : Edition) (known : Known e) (s : List ℕ) where
@@ -94,6 +88,7 @@ file-accepted s r c ps n was = (
       (let answer = was ∙ reached-reading currentEdition current-known s c ps n short here all wounds in (
         ap (λ (x : Board × Outcome ℕ). x .1) answer,
         ap (λ (x : Board × Outcome ℕ). x .0 .counts) answer,
-        ap (λ (x : Board × Outcome ℕ). partsOf (x .0)) answer ∙ padded-parts c ps (sym all),
+        ap (λ (x : Board × Outcome ℕ). partsOf (x .0)) answer ∙ padded-parts c ps (startOf ps) (sym all),
+        ap (λ (x : Board × Outcome ℕ). x .0 .start) answer,
       )),
 )

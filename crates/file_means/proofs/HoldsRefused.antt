@@ -4,19 +4,19 @@ use Prim.Native.Nat.{ℕ, suc, _-_, _<_}
 use native.Mathlib.Omega.{arith}
 use mathlib.Core.Path.{_≡_, refl, sym, _∙_}
 use mathlib.Core.Logic.{inl, inr, ⊎-elim}
-use mathlib.Core.Bool.{Bool, false}
+use mathlib.Core.Bool.{Bool, true, false}
 use mathlib.Core.List.{List}
 use lib.Dec.{ltb}
 use lib.ListN.{length}
 use borrow.Author.Tests.{le-ltb}
 use Rattle.bits.proofs.BoolLaws.{by-test}
-use Rattle.refusals.specs.Outcomes.{refused}
+use Rattle.refusals.specs.Outcomes.{refused, found}
 use Rattle.refusals.specs.Refusals.{outOfRange, noSuchKind, noSuchTerminal, endsEqual, noSuchName, windingTaken}
-use Rattle.refusals.specs.Refusals.{windingLacking}
+use Rattle.refusals.specs.Refusals.{windingLacking, markedTwice}
 use Rattle.number.specs.Numbers.{numberAt}
-use Rattle.kinds.specs.Kinds.{buttonKind}
+use Rattle.kinds.specs.Kinds.{buttonKind, markKind, kindOf}
 use Rattle.windings.specs.declared.WoundSoFar.{WoundSoFar}
-use Rattle.windings.specs.Windings.{wound, complete}
+use Rattle.windings.specs.Windings.{windingFree, wound, complete}
 use Rattle.windings.proofs.EveryLaws.{every-fails}
 use Rattle.board.specs.declared.Counts.{Counts}
 use Rattle.board.specs.declared.Part.{Part}
@@ -25,19 +25,20 @@ use Rattle.board.specs.Rules.{leastTerminals, mostTerminals, mostRelays, mostBu
 use Rattle.board.specs.Sorts.{isRegular, isSteel}
 use Rattle.board.proofs.TallyLaws.{tallied-wound}
 use Rattle.board_reader.specs.Editions.{Edition}
-use Rattle.board_reader.specs.Reading.{wanted, countsAt, partAt, partsAt, boardAt}
+use Rattle.board_reader.specs.Reading.{wanted, countsAt, nameAt, endsAt, partAt, partsAt, boardAt}
 use Rattle.board_reader.proofs.EditionLaws.{Known}
 use Rattle.board_reader.proofs.FieldLaws.{wanted-refused, wanted-fails, wanted-passes, wanted-found, range-below}
 use Rattle.board_reader.proofs.FieldLaws.{range-above, name-carried}
 use Rattle.board_reader.proofs.CountsLaws.{terminals-refused, relays-refused, buttons-refused, parts-refused}
-use Rattle.board_reader.proofs.PartLaws.{kind-refused, a-refused, b-refused, ends-equal, name-refused}
-use Rattle.board_reader.proofs.PartLaws.{winding-taken-refused}
-use Rattle.file_means.specs.FileRefusals.{Taken, FileStage, Reached, NumberStands, at-T, at-R, at-B, at-C}
-use Rattle.file_means.specs.FileRefusals.{at-part, at-first, at-second, at-name, NumberWanted, LineHolds, line1}
-use Rattle.file_means.specs.FileRefusals.{line2, line3-T, line3-R, line3-B, line3-C, line4, line5-first}
+use Rattle.board_reader.proofs.PartLaws.{kind-refused, a-refused, b-refused, ends-equal, ends-refused}
+use Rattle.board_reader.proofs.PartLaws.{name-refused, winding-taken-refused, marked-twice-refused}
+use Rattle.file_means.specs.FileRefusals.{Taken, TakenMark, FileStage, Reached, NumberStands, at-T, at-R, at-B}
+use Rattle.file_means.specs.FileRefusals.{at-C, at-part, at-first, at-second, at-name, NumberWanted, LineHolds}
+use Rattle.file_means.specs.FileRefusals.{line1, line2, line3-T, line3-R, line3-B, line3-C, line4, line5-first}
 use Rattle.file_means.specs.FileRefusals.{line5-second, line6, line7-button, line7-relay, line8, line9}
-use Rattle.file_means.proofs.TakenLaws.{taken-winding, taken-barred}
-use Rattle.file_means.proofs.ReachedRead.{PartsSoFar, StageRead, kind-most, relay-limit}
+use Rattle.file_means.specs.FileRefusals.{line17}
+use Rattle.file_means.proofs.TakenLaws.{taken-winding, taken-barred, marked-barred}
+use Rattle.file_means.proofs.ReachedRead.{PartsSoFar, KindRead, StageRead, relay-limit}
 use Rattle.file_means.proofs.ReachedRead.{name-found, reached-read, rest-refused, last-part}
 
 -- the reader's test of the number that is wanted at a stage, and the number for no of it
@@ -61,6 +62,11 @@ lineOf (at-first c ps k) = noSuchTerminal
 lineOf (at-second c ps k a) = noSuchTerminal
 lineOf (at-name c ps k a b) = noSuchName
 
+-- a mark takes no winding
+mark-free : (w : WoundSoFar) (k v : ℕ) → k ≡ markKind → windingFree w (kindOf k v) ≡ true
+unfolding kindOf
+mark-free w k v mark = rw mark refl
+
 module _ (e : Edition) (known : Known e) (s : List ℕ) where
   -- ---- a number that is refused, or that fails its test
 
@@ -75,6 +81,12 @@ module _ (e : Edition) (known : Known e) (s : List ℕ) where
     board-part c ps w at x more stops =
         rest-refused e known s c ps w at (suc (c .parts - length ps - 1)) n p x (omega (arith, more)) (rw (← stops))
 
+    board-ends-refused : (c : Counts) (ps : List Part) (w : WoundSoFar) (k at : ℕ) → KindRead e s c ps w k at
+        → refused n p ≡ endsAt e c k s at → boardAt e s ≡ refused n p
+    board-ends-refused c ps w k at x stops =
+        board-part c ps w (x .part-at) (x .before) (x .one-more)
+        (ends-refused e c w s (x .part-at) k at (x .kind-read) n p (sym stops))
+
     board-stage : (f : FileStage) (at : ℕ) → StageRead e s f at → NumberWanted f
         → wanted e (testOf e f) (lineOf f) s at ≡ refused n p → boardAt e s ≡ refused n p
     board-stage at-T at here asked stops = board-counts (terminals-refused e s n p (rw here at stops))
@@ -84,19 +96,16 @@ module _ (e : Edition) (known : Known e) (s : List ℕ) where
     board-stage (at-C t r b) at (r-at, b-at, t-read, r-read, b-read) asked stops =
         board-counts (parts-refused e s n p t r-at t-read r b-at r-read b at b-read stops)
     board-stage (at-part c ps) at (w, x) asked stops = board-part c ps w at x asked (kind-refused e c w s at n p stops)
-    board-stage (at-first c ps k) at (w, x) asked stops =
-        board-part c ps w (x .part-at) (x .before) (x .one-more)
-        (a-refused e c w s (x .part-at) k at (x .kind-read) n p stops)
+    board-stage (at-first c ps k) at (w, x, joins) asked stops =
+        board-ends-refused c ps w k at x (a-refused e c k s at joins n p stops)
     board-stage (at-second c ps k a) at (w, x) asked stops =
-        let y = x .before in
-        board-part c ps w (y .part-at) (y .before) (y .one-more)
-        (b-refused e c w s (y .part-at) k (x .a-at) (y .kind-read) a at (x .a-read) n p stops)
+        board-ends-refused c ps w k (x .a-at) (x .before)
+        (b-refused e c k s (x .a-at) (x .joins) a at (x .a-read) n p stops)
     board-stage (at-name c ps k a b) at (w, x) asked stops =
-        let y = x .before in
-        let z = y .before in
+        let z = x .before in
         board-part c ps w (z .part-at) (z .before) (z .one-more)
-        (name-refused e c w s (z .part-at) k (y .a-at) (z .kind-read) a (x .b-at) (y .a-read) b at (x .b-read)
-        (x .apart) n p (sym (name-carried e c k s at asked) ∙ stops))
+        (name-refused e c w s (z .part-at) k (x .ends-at) (z .kind-read) (a, b) at (x .ends-read) n p
+        (sym (name-carried e c k s at asked) ∙ stops))
 
   board-form : (n p : ℕ) (f : FileStage) (at : ℕ) → Reached e s f at → NumberWanted f
       → numberAt (e .width) s at ≡ refused n p
@@ -111,33 +120,46 @@ module _ (e : Edition) (known : Known e) (s : List ℕ) where
       board-stage (lineOf f) at f at (reached-read e known s f at here) asked
       (wanted-fails e (testOf e f) (lineOf f) s at v next stands off)
 
-  -- ---- 6, 8 and 9, which are no test of one number alone
+  -- ---- 6, 8, 17 and 9, which are no test of one number alone
 
   board-ends : (c : Counts) (ps : List Part) (k a at : ℕ) → NumberStands e s (at-second c ps k a) at a
       → boardAt e s ≡ refused endsEqual at
   board-ends c ps k a at (here, asked, next, stands) =
       let read = reached-read e known s (at-second c ps k a) at here in
-      let w = read .0 in
       let x = read .1 in
-      let y = x .before in
       let fine = wanted-found e (terminalFine c) noSuchTerminal s (x .a-at) a at (x .a-read) .0 in
-      board-part endsEqual at c ps w (y .part-at) (y .before) (y .one-more)
-      (ends-equal e c w s (y .part-at) k (x .a-at) (y .kind-read) a at (x .a-read) a next
+      board-ends-refused endsEqual at c ps (read .0) k (x .a-at) (x .before)
+      (ends-equal e c k s (x .a-at) (x .joins) a at (x .a-read) a next
       (wanted-passes e (terminalFine c) noSuchTerminal s at a next stands fine) refl)
 
-  board-winding : (c : Counts) (ps : List Part) (k a b v at : ℕ) → NumberStands e s (at-name c ps k a b) at v
-      → v < c .relays → Taken v ps k → boardAt e s ≡ refused windingTaken at
-  board-winding c ps k a b v at (here, asked, next, stands) below taken =
-      let read = reached-read e known s (at-name c ps k a b) at here in
-      let w = read .0 in
-      let x = read .1 in
-      let y = x .before in
-      let z = y .before in
-      let relay : ¬ (k ≡ buttonKind) = λ e. (let winding = taken-winding v ps k taken in omega (arith, e, winding)) in
-      board-part windingTaken at c ps w (z .part-at) (z .before) (z .one-more)
-      (winding-taken-refused e c w s (z .part-at) k (y .a-at) (z .kind-read) a (x .b-at) (y .a-read) b at (x .b-read)
-      (x .apart) v next (name-found e known s c k at (c .relays) v next asked (relay-limit c k relay) stands below)
-      (taken-barred w ps v (z .before .so-far v) k (kind-most e known s c ps w k a b at x) taken))
+  -- the relay of a winding or a mark is there, and is barred
+  module _ (c : Counts) (ps : List Part) (k a b v at : ℕ) (stands : NumberStands e s (at-name c ps k a b) at v)
+      (relay : ¬ (k ≡ buttonKind)) (below : v < c .relays) where
+    abbrev named : StageRead e s (at-name c ps k a b) at
+    named = reached-read e known s (at-name c ps k a b) at (stands .0)
+
+    relay-found : nameAt e c k s at ≡ found v (stands .2)
+    relay-found =
+        name-found e known s c k at (c .relays) v (stands .2) (stands .1) (relay-limit c k relay) (stands .3) below
+
+    board-winding : Taken v ps k → boardAt e s ≡ refused windingTaken at
+    board-winding taken =
+        let w = named .0 in
+        let x = named .1 in
+        let z = x .before in
+        board-part windingTaken at c ps w (z .part-at) (z .before) (z .one-more)
+        (winding-taken-refused e c w s (z .part-at) k (x .ends-at) (z .kind-read) (a, b) at (x .ends-read) v
+        (stands .2) relay-found (taken-barred w ps v (z .before .so-far v) k taken))
+
+    board-mark : TakenMark v ps k → boardAt e s ≡ refused markedTwice at
+    board-mark twice =
+        let w = named .0 in
+        let x = named .1 in
+        let z = x .before in
+        board-part markedTwice at c ps w (z .part-at) (z .before) (z .one-more)
+        (marked-twice-refused e c w s (z .part-at) k (x .ends-at) (z .kind-read) (a, b) at (x .ends-read) v
+        (stands .2) relay-found (mark-free w k v (twice .0))
+        (marked-barred w ps v (z .before .so-far v) k twice))
 
   board-lacking : (c : Counts) (ps : List Part) (r at : ℕ) → Reached e s (at-part c ps) at → length ps ≡ c .parts
       → r < c .relays → ¬ isRegular r ps → ¬ isSteel r ps → boardAt e s ≡ refused windingLacking at
@@ -178,6 +200,9 @@ holds-board e known s n p (line7-button {c} {ps} {a} {b} {v} x over) =
 holds-board e known s n p (line7-relay {c} {ps} {k} {a} {b} {v} x relay over) =
     board-test e known s (at-name c ps k a b) p v x (rw (relay-limit c k relay) (le-ltb v (c .relays) over))
 holds-board e known s n p (line8 {c} {ps} {k} {a} {b} {v} x below taken) =
-    board-winding e known s c ps k a b v p x below taken
+    let relay : ¬ (k ≡ buttonKind) = λ e. (let winding = taken-winding v ps k taken in omega (arith, e, winding)) in
+    board-winding e known s c ps k a b v p x relay below taken
+holds-board e known s n p (line17 {c} {ps} {k} {a} {b} {v} x below twice) =
+    board-mark e known s c ps k a b v p x (λ e. omega (arith, e, twice .0)) below twice
 holds-board e known s n p (line9 {c} {ps} {r} x all below irregular no-steel) =
     board-lacking e known s c ps r p x all below irregular no-steel

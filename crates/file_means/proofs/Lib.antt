@@ -13,4 +13,5 @@ pub mod HoldsRefused
 pub mod FileRefusals
 pub mod BytesAfter
 pub mod KeptLaws
+pub mod SecondEdition
 pub mod FilesKept

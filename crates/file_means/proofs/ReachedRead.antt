@@ -2,10 +2,9 @@
 -- it. So what it comes to from there on is what it comes to at all: a refusal there is the refusal of the board, and
 -- where no relay lacks a winding after the last part, the board is read.
 --     behind ps o                what o gives, behind the parts ps
---     PartsSoFar e s c ps w at   the counts c and the parts ps were read, the parts give the windings w, and the rest
---                                of the board is what is read from here on
---     KindRead, FirstRead, EndsRead
---                                the kind of one more part, its first end, and its second that differs from it
+--     PartsSoFar e s c ps w at   the counts c and the parts ps were read, the parts give the windings and marks w, and
+--                                the rest of the board is what is read from here on KindRead, FirstRead, EndsFound the
+--                                kind of one more part, its first end, and both its ends, of which a mark has none
 --     StageRead e s f at         what was read where stage f is reached
 use Prim.Native.Nat.{ℕ, suc, _+_, _<_, _≤_}
 use native.Mathlib.Omega.{arith}
@@ -17,9 +16,9 @@ use lib.ListN.{length, length-append}
 use borrow.Author.Tests.{lt-ltb, ne-eqb}
 use Rattle.refusals.specs.Outcomes.{Outcome, given, refused, Found, found, _>>=_, _>>_, unless}
 use Rattle.refusals.specs.Refusals.{outOfRange, noSuchKind, noSuchTerminal, noSuchName, windingLacking}
-use Rattle.kinds.specs.Kinds.{wireKind, buttonKind, lastKind, kindOf}
+use Rattle.kinds.specs.Kinds.{wireKind, buttonKind, markKind, lastKind, kindOf}
 use Rattle.windings.specs.declared.WoundSoFar.{WoundSoFar}
-use Rattle.windings.specs.Windings.{noneWound, windingFree, gained, wound, every, complete}
+use Rattle.windings.specs.Windings.{noneWound, windingFree, unmarked, gained, wound, every, complete}
 use Rattle.windings.proofs.EveryLaws.{below-every}
 use Rattle.board.specs.declared.Counts.{Counts}
 use Rattle.board.specs.declared.Part.{Part}
@@ -30,18 +29,20 @@ use Rattle.board.specs.Sorts.{Wound}
 use Rattle.board.proofs.RuleLaws.{gained-more}
 use Rattle.board.proofs.TallyLaws.{Tallied, tallied-none, tallied-gained, wound-tallied}
 use Rattle.board_reader.specs.Editions.{Edition}
-use Rattle.board_reader.specs.Reading.{wanted, countsAt, nameAt, partAt, partsAt, boardOf, boardFrom, boardAt}
+use Rattle.board_reader.specs.Reading.{wanted, countsAt, nameAt, endsAt, partAt, partsAt, boardOf, boardFrom}
+use Rattle.board_reader.specs.Reading.{boardAt}
 use Rattle.board_reader.proofs.EditionLaws.{Known}
 use Rattle.board_reader.proofs.FieldLaws.{wanted-passes, wanted-found, wanted-below, range-within, range-bounds}
 use Rattle.board_reader.proofs.FieldLaws.{name-wire, name-carried}
 use Rattle.board_reader.proofs.CountsLaws.{countAt, count-most, counts-read}
-use Rattle.board_reader.proofs.PartLaws.{part-found}
+use Rattle.board_reader.proofs.PartLaws.{ends-of-mark, ends-found, part-found}
 use Rattle.file_means.specs.FileRefusals.{StandsAt, FileStage, at-T, at-R, at-B, at-C, at-part, at-first}
 use Rattle.file_means.specs.FileRefusals.{at-second, at-name, Reached, start, T-fine, R-fine, B-fine, C-fine}
-use Rattle.file_means.specs.FileRefusals.{kind-fine, first-fine, second-fine, wire-fine, button-fine, relay-fine}
+use Rattle.file_means.specs.FileRefusals.{kind-fine, mark-fine, first-fine, second-fine, wire-fine, button-fine}
+use Rattle.file_means.specs.FileRefusals.{relay-fine}
 use Rattle.file_means.proofs.GivesLaws.{Gives}
 use Rattle.file_means.proofs.PartTrip.{PartIsFine, part-read}
-use Rattle.file_means.proofs.TakenLaws.{untaken-free}
+use Rattle.file_means.proofs.TakenLaws.{untaken-free, untaken-unmarked}
 
 pub relay-limit : (c : Counts) (k : ℕ) → ¬ (k ≡ buttonKind) → limitOf c k ≡ c .relays
 relay-limit c k relay = rw (ne-eqb k buttonKind relay)
@@ -74,14 +75,14 @@ pub record FirstRead (e : Edition) (s : List ℕ) (c : Counts) (ps : List Part) 
     (k a at : ℕ) : Type 0 where
   pub a-at : ℕ
   pub before : KindRead e s c ps w k a-at
+  pub joins : ¬ (k ≡ markKind)
   pub a-read : wanted e (terminalFine c) noSuchTerminal s a-at ≡ found a at
 
-pub record EndsRead (e : Edition) (s : List ℕ) (c : Counts) (ps : List Part) (w : WoundSoFar)
+pub record EndsFound (e : Edition) (s : List ℕ) (c : Counts) (ps : List Part) (w : WoundSoFar)
     (k a b at : ℕ) : Type 0 where
-  pub b-at : ℕ
-  pub before : FirstRead e s c ps w k a b-at
-  pub b-read : wanted e (terminalFine c) noSuchTerminal s b-at ≡ found b at
-  pub apart : ¬ (a ≡ b)
+  pub ends-at : ℕ
+  pub before : KindRead e s c ps w k ends-at
+  pub ends-read : endsAt e c k s ends-at ≡ found (a, b) at
 
 abbrev pub StageRead : Edition → List ℕ → FileStage → ℕ → Type 0
 StageRead e s at-T at = at ≡ 0
@@ -93,9 +94,9 @@ StageRead e s (at-C t r b) at =
     × (countAt e 0 mostRelays s p ≡ found r q)
     × (countAt e 0 mostButtons s q ≡ found b at)
 StageRead e s (at-part c ps) at = (w : WoundSoFar) × PartsSoFar e s c ps w at
-StageRead e s (at-first c ps k) at = (w : WoundSoFar) × KindRead e s c ps w k at
+StageRead e s (at-first c ps k) at = (w : WoundSoFar) × KindRead e s c ps w k at × ¬ (k ≡ markKind)
 StageRead e s (at-second c ps k a) at = (w : WoundSoFar) × FirstRead e s c ps w k a at
-StageRead e s (at-name c ps k a b) at = (w : WoundSoFar) × EndsRead e s c ps w k a b at
+StageRead e s (at-name c ps k a b) at = (w : WoundSoFar) × EndsFound e s c ps w k a b at
 
 module _ (e : Edition) (known : Known e) (s : List ℕ) where
   -- ---- the counts
@@ -139,19 +140,18 @@ module _ (e : Edition) (known : Known e) (s : List ℕ) where
             x .whole (suc m) (omega (arith, all, length-append ps (q ∷ []))) ∙ ap (boardFrom c) parts);
       }
 
-  module _ (c : Counts) (ps : List Part) (w : WoundSoFar) (k a b at : ℕ) (x : EndsRead e s c ps w k a b at) where
+  module _ (c : Counts) (ps : List Part) (w : WoundSoFar) (k a b at : ℕ) (x : EndsFound e s c ps w k a b at) where
     named-onward : (v next : ℕ) → nameAt e c k s at ≡ found v next → windingFree w (kindOf k v) ≡ true
+        → unmarked w (kindOf k v) ≡ true
         → PartsSoFar e s c (ps ++ (record { a = a; b = b; kind = kindOf k v } ∷ [])) (gained w (kindOf k v)) next
-    named-onward v next named free =
-        let y = x .before in
-        let z = y .before in
+    named-onward v next named free once =
+        let z = x .before in
         part-onward c ps w (z .part-at) (record { a = a; b = b; kind = kindOf k v }) next (z .before)
-        (part-found e c w s (z .part-at) k (y .a-at) (z .kind-read) a (x .b-at) (y .a-read) b at (x .b-read) (x .apart)
-        v next named free)
+        (part-found e c w s (z .part-at) k (x .ends-at) (z .kind-read) (a, b) at (x .ends-read) v next named free once)
 
-    pub kind-most : k ≤ lastKind
+    kind-most : k ≤ lastKind
     kind-most =
-        let z = x .before .before in
+        let z = x .before in
         let fine = wanted-found e (inRange 0 (e .lastKind)) noSuchKind s (z .part-at) k _ (z .kind-read) .0 in
         omega (arith, range-bounds 0 (e .lastKind) k fine .1, known)
 
@@ -164,6 +164,17 @@ module _ (e : Edition) (known : Known e) (s : List ℕ) where
       ∙ wanted-passes e (λ n. ltb n limit) noSuchName s at v next stands (lt-ltb v limit below)
 
   -- ---- every stage
+
+  kind-onward : (c : Counts) (ps : List Part) (w : WoundSoFar) (k at next : ℕ) → PartsSoFar e s c ps w at
+      → length ps < c .parts → StandsAt e s at k next → k ≤ e .lastKind → KindRead e s c ps w k next
+  kind-onward c ps w k at next before more stands most =
+      record {
+        part-at = at;
+        before = before;
+        one-more = more;
+        kind-read = wanted-passes e (inRange 0 (e .lastKind)) noSuchKind s at k next stands
+            (range-within 0 (e .lastKind) k (omega arith) most);
+      }
 
   pub reached-read : (f : FileStage) (at : ℕ) → Reached e s f at → StageRead e s f at
   unfolding kindOf
@@ -185,15 +196,16 @@ module _ (e : Edition) (known : Known e) (s : List ℕ) where
             (counts-read e s t (before .0) r (before .1) b p c at (before .2) (before .3) (before .4)
             (count-found 0 mostParts p c at stands (omega arith) most)),
       )
-  reached-read f at (kind-fine {c} {ps} {k} {p} x more stands most) =
+  reached-read f at (kind-fine {c} {ps} {k} {p} x more stands most joins) =
+      let before = reached-read (at-part c ps) p x in
+      (before .0, kind-onward c ps (before .0) k p at (before .1) more stands most, joins)
+  reached-read f at (mark-fine {c} {ps} {p} x more stands known-mark) =
       let before = reached-read (at-part c ps) p x in (
         before .0,
         record {
-          part-at = p;
-          before = before .1;
-          one-more = more;
-          kind-read = wanted-passes e (inRange 0 (e .lastKind)) noSuchKind s p k at stands
-              (range-within 0 (e .lastKind) k (omega arith) most);
+          ends-at = at;
+          before = kind-onward c ps (before .0) markKind p at (before .1) more stands known-mark;
+          ends-read = sym (ends-of-mark e c markKind s at refl);
         },
       )
   reached-read f at (first-fine {c} {ps} {k} {a} {p} x stands below) =
@@ -202,37 +214,40 @@ module _ (e : Edition) (known : Known e) (s : List ℕ) where
         record {
           a-at = p;
           before = before .1;
+          joins = before .2;
           a-read = wanted-passes e (terminalFine c) noSuchTerminal s p a at stands (lt-ltb a (c .terminals) below);
         },
       )
   reached-read f at (second-fine {c} {ps} {k} {a} {b} {p} x stands below apart) =
-      let before = reached-read (at-second c ps k a) p x in (
+      let before = reached-read (at-second c ps k a) p x in
+      let y = before .1 in (
         before .0,
         record {
-          b-at = p;
-          before = before .1;
-          b-read = wanted-passes e (terminalFine c) noSuchTerminal s p b at stands (lt-ltb b (c .terminals) below);
-          apart = apart;
+          ends-at = y .a-at;
+          before = y .before;
+          ends-read =
+              sym (ends-found e c k s (y .a-at) (y .joins) a p (y .a-read) b at
+              (wanted-passes e (terminalFine c) noSuchTerminal s p b at stands (lt-ltb b (c .terminals) below)) apart);
         },
       )
   reached-read f at (wire-fine {c} {ps} {a} {b} x) =
       let before = reached-read (at-name c ps 0 a b) at x in
       let w = before .0 in
-      (w, named-onward c ps w 0 a b at (before .1) 0 at (sym (name-wire e c 0 s at refl)) refl)
+      (w, named-onward c ps w 0 a b at (before .1) 0 at (sym (name-wire e c 0 s at refl)) refl refl)
   reached-read f at (button-fine {c} {ps} {a} {b} {v} {p} x stands below) =
       let before = reached-read (at-name c ps buttonKind a b) p x in
       let w = before .0 in
       let named = name-found c buttonKind p (c .buttons) v at (λ e. omega (arith, e)) refl stands below in
-      (w, named-onward c ps w buttonKind a b p (before .1) v at named refl)
-  reached-read f at (relay-fine {c} {ps} {k} {a} {b} {v} {p} x carries relay stands below untaken) =
+      (w, named-onward c ps w buttonKind a b p (before .1) v at named refl refl)
+  reached-read f at (relay-fine {c} {ps} {k} {a} {b} {v} {p} x carries relay stands below untaken once) =
       let before = reached-read (at-name c ps k a b) p x in
       let w = before .0 in
       let named = name-found c k p (c .relays) v at carries (relay-limit c k relay) stands below in
       let most = kind-most c ps w k a b p (before .1) in
-      let so-far = before .1 .before .before .before .so-far v in (
+      let so-far = before .1 .before .before .so-far v in (
         gained w (kindOf k v),
         named-onward c ps w k a b p (before .1) v at named
-            (untaken-free w ps v so-far k most untaken),
+            (untaken-free w ps v so-far k most untaken) (untaken-unmarked w ps v so-far k most once),
       )
 
   -- ---- what follows

@@ -1,4 +1,5 @@
--- A board that was read breaks no rule of refusals 3 to 9, whatever the input, and stands at its start by its bytes.
+-- A board that was read breaks no rule of refusals 3 to 9 and 17 and carries its marks' start, whatever the input, and
+-- its bytes stand at the input's beginning.
 -- Read-then-write goes by this, and so does what is told of a session's events.
 use Prim.Native.Nat.{ℕ}
 use mathlib.Core.List.{List}

@@ -6,41 +6,44 @@ use mathlib.Core.Path.{_≡_, sym, subst, _∙_}
 use mathlib.Core.Logic.{_⊎_, inl, inr}
 use mathlib.Core.Bool.{Bool, true, false, false≢true}
 use mathlib.Core.List.{List, [], _∷_, _++_, append-nil, append-assoc}
-use lib.Dec.{ltb}
+use lib.Dec.{ltb, eqb}
 use lib.ListN.{length, length-append}
-use borrow.Author.Tests.{ltb-true, ltb-false, le-leb, leb-false, eqb-true, eqb-false, ne-eqb, not-false, not-true}
-use Rattle.bits.proofs.BoolLaws.{by-less}
+use borrow.Author.Tests.{ltb-true, ltb-false, le-leb, leb-false, eqb-true, eqb-false, eq-eqb, ne-eqb, not-false}
+use borrow.Author.Tests.{not-true}
+use Rattle.bits.proofs.BoolLaws.{by-test, by-less}
 use Rattle.refusals.specs.Outcomes.{Outcome, given, refused, Found, found, _>>=_, _>>_, unless}
 use Rattle.refusals.specs.Refusals.{inputEnds, badForm, outOfRange, noSuchKind, noSuchTerminal, endsEqual, noSuchName}
-use Rattle.refusals.specs.Refusals.{windingTaken, windingLacking}
+use Rattle.refusals.specs.Refusals.{windingTaken, windingLacking, markedTwice}
 use Rattle.number.specs.Numbers.{numberAt}
 use Rattle.number.proofs.NumberLaws.{number-refusal}
-use Rattle.kinds.specs.Kinds.{wireKind, buttonKind, lastKind, kindOf}
+use Rattle.kinds.specs.Kinds.{wireKind, buttonKind, markKind, lastKind, kindOf}
 use Rattle.windings.specs.declared.WoundSoFar.{WoundSoFar}
-use Rattle.windings.specs.Windings.{noneWound, windingFree, gained, wound, every, complete}
+use Rattle.windings.specs.Windings.{noneWound, windingFree, unmarked, gained, wound, every, complete}
 use Rattle.windings.proofs.EveryLaws.{every-below, every-lacks}
 use Rattle.board.specs.declared.Counts.{Counts}
 use Rattle.board.specs.declared.Part.{Part}
 use Rattle.board.specs.Parts.{mostParts, partsOf}
 use Rattle.board.specs.Rules.{leastTerminals, mostTerminals, mostRelays, mostButtons, inRange, terminalFine, endsFine}
-use Rattle.board.specs.Rules.{gainedAll}
+use Rattle.board.specs.Rules.{gainedAll, startOf}
 use Rattle.board.specs.Sorts.{isRegular, isSteel, Wound}
 use Rattle.board.proofs.PaddedLaws.{padded-parts}
 use Rattle.board.proofs.TallyLaws.{Tallied, tallied-none, tallied-gained, tallied-wound, wound-tallied}
 use Rattle.board_reader.specs.Editions.{Edition}
-use Rattle.board_reader.specs.Reading.{wanted, countsAt, nameAt, partAt, partsAt, boardOf, boardFrom, boardAt}
+use Rattle.board_reader.specs.Reading.{wanted, countsAt, nameAt, endsAt, partAt, partsAt, boardOf, boardFrom}
+use Rattle.board_reader.specs.Reading.{boardAt}
 use Rattle.board_reader.proofs.EditionLaws.{Known}
 use Rattle.board_reader.proofs.FieldLaws.{range-bounds}
 use Rattle.board_reader.proofs.CountsLaws.{count-most, counts-found}
 use Rattle.file_means.specs.FileRefusals.{StandsAt, FileStage, at-T, at-R, at-B, at-C, at-part, at-first}
 use Rattle.file_means.specs.FileRefusals.{at-second, at-name, NumberWanted, Reached, start, T-fine, R-fine}
-use Rattle.file_means.specs.FileRefusals.{B-fine, C-fine, kind-fine, first-fine, second-fine, wire-fine}
-use Rattle.file_means.specs.FileRefusals.{button-fine, relay-fine, NumberStands, LineHolds, line1, line2, line3-T}
-use Rattle.file_means.specs.FileRefusals.{line3-R, line3-B, line3-C, line4, line5-first, line5-second, line6}
-use Rattle.file_means.specs.FileRefusals.{line7-button, line7-relay, line8, line9}
+use Rattle.file_means.specs.FileRefusals.{B-fine, C-fine, kind-fine, mark-fine, first-fine, second-fine}
+use Rattle.file_means.specs.FileRefusals.{wire-fine, button-fine, relay-fine, NumberStands, LineHolds, line1}
+use Rattle.file_means.specs.FileRefusals.{line2, line3-T, line3-R, line3-B, line3-C, line4, line5-first}
+use Rattle.file_means.specs.FileRefusals.{line5-second, line6, line7-button, line7-relay, line8, line9}
+use Rattle.file_means.specs.FileRefusals.{line17}
 use Rattle.file_means.proofs.GivesLaws.{Gives}
 use Rattle.file_means.proofs.PartTrip.{PartIsFine, part-read}
-use Rattle.file_means.proofs.TakenLaws.{taken-barred, barred-taken}
+use Rattle.file_means.proofs.TakenLaws.{taken-barred, barred-taken, marked-barred, barred-marked}
 use Rattle.file_means.proofs.LeadsLaws.{Leads, leads-each, leads-then, leads-unless}
 
 -- a board of counts c and parts ps is reached up to a place, and no relay of it lacks a winding
@@ -49,7 +52,7 @@ pub record BoardReached (e : Edition) (s : List ℕ) (c : Counts) (ps : List Par
   pub counted : length ps ≡ c .parts
   pub all-wound : Wound (c .relays) ps
 
--- parts ps that give the windings w are reached up to a place, and they are C
+-- parts ps that give the windings and marks w are reached up to a place, and they are C
 record RowReached (e : Edition) (s : List ℕ) (c : Counts) (w : WoundSoFar) (ps : List Part) (at : ℕ) : Type 0 where
   reached : Reached e s (at-part c ps) at
   counted : length ps ≡ c .parts
@@ -111,61 +114,91 @@ module _ (e : Edition) (known : Known e) (s : List ℕ) where
       (λ v comes off. line3-C comes (range-over mostParts v off)) (λ c c-stands c-fine.
       C-fine c-at c-stands (range-bounds 0 mostParts (c .value) c-fine .1)))))
 
-  -- ---- 4 to 8, the fields of one more part
+  -- ---- 4 to 8 and 17, the fields of one more part
 
   module _ (c : Counts) (ps : List Part) (w : WoundSoFar) (so-far : (r : ℕ) → Tallied w ps r) where
     abbrev PartGiven : Found Part → Type 0
     PartGiven p = Reached e s (at-part c (ps ++ (p .value ∷ []))) (p .next)
 
-    -- a relay or button is wanted, and then 8 is tested
-    module _ (k a b at : ℕ) (here : Reached e s (at-name c ps k a b) at) (carries : ¬ (k ≡ wireKind)) (limit : ℕ) where
-      carried-leads : ((v : ℕ) → NumberStands e s (at-name c ps k a b) at v → limit ≤ v → LineHolds e s noSuchName at)
-          → ((v : ℕ) → NumberStands e s (at-name c ps k a b) at v → v < limit → windingFree w (kindOf k v) ≡ false
-          → LineHolds e s windingTaken at)
-          → ((v next : ℕ) → StandsAt e s at v next → v < limit → windingFree w (kindOf k v) ≡ true
-          → Reached e s (at-part c (ps ++ (record { a = a; b = b; kind = kindOf k v } ∷ []))) next)
-          → Leads (LineHolds e s) PartGiven (wanted e (λ v. ltb v limit) noSuchName s at >>= λ n. unless
-          (windingFree w (kindOf k (n .value))) windingTaken at
-          >> found (record { a = a; b = b; kind = kindOf k (n .value) }) (n .next))
-      carried-leads over taken free =
-          field-leads (at-name c ps k a b) at here carries PartGiven (λ v. ltb v limit) noSuchName _
-          (λ v comes off. over v comes (ltb-false v limit off)) (λ n stands fine.
-          let below = ltb-true (n .value) limit fine in
-          leads-unless (LineHolds e s) PartGiven (windingFree w (kindOf k (n .value))) windingTaken at _
-          (taken (n .value) (here, carries, n .next, stands) below)
-          (free (n .value) (n .next) stands below))
+    -- what is left of a part after its relay or button n was read: 8 and 17 are tested
+    abbrev namedOn : ℕ → ℕ → ℕ → ℕ → Found ℕ → Outcome (Found Part)
+    namedOn k a b at n =
+        unless (windingFree w (kindOf k (n .value))) windingTaken at
+        >> (unless (unmarked w (kindOf k (n .value))) markedTwice at
+        >> found (record { a = a; b = b; kind = kindOf k (n .value) }) (n .next))
 
+    -- and after its ends
     abbrev nameOn : ℕ → ℕ → ℕ → ℕ → Outcome (Found Part)
-    nameOn k a b at =
-        nameAt e c k s at >>= λ n. unless (windingFree w (kindOf k (n .value))) windingTaken at
-        >> found (record { a = a; b = b; kind = kindOf k (n .value) }) (n .next)
+    nameOn k a b at = nameAt e c k s at >>= namedOn k a b at
 
     relay-leads : (k a b at : ℕ) → k ≤ lastKind → ¬ (k ≡ wireKind) → ¬ (k ≡ buttonKind)
         → Reached e s (at-name c ps k a b) at
         → Leads (LineHolds e s) PartGiven (nameOn k a b at)
     unfolding nameAt
     relay-leads k a b at most carries relay here =
-        rw (ne-eqb k wireKind carries, ne-eqb k buttonKind relay) (carried-leads k a b at here carries (c .relays)
-        (λ v comes over. line7-relay comes relay over)
-        (λ v comes below off. line8 comes below (barred-taken w ps v (so-far v) k most off))
-        (λ v next stands below free. relay-fine here carries relay stands below
-        (λ taken. false≢true (sym (taken-barred w ps v (so-far v) k most taken) ∙ free))))
+        rw (ne-eqb k wireKind carries, ne-eqb k buttonKind relay)
+        (field-leads (at-name c ps k a b) at here carries PartGiven (λ v. ltb v (c .relays)) noSuchName _
+        (λ v comes off. line7-relay comes relay (ltb-false v (c .relays) off)) (λ n stands fine.
+        let v = n .value in
+        let below = ltb-true v (c .relays) fine in
+        let comes : NumberStands e s (at-name c ps k a b) at v = (here, carries, n .next, stands) in
+        leads-unless (LineHolds e s) PartGiven (windingFree w (kindOf k v)) windingTaken at _
+        (λ off. line8 comes below (barred-taken w ps v (so-far v) k most off)) (λ free.
+        leads-unless (LineHolds e s) PartGiven (unmarked w (kindOf k v)) markedTwice at _
+        (λ off. line17 comes below (barred-marked w ps v (so-far v) k most off)) (λ once.
+        relay-fine here carries relay stands below
+        (λ taken. false≢true (sym (taken-barred w ps v (so-far v) k taken) ∙ free))
+        (λ twice. false≢true (sym (marked-barred w ps v (so-far v) k twice) ∙ once))))))
 
     name-leads : (k a b at : ℕ) → k ≤ lastKind → Reached e s (at-name c ps k a b) at
         → Leads (LineHolds e s) PartGiven (nameOn k a b at)
     unfolding nameAt kindOf
     name-leads zero a b at most here = wire-fine here
     name-leads (suc (suc (suc zero))) a b at most here =
-        carried-leads buttonKind a b at here (λ e. omega (arith, e)) (c .buttons)
-        (λ v comes over. line7-button comes over)
-        (λ v comes below off. absurd (false≢true (sym off)))
-        (λ v next stands below free. button-fine here stands below)
+        field-leads (at-name c ps buttonKind a b) at here (λ e. omega (arith, e)) PartGiven (λ v. ltb v (c .buttons))
+        noSuchName _ (λ v comes off. line7-button comes (ltb-false v (c .buttons) off)) (λ n stands fine.
+        button-fine here stands (ltb-true (n .value) (c .buttons) fine))
     name-leads (suc zero) a b at most here =
         relay-leads 1 a b at most (λ e. omega (arith, e)) (λ e. omega (arith, e)) here
     name-leads (suc (suc zero)) a b at most here =
         relay-leads 2 a b at most (λ e. omega (arith, e)) (λ e. omega (arith, e)) here
     name-leads (suc (suc (suc (suc k)))) a b at most here =
         relay-leads (suc (suc (suc (suc k)))) a b at most (λ e. omega (arith, e)) (λ e. omega (arith, e)) here
+
+    -- the ends, of which a mark has none
+    ends-lead : (k at : ℕ)
+        → (Reached e s (at-first c ps k) at × ¬ (k ≡ markKind))
+        ⊎ ((k ≡ markKind) × Reached e s (at-name c ps k 0 0) at)
+        → Leads (LineHolds e s) (λ ab. Reached e s (at-name c ps k (ab .value .0) (ab .value .1)) (ab .next))
+        (endsAt e c k s at)
+    unfolding endsAt
+    ends-lead k at (inr (mark, here)) = rw (eq-eqb k markKind mark) here
+    ends-lead k at (inl (a-at, joins)) =
+        rw (ne-eqb k markKind joins)
+        (field-leads (at-first c ps k) at a-at tt _ (terminalFine c) noSuchTerminal _
+        (λ v comes off. line5-first comes (ltb-false v (c .terminals) off)) (λ a a-stands a-fine.
+        let b-at = first-fine a-at a-stands (ltb-true (a .value) (c .terminals) a-fine) in
+        field-leads (at-second c ps k (a .value)) (a .next) b-at tt _ (terminalFine c) noSuchTerminal _
+        (λ v comes off. line5-second comes (ltb-false v (c .terminals) off)) (λ b b-stands b-fine.
+        leads-unless (LineHolds e s) _ (endsFine (a .value) (b .value)) endsEqual (a .next) _
+        (λ equal.
+        let same = eqb-true (a .value) (b .value) (not-false _ equal) in
+        line6 (b-at, tt, b .next, rw same b-stands))
+        (λ apart. second-fine b-at b-stands (ltb-true (b .value) (c .terminals) b-fine)
+        (eqb-false _ _ (not-true _ apart))))))
+
+    -- after the kind come the ends, or at once the relay of a mark
+    kind-leads-to : (k at next : ℕ) → Reached e s (at-part c ps) at → length ps < c .parts → StandsAt e s at k next
+        → k ≤ e .lastKind
+        → (Reached e s (at-first c ps k) next × ¬ (k ≡ markKind))
+        ⊎ ((k ≡ markKind) × Reached e s (at-name c ps k 0 0) next)
+    kind-leads-to k at next here more stands most =
+        by-test (eqb k markKind)
+        (λ on.
+        let mark = eqb-true k markKind on in
+        inr (mark, rw mark (mark-fine here more (rw mark at stands) (rw mark at most))))
+        (λ off.
+        let joins = eqb-false k markKind off in inl (kind-fine here more stands most joins, joins))
 
     part-leads : (at : ℕ) → Reached e s (at-part c ps) at → length ps < c .parts
         → Leads (LineHolds e s) PartGiven (partAt e c w s at)
@@ -174,20 +207,10 @@ module _ (e : Edition) (known : Known e) (s : List ℕ) where
         field-leads (at-part c ps) at here more PartGiven (inRange 0 (e .lastKind)) noSuchKind _
         (λ v comes off. line4 comes (range-over (e .lastKind) v off)) (λ k k-stands k-fine.
         let most = range-bounds 0 (e .lastKind) (k .value) k-fine .1 in
-        let a-at = kind-fine here more k-stands most in
-        field-leads (at-first c ps (k .value)) (k .next) a-at tt PartGiven (terminalFine c) noSuchTerminal _
-        (λ v comes off. line5-first comes (ltb-false v (c .terminals) off)) (λ a a-stands a-fine.
-        let b-at = first-fine a-at a-stands (ltb-true (a .value) (c .terminals) a-fine) in
-        field-leads (at-second c ps (k .value) (a .value)) (a .next) b-at tt PartGiven (terminalFine c) noSuchTerminal _
-        (λ v comes off. line5-second comes (ltb-false v (c .terminals) off)) (λ b b-stands b-fine.
-        leads-unless (LineHolds e s) PartGiven (endsFine (a .value) (b .value)) endsEqual (a .next) _
-        (λ equal.
-        let same = eqb-true (a .value) (b .value) (not-false _ equal) in
-        line6 (b-at, tt, b .next, rw same b-stands))
-        (λ apart.
-        name-leads (k .value) (a .value) (b .value) (b .next) (omega (arith, most, known))
-        (second-fine b-at b-stands (ltb-true (b .value) (c .terminals) b-fine)
-        (eqb-false _ _ (not-true _ apart)))))))
+        leads-then (LineHolds e s) _ PartGiven (endsAt e c (k .value) s (k .next)) _
+        (ends-lead (k .value) (k .next) (kind-leads-to (k .value) at (k .next) here more k-stands most))
+        (λ ab _ named. name-leads (k .value) (ab .value .0) (ab .value .1) (ab .next) (omega (arith, most, known))
+        named))
 
   -- ---- 9, the parts one after the other
 
@@ -227,7 +250,7 @@ module _ (e : Edition) (known : Known e) (s : List ℕ) where
         λ sort. false≢true (sym (some .2) ∙ wound-tallied w ps r (row .so-far r) sort) in
         line9 (row .reached) (row .counted) (some .1) (λ regular. never (inl regular)) (λ steel. never (inr steel)))
         (λ full.
-        rw (padded-parts c ps (sym (row .counted))) (record {
+        rw (padded-parts c ps (startOf ps) (sym (row .counted))) (record {
           reached = row .reached;
           counted = row .counted;
           all-wound = λ r below. tallied-wound w ps r (row .so-far r) (every-below (wound w) (c .relays) r full below);

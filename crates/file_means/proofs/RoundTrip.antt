@@ -1,18 +1,22 @@
 -- The theorems of specs/RoundTrip.antt over the calls, from the round trip of a board on the definitions.
 use Prim.Native.Nat.{ℕ, _≤_}
 use native.Mathlib.Omega.{arith}
-use mathlib.Core.Path.{_≡_, sym, ap, subst, _∙_}
+use mathlib.Core.Path.{_≡_, refl, sym, ap, ap₂, subst, _∙_}
 use mathlib.Core.Bool.{true}
-use mathlib.Core.List.{List, _++_}
-use lib.ListN.{length, take, drop, length-append}
+use mathlib.Core.List.{List, [], _∷_, _++_, map}
+use lib.ListN.{length, take, drop, length-append, length-map}
 use lib.Seq.{take-at, drop-at, length-take-le}
 use borrow.Author.Tests.{le-leb}
 use Rattle.refusals.specs.Outcomes.{Outcome, given}
+use Rattle.windings.specs.declared.WoundSoFar.{WoundSoFar}
+use Rattle.windings.specs.Windings.{noneWound}
+use Rattle.board.specs.declared.Part.{Part}
 use Rattle.board.specs.declared.Board.{Board}
 use Rattle.board.specs.Parts.{mostParts, partsOf}
 use Rattle.board.specs.Rules.{boardFine}
+use Rattle.board.specs.SameExactly.{compared, Same}
 use Rattle.board.proofs.PaddedLaws.{padded-parts}
-use Rattle.board.proofs.FineLaws.{fine-range}
+use Rattle.board.proofs.FineLaws.{fine-range, fine-splits}
 use Rattle.board_reader.specs.Editions.{currentEdition}
 use Rattle.board_reader.specs.Reading.{boardOf, longestInput, answered, reading}
 use Rattle.board_reader.proofs.EditionLaws.{current-known}
@@ -23,7 +27,8 @@ use Rattle.board_writer.proofs.FileLaws.{board-file-bound, WasWritten, writing-
 use Rattle.file_means.specs.RoundTrip.{WriteThenRead, RestStays, ReadThenWrite}
 use Rattle.file_means.proofs.StandLaws.{StandsTo, bytes-as-written}
 use Rattle.file_means.proofs.GivesLaws.{Gives}
-use Rattle.file_means.proofs.BoardTrip.{board-reads, BoardIsFine}
+use Rattle.file_means.proofs.BoardTrip.{gained-as-read, board-reads, BoardIsFine}
+use Rattle.file_means.proofs.PartTrip.{asRead, compared-as-read}
 use Rattle.file_means.proofs.ReadFine.{read-fine}
 
 -- bytes stand at the start of an input that begins with them
@@ -31,10 +36,14 @@ begins : (bytes rest : List ℕ) (n : ℕ) → n ≡ length bytes → StandsTo (
 begins bytes rest n long =
     record { there = ap (λ (l : List ℕ). bytes ++ l) (sym (drop-at bytes rest n (sym long))); ends = omega arith }
 
--- a board's bytes, whatever stands after them, are read as that board
+-- what a board is read back as
+abbrev readBack : Board → Board
+readBack b = boardOf (b .counts) (map asRead (partsOf b))
+
+-- a board's bytes, whatever stands after them, are read back
 module _ (b : Board) (rest : List ℕ) (n : ℕ) (places : length (b .parts) ≡ mostParts) (fine : boardFine b ≡ true)
     (long : n ≡ length (boardBytes b)) (short : length (boardBytes b ++ rest) ≤ longestInput) where
-  reads-back : reading currentEdition (boardBytes b ++ rest) ≡ (boardOf (b .counts) (partsOf b), given n)
+  reads-back : reading currentEdition (boardBytes b ++ rest) ≡ (readBack b, given n)
   unfolding reading answered
   reads-back =
       rw (
@@ -42,14 +51,22 @@ module _ (b : Board) (rest : List ℕ) (n : ℕ) (places : length (b .parts) ≡
         board-reads b (boardBytes b ++ rest) n places fine (begins (boardBytes b) rest n long),
       )
 
--- the board that is read has the parts that were written
-parts-again : (b : Board) → length (b .parts) ≡ mostParts → boardFine b ≡ true
-    → partsOf b ≡ partsOf (boardOf (b .counts) (partsOf b))
-parts-again b places fine =
+-- the board that is read is the one that was written, as boards are compared, and has its start
+all-compared : (ps : List Part) → map compared ps ≡ map compared (map asRead ps)
+all-compared [] = refl
+all-compared (p ∷ ps) = ap₂ _∷_ (sym (compared-as-read p)) (all-compared ps)
+
+same-again : (b : Board) → length (b .parts) ≡ mostParts → boardFine b ≡ true → Same b (readBack b)
+same-again b places fine =
     let range = fine-range b fine in
-    let counted : length (partsOf b) ≡ b .counts .parts =
-    length-take-le (b .counts .parts) (b .parts) (omega (arith, range .most-parts)) in
-    sym (padded-parts (b .counts) (partsOf b) (sym counted))
+    let counted : length (map asRead (partsOf b)) ≡ b .counts .parts =
+    length-map (partsOf b) asRead ∙ length-take-le (b .counts .parts) (b .parts) (omega (arith, range .most-parts)) in
+    let again = padded-parts (b .counts) (map asRead (partsOf b)) (readBack b .start) (sym counted) in
+    (refl, all-compared (partsOf b) ∙ ap (map compared) (sym again))
+
+start-again : (b : Board) → boardFine b ≡ true → b .start ≡ readBack b .start
+start-again b fine =
+    fine-splits b fine .start ∙ ap (λ (w : WoundSoFar). w .marked) (sym (gained-as-read noneWound (partsOf b)))
 
 pub write-then-read : WriteThenRead
 write-then-read b out out′ more n w r places wrote told =
@@ -65,8 +82,8 @@ write-then-read b out out′ more n w r places wrote told =
           read ∙ ap (λ (l : List ℕ). reading currentEdition (l ++ more)) begins
           ∙ reads-back b more n places (written .fine) (written .count) few in (
             ap (λ (a : Board × Outcome ℕ). a .1) back,
-            sym (ap (λ (a : Board × Outcome ℕ). a .0 .counts) back),
-            parts-again b places (written .fine) ∙ sym (ap (λ (a : Board × Outcome ℕ). partsOf (a .0)) back),
+            subst (Same b) (sym (ap (λ (a : Board × Outcome ℕ). a .0) back)) (same-again b places (written .fine)),
+            start-again b (written .fine) ∙ sym (ap (λ (a : Board × Outcome ℕ). a .0 .start) back),
           )),
     )
 

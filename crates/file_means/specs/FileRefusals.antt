@@ -1,14 +1,16 @@
 -- The numbers for no of a board file, line by line. Rule book: the table "Numbers for no", lines 1 to 10, and "A number
 -- is given exactly when its line holds and none before it in the order does. [..] Order: 10 first; then left to right,
--- each number's form (1, 2) before its meaning, and for a part 4, 5, 5, 6, 7, 8 as its fields come; then 9."
--- Nothing here goes by how the reader is put together; a number's form is `numberAt`'s to say, and `FormExactly`
+-- each number's form (1, 2) before its meaning, and for a part 4, 5, 5, 6, 7, 8 as its fields come; then 9." Request
+-- A2: kind 7 has "one field, a relay number", and 17, "relay marked twice", stands "in 8's place". Nothing here goes by
+-- how the reader is put together; a number's form is `numberAt`'s to say, and `FormExactly`
 -- (`crates/number/specs/FormExactly.antt`) says what that is, byte by byte. A stage of the file is reached by the
 -- numbers that stand there one after the other and by how they compare, so that no line holds of those before it; and
--- windings are counted over the parts so far, by `crates/board/specs/Sorts.antt`. The table is that of an edition e,
--- which says what stands as a number and which kind is the last; the call reads by the current one.
+-- windings and marks are counted over the parts so far, by `crates/board/specs/Sorts.antt`. The table is that of an
+-- edition e, which says what stands as a number and which kind is the last; the call reads by the current one.
 --     StandsAt e s p v next     the number v stands at place p, and `next` is the place just after it
 --     Taken r ps k              by the parts ps relay r already has the winding of kind number k, or is of the other
 --                               sort
+--     TakenMark r ps k          a part of kind number k is a mark, and relay r is marked already by the parts ps
 --     FileStage                 what comes next in the file, after what was read:
 --       at-T                    T
 --       at-R t                  R, after T is t
@@ -17,7 +19,8 @@
 --       at-part c ps            one more part or the board's end, after the counts c and the parts ps
 --       at-first c ps k         the first end of a part of kind number k
 --       at-second c ps k a      its second end, after the first end a
---       at-name c ps k a b      its relay or button, after the second end b; a wire has none
+--       at-name c ps k a b      its relay or button, after the second end b; a wire has none. That of a mark, which has
+--                               no ends, comes right after its kind, and a and b are 0
 --     NumberWanted f            a number is wanted at stage f: for a part while the parts are fewer than C, for a name
 --                               unless the part is a wire
 --     Reached e s f p           stage f is reached at place p: every number before it is fine
@@ -25,9 +28,9 @@
 --     LineHolds e s n p         line n of the table holds at place p, and none before it
 --     FileRefused               over the call `board_reader::read`: it is refused by n at p exactly if line n holds
 --                               there, and none before it
---     FileAccepted              over the same call: it is accepted up to place n, and the board has the counts c and
---                               the parts ps, exactly if these are the numbers that stand before n, the parts are C,
---                               and every relay is regular or steel-core
+--     FileAccepted              over the same call: it is accepted up to place n, and the board has the counts c, the
+--                               parts ps and the start that their marks give, exactly if these are the numbers that
+--                               stand before n, the parts are C, and every relay is regular or steel-core
 use Prim.Native.Nat.{ℕ, _+_, _<_, _≤_}
 use mathlib.Core.Path.{_≡_}
 use mathlib.Core.Logic.{_⊎_, _↔_}
@@ -35,15 +38,15 @@ use mathlib.Core.List.{List, [], _∷_, _++_}
 use lib.ListN.{length}
 use Rattle.refusals.specs.Outcomes.{refused, given, found}
 use Rattle.refusals.specs.Refusals.{inputEnds, badForm, outOfRange, noSuchKind, noSuchTerminal, endsEqual, noSuchName}
-use Rattle.refusals.specs.Refusals.{windingTaken, windingLacking, inputTooLong}
+use Rattle.refusals.specs.Refusals.{windingTaken, windingLacking, inputTooLong, markedTwice}
 use Rattle.number.specs.Numbers.{numberAt}
-use Rattle.kinds.specs.Kinds.{wireKind, buttonKind, regularKind, drawingKind, droppingKind, kindOf}
+use Rattle.kinds.specs.Kinds.{wireKind, buttonKind, regularKind, drawingKind, droppingKind, markKind, kindOf}
 use Rattle.kinds.specs.declared.Kind.the-variants.{Wire, Button}
 use Rattle.board.specs.declared.Counts.{Counts}
 use Rattle.board.specs.declared.Part.{Part}
 use Rattle.board.specs.Parts.{partsOf, mostParts}
-use Rattle.board.specs.Rules.{leastTerminals, mostTerminals, mostRelays, mostButtons}
-use Rattle.board.specs.Sorts.{windingsOf, isRegular, isSteel, Wound}
+use Rattle.board.specs.Rules.{leastTerminals, mostTerminals, mostRelays, mostButtons, startOf}
+use Rattle.board.specs.Sorts.{countOf, isRegular, isSteel, Wound, isMarked}
 use Rattle.board_reader.specs.declared.BoardRead.{BoardRead}
 use Rattle.board_reader.specs.Editions.{Edition, currentEdition}
 use Rattle.board_reader.specs.Reading.{longestInput, toldReadAnswer, Reads}
@@ -52,9 +55,12 @@ abbrev pub StandsAt : Edition → List ℕ → ℕ → ℕ → ℕ → Type 0
 StandsAt e s p v next = numberAt (e .width) s p ≡ found v next
 
 pub data Taken (r : ℕ) (ps : List Part) : ℕ → Type 0 where
-  has-it : {k : ℕ} → regularKind ≤ k → 0 < windingsOf k r ps → Taken r ps k
-  is-steel : 0 < windingsOf drawingKind r ps + windingsOf droppingKind r ps → Taken r ps regularKind
-  is-regular : {k : ℕ} → regularKind < k → 0 < windingsOf regularKind r ps → Taken r ps k
+  has-it : {k : ℕ} → regularKind ≤ k → k ≤ droppingKind → 0 < countOf k r ps → Taken r ps k
+  is-steel : 0 < countOf drawingKind r ps + countOf droppingKind r ps → Taken r ps regularKind
+  is-regular : {k : ℕ} → regularKind < k → k ≤ droppingKind → 0 < countOf regularKind r ps → Taken r ps k
+
+abbrev pub TakenMark : ℕ → List Part → ℕ → Type 0
+TakenMark r ps k = (k ≡ markKind) × isMarked r ps
 
 pub data FileStage : Type 0 where
   at-T : FileStage
@@ -87,7 +93,9 @@ pub data Reached (e : Edition) (s : List ℕ) : FileStage → ℕ → Type 0 whe
   C-fine : {t r b c p next : ℕ} → Reached e s (at-C t r b) p → StandsAt e s p c next → c ≤ mostParts
       → Reached e s (at-part (record { terminals = t; relays = r; buttons = b; parts = c }) []) next
   kind-fine : {c : Counts} {ps : List Part} {k p next : ℕ} → Reached e s (at-part c ps) p → length ps < c .parts
-      → StandsAt e s p k next → k ≤ e .lastKind → Reached e s (at-first c ps k) next
+      → StandsAt e s p k next → k ≤ e .lastKind → ¬ (k ≡ markKind) → Reached e s (at-first c ps k) next
+  mark-fine : {c : Counts} {ps : List Part} {p next : ℕ} → Reached e s (at-part c ps) p → length ps < c .parts
+      → StandsAt e s p markKind next → markKind ≤ e .lastKind → Reached e s (at-name c ps markKind 0 0) next
   first-fine : {c : Counts} {ps : List Part} {k a p next : ℕ} → Reached e s (at-first c ps k) p → StandsAt e s p a next
       → a < c .terminals → Reached e s (at-second c ps k a) next
   second-fine : {c : Counts} {ps : List Part} {k a b p next : ℕ} → Reached e s (at-second c ps k a) p
@@ -99,6 +107,7 @@ pub data Reached (e : Edition) (s : List ℕ) : FileStage → ℕ → Type 0 whe
       → Reached e s (at-part c (ps ++ (record { a = a; b = b; kind = Button v } ∷ []))) next
   relay-fine : {c : Counts} {ps : List Part} {k a b v p next : ℕ} → Reached e s (at-name c ps k a b) p
       → ¬ (k ≡ wireKind) → ¬ (k ≡ buttonKind) → StandsAt e s p v next → v < c .relays → ¬ Taken v ps k
+      → ¬ TakenMark v ps k
       → Reached e s (at-part c (ps ++ (record { a = a; b = b; kind = kindOf k v } ∷ []))) next
 
 abbrev pub NumberStands : Edition → List ℕ → FileStage → ℕ → ℕ → Type 0
@@ -129,6 +138,8 @@ pub data LineHolds (e : Edition) (s : List ℕ) : ℕ → ℕ → Type 0 where
       → ¬ (k ≡ buttonKind) → c .relays ≤ v → LineHolds e s noSuchName p
   line8 : {c : Counts} {ps : List Part} {k a b v p : ℕ} → NumberStands e s (at-name c ps k a b) p v → v < c .relays
       → Taken v ps k → LineHolds e s windingTaken p
+  line17 : {c : Counts} {ps : List Part} {k a b v p : ℕ} → NumberStands e s (at-name c ps k a b) p v → v < c .relays
+      → TakenMark v ps k → LineHolds e s markedTwice p
   line9 : {c : Counts} {ps : List Part} {r p : ℕ} → Reached e s (at-part c ps) p → length ps ≡ c .parts → r < c .relays
       → ¬ isRegular r ps → ¬ isSteel r ps → LineHolds e s windingLacking p
 
@@ -144,6 +155,7 @@ abbrev pub FileAccepted : Type 0
 FileAccepted =
     (s : List ℕ) (r : BoardRead) (c : Counts) (ps : List Part) (n : ℕ)
     → Reads s r
-    → ((toldReadAnswer (r .answer) ≡ given n) × (r .board .counts ≡ c) × (partsOf (r .board) ≡ ps))
+    → ((toldReadAnswer (r .answer) ≡ given n) × (r .board .counts ≡ c) × (partsOf (r .board) ≡ ps)
+    × (r .board .start ≡ startOf ps))
     ↔ ((length s ≤ longestInput) × Reached currentEdition s (at-part c ps) n × (length ps ≡ c .parts)
     × Wound (c .relays) ps)

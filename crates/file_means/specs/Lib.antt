@@ -3,3 +3,4 @@ pub mod RoundTrip
 pub mod BytesAfter
 pub mod FileRefusals
 pub mod FilesKept
+pub mod SecondEdition

@@ -1,8 +1,8 @@
 -- The round trip, stated over the calls `board_writer::write` and `board_reader::read`: whatever they answer under
 -- their promises. Demand 2: "write then read gives the board, read then write gives the bytes read."
 --     WriteThenRead    a file that was written is within the longest input. A board that was written and read again,
---                      with any bytes behind it, has the same counts and the same first C parts, and reading stops
---                      where writing stopped
+--                      with any bytes behind it, is the same board as `board::same` compares them, with the same start,
+--                      and reading stops where writing stopped
 --     RestStays        "Written bytes begin the buffer; the rest stays": behind the bytes that were written, none where
 --                      the write is refused, the buffer is as lent. `WriteThenRead` says that they are the file's
 --     ReadThenWrite    a board that was read and written again is never refused by 15, and its bytes are those that
@@ -16,7 +16,8 @@ use lib.ListN.{length, take, drop}
 use Rattle.refusals.specs.Outcomes.{given}
 use Rattle.number.specs.Numbers.{Bytes}
 use Rattle.board.specs.declared.Board.{Board}
-use Rattle.board.specs.Parts.{partsOf, mostParts}
+use Rattle.board.specs.Parts.{mostParts}
+use Rattle.board.specs.SameExactly.{Same}
 use Rattle.board.specs.Rules.{boardFine}
 use Rattle.board_reader.specs.Reading.{longestInput, toldReadAnswer, Reads}
 use Rattle.board_reader.specs.declared.BoardRead.{BoardRead}
@@ -33,8 +34,8 @@ WriteThenRead =
     × (n + length more ≤ longestInput
     → Reads (take n out′ ++ more) r
     → (toldReadAnswer (r .answer) ≡ given n)
-    × (b .counts ≡ r .board .counts)
-    × (partsOf b ≡ partsOf (r .board)))
+    × Same b (r .board)
+    × (b .start ≡ r .board .start))
 
 abbrev pub RestStays : Type 0
 RestStays =

@@ -1,7 +1,7 @@
 -- Laws of how many parts are a relay's winding: of a relay of one sort, and of one that the board has not; and that the
 -- winding is found exactly where there is one. So on a board that breaks no rule a relay's windings, found in one scan,
 -- are its first and its second winding.
-use Prim.Native.Nat.{ℕ, _+_, _<_, _≤_}
+use Prim.Native.Nat.{ℕ, _+_, _≤_}
 use native.Mathlib.Omega.{arith}
 use mathlib.Core.Path.{_≡_, refl, sym, ap, _∙_}
 use mathlib.Core.Logic.{_⊎_, inl, inr, ⊎-map, ⊎-elim}
@@ -14,14 +14,14 @@ use Rattle.lists.specs.Members.{_∈_}
 use Rattle.lists.proofs.CountedLaws.{worth, counted, member-counted}
 use Rattle.bits.proofs.BoolLaws.{both-true, by-test}
 use Rattle.kinds.specs.declared.Kind.{Kind}
-use Rattle.kinds.specs.Kinds.{kindNumber, nameOf, buttonKind, regularKind, drawingKind, droppingKind}
+use Rattle.kinds.specs.Kinds.{kindNumber, regularKind, drawingKind, droppingKind}
 use Rattle.board.specs.declared.Part.{Part}
 use Rattle.board.specs.declared.Counts.{Counts}
 use Rattle.board.specs.declared.Board.{Board}
 use Rattle.board.specs.Parts.{partsOf}
-use Rattle.board.specs.Rules.{nameFine, partFits, boardFine}
-use Rattle.board.specs.Sorts.{carries, windingsOf, isRegular, isSteel}
-use Rattle.board.proofs.WindingLaws.{partsFit, part-named}
+use Rattle.board.specs.Rules.{boardFine}
+use Rattle.board.specs.Sorts.{carries, countOf, isRegular, isSteel}
+use Rattle.board.proofs.WindingLaws.{partsFit, past-none}
 use Rattle.board.proofs.FineLaws.{fine-parts-fit, fine-relays-wound}
 use Rattle.search.specs.declared.Winding.{Winding}
 use Rattle.judge.specs.declared.Which.{Which}
@@ -53,17 +53,17 @@ first-worth r k =
     (λ on. rw (on, carries-exclusive regularKind drawingKind r k (λ e. omega (arith, e)) on) refl)
     (λ off. rw off (omega arith))
 
-pub first-sum : (r : ℕ) (ps : List Part) → these First r ps ≡ windingsOf regularKind r ps + windingsOf drawingKind r ps
-unfolding windingsOf
+pub first-sum : (r : ℕ) (ps : List Part) → these First r ps ≡ countOf regularKind r ps + countOf drawingKind r ps
+unfolding countOf
 first-sum r [] = refl
 first-sum r (p ∷ ps) = omega (arith, first-worth r (p .kind), first-sum r ps)
 
-pub windings-counted : (j r : ℕ) (ps : List Part) → counted (λ (p : Part). carries j r (p .kind)) ps ≡ windingsOf j r ps
-unfolding windingsOf
+pub windings-counted : (j r : ℕ) (ps : List Part) → counted (λ (p : Part). carries j r (p .kind)) ps ≡ countOf j r ps
+unfolding countOf
 windings-counted j r [] = refl
 windings-counted j r (p ∷ ps) = omega (arith, windings-counted j r ps)
 
-pub second-sum : (r : ℕ) (ps : List Part) → these Second r ps ≡ windingsOf droppingKind r ps
+pub second-sum : (r : ℕ) (ps : List Part) → these Second r ps ≡ countOf droppingKind r ps
 second-sum r ps = windings-counted droppingKind r ps
 
 module _ (r : ℕ) (ps : List Part) where
@@ -85,26 +85,6 @@ module _ (r : ℕ) (ps : List Part) where
   regular-second n (second, regular) = ap (λ (m : Which). these m r ps) second ∙ second-sum r ps ∙ regular .2
 
 -- ---- a relay that the board has not
-
--- j is the number of a kind that carries a relay
-module _ (c : Counts) (r j : ℕ) (some : eqb j 0 ≡ false) (relay : eqb j buttonKind ≡ false) where
-  carried-below : (k : Kind) → nameFine c k ≡ true → carries j r k ≡ true → r < c .relays
-  unfolding nameFine carries
-  carried-below k named on =
-      let both = both-true (eqb (kindNumber k) j) (eqb (nameOf k) r) on in
-      ltb-true r (c .relays) (rw (eqb-true (kindNumber k) j (both .0), eqb-true (nameOf k) r (both .1), some, relay)
-      at named)
-
-  past-free : (k : Kind) → nameFine c k ≡ true → c .relays ≤ r → carries j r k ≡ false
-  past-free k named past =
-      by-test (carries j r k) (λ on. absurd (omega (arith, past, carried-below k named on))) (λ off. off)
-
-  past-none : (ps : List Part) → partsFit c ps ≡ true → c .relays ≤ r → windingsOf j r ps ≡ 0
-  unfolding windingsOf partsFit
-  past-none [] fit past = refl
-  past-none (p ∷ ps) fit past =
-      let both = both-true (partFits c p) (partsFit c ps) fit in
-      omega (arith, ap worth (past-free (p .kind) (part-named c p (both .0)) past), past-none ps (both .1) past)
 
 pub beyond-none : (c : Counts) (n : Which) (r : ℕ) (ps : List Part) → partsFit c ps ≡ true → c .relays ≤ r
     → these n r ps ≡ 0

@@ -22,7 +22,7 @@ use Rattle.board.specs.declared.Part.{Part}
 use Rattle.board.specs.declared.Board.{Board}
 use Rattle.board.specs.Parts.{partsOf}
 use Rattle.board.specs.Rules.{boardFine}
-use Rattle.board.specs.Sorts.{carries, windingsOf, isRegular, isSteel}
+use Rattle.board.specs.Sorts.{carries, countOf, isRegular, isSteel}
 use Rattle.board.proofs.FineLaws.{fine-parts-fit, fine-relays-wound}
 use Rattle.state.specs.declared.State.{State}
 use Rattle.search.specs.declared.Winding.{Winding}
@@ -123,7 +123,7 @@ module _ (b : Board) (r : ℕ) (n : Which) where
 -- ---- the kind of a relay's winding, by the relay's sort
 
 -- where no part of this kind carries the relay, this part does not
-none-carries : (j r : ℕ) (ps : List Part) (p : Part) → windingsOf j r ps ≡ 0 → p ∈ ps
+none-carries : (j r : ℕ) (ps : List Part) (p : Part) → countOf j r ps ≡ 0 → p ∈ ps
     → ¬ (carries j r (p .kind) ≡ true)
 none-carries j r ps p no-part among on =
     omega (

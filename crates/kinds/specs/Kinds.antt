@@ -1,5 +1,6 @@
--- What a kind of part is. Rule book, "Parts of a board": the table of kinds. Whatever goes by a kind's number, its
--- fields or the relay or button among them goes by these.
+-- What a kind of part is. Rule book, "Parts of a board": the table of kinds, and request A2: "kind 7 with one field, a
+-- relay number, says 'starts drawn'". Whatever goes by a kind's number, its fields or the relay or button among them
+-- goes by these.
 --     wireKind              the number of a wire, the kind that carries no relay or button
 --     upperKind             the number of an upper contact
 --     lowerKind             the number of a lower contact
@@ -7,12 +8,13 @@
 --     regularKind           the number of a regular relay's winding
 --     drawingKind           the number of a steel-core relay's drawing winding
 --     droppingKind          the number of a steel-core relay's dropping winding
+--     markKind              the number of a mark, which says that its relay starts drawn; it has no ends
 --     lastKind              the highest kind number
 --     kindNumber k          the number of a kind in the rule book's table
 --     nameOf k              the relay or button that a kind carries; 0 for a wire, which carries none
 --     kindOf k n            the kind of number k that carries n; above the last kind there is none (4), and it is taken
---                           for a dropping winding
---     fields k a b          the fields that the table gives a part of kind k on the terminals a and b, in its order
+--                           for a mark
+--     fields k a b          the fields that the table gives a part of kind k with the ends a and b, in its order
 --     mostFields            the most fields that a part has
 --     inPlaces vs           the numbers vs in the first of as many places, the unused ones 0
 --     KindOf k n r          promise: `Kind::of` the number k and the name n answers r
@@ -27,7 +29,7 @@ use lib.Dec.{eqb}
 use lib.ListN.{length, replicate}
 use Rattle.kinds.specs.declared.Kind.{Kind}
 use Rattle.kinds.specs.declared.Fields.{Fields}
-use Rattle.kinds.specs.declared.Kind.the-variants.{Wire, Upper, Lower, Button, Regular, Drawing, Dropping}
+use Rattle.kinds.specs.declared.Kind.the-variants.{Wire, Upper, Lower, Button, Regular, Drawing, Dropping, Mark}
 
 abbrev pub wireKind : ℕ
 wireKind = 0
@@ -50,8 +52,11 @@ drawingKind = 5
 abbrev pub droppingKind : ℕ
 droppingKind = 6
 
+abbrev pub markKind : ℕ
+markKind = 7
+
 abbrev pub lastKind : ℕ
-lastKind = droppingKind
+lastKind = markKind
 
 abbrev pub kindNumber : Kind → ℕ
 kindNumber Wire = wireKind
@@ -61,6 +66,7 @@ kindNumber (Button b) = buttonKind
 kindNumber (Regular r) = regularKind
 kindNumber (Drawing r) = drawingKind
 kindNumber (Dropping r) = droppingKind
+kindNumber (Mark r) = markKind
 
 abbrev pub nameOf : Kind → ℕ
 nameOf Wire = 0
@@ -70,6 +76,7 @@ nameOf (Button b) = b
 nameOf (Regular r) = r
 nameOf (Drawing r) = r
 nameOf (Dropping r) = r
+nameOf (Mark r) = r
 
 unfoldable pub kindOf : ℕ → ℕ → Kind
 kindOf k n =
@@ -79,7 +86,8 @@ kindOf k n =
     (cond (eqb k buttonKind) (Button n)
     (cond (eqb k regularKind) (Regular n)
     (cond (eqb k drawingKind) (Drawing n)
-    (Dropping n))))))
+    (cond (eqb k droppingKind) (Dropping n)
+    (Mark n)))))))
 
 abbrev pub fields : Kind → ℕ → ℕ → List ℕ
 fields Wire a b = a ∷ b ∷ []
@@ -89,6 +97,7 @@ fields (Button n) a b = a ∷ b ∷ n ∷ []
 fields (Regular r) a b = a ∷ b ∷ r ∷ []
 fields (Drawing r) a b = a ∷ b ∷ r ∷ []
 fields (Dropping r) a b = a ∷ b ∷ r ∷ []
+fields (Mark r) a b = r ∷ []
 
 abbrev pub mostFields : ℕ
 mostFields = 3

@@ -4,7 +4,8 @@ ghost use mathlib.Core.Path.{_≡_};
 ghost use mathlib.Core.List.{[], _∷_};
 ghost use Rattle.kinds.specs.Kinds.{inPlaces, KindOf, KindNumber, KindName, KindFields};
 
-// The kinds of part in the order of the rule book's table, each with its relay or button.
+// The kinds of part in the order of the rule book's table, each with its relay or button. A mark says that its relay
+// starts drawn (request A2).
 pub enum Kind {
     Wire,
     Upper(u8),
@@ -13,6 +14,7 @@ pub enum Kind {
     Regular(u8),
     Drawing(u8),
     Dropping(u8),
+    Mark(u8),
 }
 
 // The numbers of the kinds in the table's order; a wire carries no relay or button. And the highest kind number.
@@ -30,7 +32,9 @@ pub const DRAWING_KIND: u32 = 5;
 
 pub const DROPPING_KIND: u32 = 6;
 
-pub const LAST_KIND: u32 = DROPPING_KIND;
+pub const MARK_KIND: u32 = 7;
+
+pub const LAST_KIND: u32 = MARK_KIND;
 
 // A part's fields in the table's order: the first `count` of the numbers. The unused places are 0.
 pub struct Fields {
@@ -39,6 +43,16 @@ pub struct Fields {
 }
 
 impl Fields {
+    // One field.
+    fn one(name: u8) -> Self
+        ensures { λ r. ⌜ r ≡ inPlaces (name ∷ []) ⌝ }
+    {
+        Fields {
+            count: 1,
+            numbers: [name, 0, 0],
+        }
+    }
+
     // Two fields.
     fn two(a: u8, b: u8) -> Self
         ensures { λ r. ⌜ r ≡ inPlaces (a ∷ b ∷ []) ⌝ }
@@ -72,7 +86,8 @@ impl Kind {
             3 => Kind::Button(name),
             4 => Kind::Regular(name),
             5 => Kind::Drawing(name),
-            _ => Kind::Dropping(name),
+            6 => Kind::Dropping(name),
+            _ => Kind::Mark(name),
         }
     }
 
@@ -88,6 +103,7 @@ impl Kind {
             Kind::Regular(_) => REGULAR_KIND,
             Kind::Drawing(_) => DRAWING_KIND,
             Kind::Dropping(_) => DROPPING_KIND,
+            Kind::Mark(_) => MARK_KIND,
         }
     }
 
@@ -103,10 +119,11 @@ impl Kind {
             Kind::Regular(relay) => relay,
             Kind::Drawing(relay) => relay,
             Kind::Dropping(relay) => relay,
+            Kind::Mark(relay) => relay,
         }
     }
 
-    // The fields that the table gives a part of this kind on the terminals a and b.
+    // The fields that the table gives a part of this kind with the ends a and b; a mark's ends are not among them.
     pub fn fields(self, a: u8, b: u8) -> Fields
         ensures { λ r. ⌜ KindFields self a b r ⌝ }
     {
@@ -118,6 +135,7 @@ impl Kind {
             Kind::Regular(relay) => Fields::three(a, b, relay),
             Kind::Drawing(relay) => Fields::three(a, b, relay),
             Kind::Dropping(relay) => Fields::three(a, b, relay),
+            Kind::Mark(relay) => Fields::one(relay),
         }
     }
 }

@@ -6,7 +6,7 @@ use mathlib.Core.Logic.{inl, inr}
 use mathlib.Core.Bool.{true, false≢true}
 use Rattle.lists.specs.Members.{_∈_}
 use Rattle.kinds.specs.declared.Kind.{Kind}
-use Rattle.kinds.specs.declared.Kind.the-variants.{Wire, Upper, Lower, Button, Regular, Drawing, Dropping}
+use Rattle.kinds.specs.declared.Kind.the-variants.{Wire, Upper, Lower, Button, Regular, Drawing, Dropping, Mark}
 use Rattle.board.specs.declared.Part.{Part}
 use Rattle.board.specs.declared.Board.{Board}
 use Rattle.board.specs.Sorts.{carries}
@@ -34,6 +34,8 @@ winding-conducts s Second r (Button m) is = absurd (false≢true is)
 winding-conducts s n r (Regular m) is = refl
 winding-conducts s n r (Drawing m) is = refl
 winding-conducts s n r (Dropping m) is = refl
+winding-conducts s First r (Mark m) is = absurd (false≢true is)
+winding-conducts s Second r (Mark m) is = absurd (false≢true is)
 
 -- ---- current through winding n of relay r, whose ends are e
 

@@ -5,15 +5,18 @@ use Prim.Native.Nat.{ℕ, _≤_, _<_}
 use native.Mathlib.Omega.{arith}
 use mathlib.Core.Path.{_≡_, refl, sym, subst, ap, _∙_}
 use mathlib.Core.Logic.{inl, inr}
-use mathlib.Core.Bool.{Bool, true, false, false≢true}
+use mathlib.Core.Bool.{true, false, false≢true}
 use mathlib.Core.List.{List, [], _∷_}
 use lib.Dec.{eqb, ltb}
 use borrow.Author.Tests.{eqb-true, eqb-false, ltb-true, ltb-false}
 use Rattle.lists.specs.Members.{_∈_}
 use Rattle.lists.proofs.MemberLaws.{all-member}
 use Rattle.bits.specs.Sets.{member, including}
-use Rattle.bits.proofs.BoolLaws.{by-test}
+use Rattle.bits.proofs.BoolLaws.{by-test, both-ways}
 use Rattle.bits.proofs.SetLaws.{member-none, including-beyond, member-including-same, member-including-other}
+use Rattle.kinds.specs.declared.Kind.{Kind}
+use Rattle.kinds.specs.declared.Kind.the-variants.{Wire, Upper, Lower, Button, Regular, Drawing, Dropping, Mark}
+use Rattle.kinds.specs.Kinds.{kindNumber, markKind}
 use Rattle.board.specs.declared.Part.{Part}
 use Rattle.board.specs.declared.Board.{Board}
 use Rattle.board.specs.Parts.{partsOf}
@@ -131,11 +134,23 @@ module _ (s : State) (x y : ℕ) where
 
 -- ---- the sets of a board
 
--- ends that a part of the board has are terminals of it
-ends-inside : (b : Board) (p : Part) (x y : ℕ) → BoardFits b → p ∈ partsOf b → EndsAt p x y
-    → (x < b .counts .terminals) × (y < b .counts .terminals)
-ends-inside b p x y fits among =
-    let fit = all-member (Fits (b .counts)) (partsOf b) p (fits .parts) among in
+-- a mark conducts nothing
+conducting-joins : (s : State) (k : Kind) → conducts s k ≡ true → ¬ (kindNumber k ≡ markKind)
+conducting-joins s (Mark r) on mark = false≢true on
+conducting-joins s Wire on mark = omega (arith, mark)
+conducting-joins s (Upper r) on mark = omega (arith, mark)
+conducting-joins s (Lower r) on mark = omega (arith, mark)
+conducting-joins s (Button n) on mark = omega (arith, mark)
+conducting-joins s (Regular r) on mark = omega (arith, mark)
+conducting-joins s (Drawing r) on mark = omega (arith, mark)
+conducting-joins s (Dropping r) on mark = omega (arith, mark)
+
+-- ends that a conducting part of the board has are terminals of it
+ends-inside : (b : Board) (s : State) (p : Part) (x y : ℕ) → BoardFits b → p ∈ partsOf b → conducts s (p .kind) ≡ true
+    → EndsAt p x y → (x < b .counts .terminals) × (y < b .counts .terminals)
+ends-inside b s p x y fits among on =
+    let fit =
+    all-member (Fits (b .counts)) (partsOf b) p (fits .parts) among .ends (conducting-joins s (p .kind) on) in
     ends-either p (λ u v. (u < b .counts .terminals) × (v < b .counts .terminals)) (fit .a-below, fit .b-below)
     (fit .b-below, fit .a-below) x y
 
@@ -166,7 +181,7 @@ module _ (b : Board) (s : State) (x y : ℕ) where
       → joined (neighbours b s) x y ≡ true
   part-joins p fits among on ends =
       let most = fits .counts .most-terminals in
-      let inside = ends-inside b p x y fits among ends in
+      let inside = ends-inside b s p x y fits among on ends in
       joined-inside-sets (omega (arith, most, inside .0))
       ∙ set-at-adds s x y (partsOf b) p among on ends (omega (arith, most, inside .1))
 
@@ -175,17 +190,12 @@ module _ (b : Board) (s : State) (x y : ℕ) where
 
   pub joined-inside : BoardFits b → joined (neighbours b s) x y ≡ true → (x < b .counts .terminals)
       × (y < b .counts .terminals)
-  joined-inside fits = joined-by (λ p among on ends. ends-inside b p x y fits among ends)
+  joined-inside fits = joined-by (λ p among on ends. ends-inside b s p x y fits among on ends)
 
 joined-turned : (b : Board) (s : State) (x y : ℕ) → BoardFits b → joined (neighbours b s) x y ≡ true
     → joined (neighbours b s) y x ≡ true
 joined-turned b s x y fits =
     joined-by b s x y (λ p among on ends. part-joins b s y x p fits among on (ends-turned p x y ends))
-
-both-ways : (p q : Bool) → (p ≡ true → q ≡ true) → (q ≡ true → p ≡ true) → p ≡ q
-both-ways true q there back = sym (there refl)
-both-ways false true there back = back refl
-both-ways false false there back = refl
 
 pub joined-symmetric : (b : Board) (s : State) (x y : ℕ) → BoardFits b → joined (neighbours b s) x y ≡ joined
     (neighbours b s) y x

@@ -1,11 +1,12 @@
--- What conducts. Rule book, "Parts of a board", the table's last column, a line for each kind in its order.
+-- What conducts. Rule book, "Parts of a board", the table's last column, a line for each kind in its order; and
+-- request A2: a mark "joins nothing and conducts nothing".
 --     conducts s k      a part of kind k conducts in state s
 --     Conducts k s r    promise: `conducts` of kind k in state s answers r
 -- A contact has no state of its own: it follows its relay (document 002).
 use mathlib.Core.Path.{_≡_}
-use mathlib.Core.Bool.{Bool, true, not}
+use mathlib.Core.Bool.{Bool, true, false, not}
 use Rattle.kinds.specs.declared.Kind.{Kind}
-use Rattle.kinds.specs.declared.Kind.the-variants.{Wire, Upper, Lower, Button, Regular, Drawing, Dropping}
+use Rattle.kinds.specs.declared.Kind.the-variants.{Wire, Upper, Lower, Button, Regular, Drawing, Dropping, Mark}
 use Rattle.state.specs.declared.State.{State}
 use Rattle.state.specs.States.{isDrawn, isPushed}
 
@@ -17,6 +18,7 @@ conducts s (Button button) = isPushed s button
 conducts s (Regular relay) = true
 conducts s (Drawing relay) = true
 conducts s (Dropping relay) = true
+conducts s (Mark relay) = false
 
 abbrev pub Conducts : Kind → State → Bool → Type 0
 Conducts k s r = r ≡ conducts s k

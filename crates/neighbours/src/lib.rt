@@ -28,6 +28,7 @@ pub fn conducts(kind: Kind, state: State) -> bool
         Kind::Regular(_) => true,
         Kind::Drawing(_) => true,
         Kind::Dropping(_) => true,
+        Kind::Mark(_) => false,
     }
 }
 

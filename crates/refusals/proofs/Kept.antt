@@ -22,3 +22,9 @@ pub kept-unless : {A : Type 0} {n : ℕ} (t : Bool) (m p : ℕ) {o o′ : Outcom
     → Kept n (unless t m p >> o) (unless t m p >> o′)
 kept-unless true m p kept = kept
 kept-unless false m p kept = stands refl
+
+-- a test that n is given by, and that more pass
+pub kept-looser : {A : Type 0} {n : ℕ} (t t′ : Bool) (p : ℕ) (o : Outcome A) → (t ≡ true → t′ ≡ true)
+    → Kept n (unless t n p >> o) (unless t′ n p >> o)
+kept-looser true t′ p o looser = rw (looser refl) (stands refl)
+kept-looser false t′ p o looser = was-refused p refl

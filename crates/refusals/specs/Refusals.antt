@@ -13,7 +13,7 @@ badForm = 2
 abbrev pub outOfRange : ℕ
 outOfRange = 3
 
--- 4: kind above 6; place: that number
+-- 4: kind above 7 (request A2); place: that number
 abbrev pub noSuchKind : ℕ
 noSuchKind = 4
 
@@ -57,10 +57,14 @@ logTooLong = 13
 abbrev pub stateBeyondBoard : ℕ
 stateBeyondBoard = 14
 
--- 15: board handed in breaks a rule of refusals 3 to 9
+-- 15: board handed in breaks a rule of refusals 3 to 9 or 17, or does not carry the start its marks give (request A2)
 abbrev pub brokenBoard : ℕ
 brokenBoard = 15
 
 -- 16: output buffer shorter than the file
 abbrev pub bufferTooShort : ℕ
 bufferTooShort = 16
+
+-- 17: relay marked twice (request A2); place: relay number
+abbrev pub markedTwice : ℕ
+markedTwice = 17

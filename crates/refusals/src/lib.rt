@@ -35,6 +35,8 @@ pub const BROKEN_BOARD: u32 = 15;
 
 pub const BUFFER_TOO_SHORT: u32 = 16;
 
+pub const MARKED_TWICE: u32 = 17;
+
 // A refusal: its number and the place it speaks of.
 pub struct Refusal {
     pub number: u32,

@@ -1,6 +1,7 @@
 // What a case hands in. The bytes are four numbers of three bytes, highest first: the drawn relays and the pushed
 // buttons, each as a set (the sum of 2 to each), then what is asked; then the board's T, R, B, C (low byte, high byte),
-// and kind, a, b and name of each part. Bytes that are not given are 0, so that places without a part are blank wires.
+// its start as a set in five bytes, lowest first, and kind, a, b and name of each part. Bytes that are not given are 0,
+// so that places without a part are blank wires.
 use board::Board;
 use board::Counts;
 use board::MOST_PARTS;
@@ -33,7 +34,7 @@ pub fn handed_state(bytes: &[u8]) -> State {
 
 // The part whose four bytes begin at a place.
 fn handed_part(bytes: &[u8], at: usize) -> Part
-    requires { ⌜ at ≤ 1037 ⌝ }
+    requires { ⌜ at ≤ 1042 ⌝ }
 {
     Part {
         a: byte_at(bytes, at + 1),
@@ -54,15 +55,30 @@ fn handed_counts(bytes: &[u8]) -> Counts {
     }
 }
 
+// The start.
+fn handed_start(bytes: &[u8]) -> u64 {
+    let lowest = byte_at(bytes, 17) as u64;
+    let low = byte_at(bytes, 18) as u64;
+    let middle = byte_at(bytes, 19) as u64;
+    let high = byte_at(bytes, 20) as u64;
+    let highest = byte_at(bytes, 21) as u64;
+    lowest + 256 * low + 65_536 * middle + 16_777_216 * high + 4_294_967_296 * highest
+}
+
 // The board that is handed in.
 pub fn handed_board(bytes: &[u8]) -> Board {
     let counts = handed_counts(bytes);
-    let first = handed_part(bytes, 17);
+    let start = handed_start(bytes);
+    let first = handed_part(bytes, 22);
     let mut parts = [first; 256];
     let mut i = 1;
     while i < MOST_PARTS {
-        parts[i] = handed_part(bytes, 17 + 4 * i);
+        parts[i] = handed_part(bytes, 22 + 4 * i);
         i += 1;
     }
-    Board { counts, parts }
+    Board {
+        counts,
+        parts,
+        start,
+    }
 }

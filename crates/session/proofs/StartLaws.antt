@@ -19,7 +19,7 @@ use Rattle.session.specs.declared.Stage.the-variants as stage
 use Rattle.session.specs.Sessions.{withAllowance, headAt}
 use Rattle.session.specs.Carried.{begunFrom, beginning, toldSession}
 
-pub begun-refused : (b : Board) (t : State) (q : Refusal) → b ≡ emptyBoard → t ≡ freshState
+pub begun-refused : (b : Board) (t : State) (q : Refusal) → b ≡ emptyBoard → t ≡ freshState b
     → toldSession
     (record {
       board = b;
@@ -27,10 +27,10 @@ pub begun-refused : (b : Board) (t : State) (q : Refusal) → b ≡ emptyBoard �
       ahead = record { state = t; event = 0; place = 0; stage = stage.Refused q };
     }) ≡ begunFrom (refused (q .number) (q .place))
 unfolding begunFrom
-begun-refused b t q empty fresh = rw (empty, fresh)
+begun-refused b t q empty fresh = rw (fresh, empty)
 
 module _ (b : Board) (x : number.Number) where
-  pub begun-read : (t : State) (w at : ℕ) → x ≡ number-was.Read w at → t ≡ freshState
+  pub begun-read : (t : State) (w at : ℕ) → x ≡ number-was.Read w at → t ≡ freshState b
       → toldSession
       (record {
         board = b;

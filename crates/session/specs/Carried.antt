@@ -6,7 +6,8 @@
 --     Session                     the board and allowance, and what is ahead
 --     headOf z                    the head of the session z
 --     onward z a                  the session z with a ahead
---     freshAhead at k             what is ahead at the stage k before the first run, with the first event at a place
+--     freshAhead b at k           what is ahead at the stage k before the first run: the fresh state of board b, and
+--                                 the first event at a place
 --     begunFrom o, beginning s    the session that begins with the head o; with the head of the input s by the current
 --                                 edition
 --     Coming                      the next line, or none
@@ -73,13 +74,15 @@ headOf z = headWith (z .board) (z .allowance)
 abbrev pub onward : Session → Ahead → Session
 onward z a = record { board = z .board; allowance = z .allowance; ahead = a }
 
-abbrev pub freshAhead : ℕ → Stage → Ahead
-freshAhead at k = record { state = freshState; event = 0; place = at; stage = k }
+abbrev pub freshAhead : Board → ℕ → Stage → Ahead
+freshAhead b at k = record { state = freshState b; event = 0; place = at; stage = k }
 
 unfoldable pub begunFrom : Outcome (Found Head) → Session
 begunFrom (given h) =
-    record { board = h .value .board; allowance = h .value .allowance; ahead = freshAhead (h .next) first }
-begunFrom (refused n p) = record { board = emptyBoard; allowance = 0; ahead = freshAhead 0 (refusing n p) }
+    let b = h .value .board in
+    record { board = b; allowance = h .value .allowance; ahead = freshAhead b (h .next) first }
+begunFrom (refused n p) =
+    record { board = emptyBoard; allowance = 0; ahead = freshAhead emptyBoard 0 (refusing n p) }
 
 unfoldable pub beginning : List ℕ → Session
 beginning s = begunFrom (headAt currentEdition s)

@@ -1,6 +1,7 @@
 -- A session's lines, on its bytes. Rule book: "A session file is a board, the allowance W, then events to the end"; "It
--- reads a session from standard input, from a fresh state"; "Board and W are read before the first run. A bad file (10
--- counts the whole session) or event (1, 2 or 7) prints `refused`, number, place, and ends; earlier lines stand."
+-- reads a session from standard input, from a fresh state", since request A2 that of its board; "Board and W are read
+-- before the first run. A bad file (10 counts the whole session) or event (1, 2 or 7) prints `refused`, number, place,
+-- and ends; earlier lines stand."
 --     Head                           what stands before the events: the board and the allowance
 --     headWith b w                   the head of board b and allowance w
 --     withAllowance b o              the board b, with what reading the allowance came to
@@ -63,7 +64,7 @@ linesFrom ed (suc k) b s t e at w =
 unfoldable pub headLines : Edition → Outcome (Found Head) → List ℕ → List Line
 headLines ed (refused n p) s = closing n p ∷ []
 headLines ed (given h) s =
-    let first = ranLine (h .value .board) 0 freshState (h .value .allowance) in
+    let first = ranLine (h .value .board) 0 (freshState (h .value .board)) (h .value .allowance) in
     first .0 ∷ linesFrom ed (length s) (h .value .board) s (first .1) 1 (h .next) (h .value .allowance)
 
 unfoldable pub sessionLines : Edition → List ℕ → List Line

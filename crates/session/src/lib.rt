@@ -49,7 +49,7 @@ pub struct Handed {
     pub answer: HandOut,
 }
 
-// Reads the board and the allowance, and begins the session in a fresh state.
+// Reads the board and the allowance, and begins the session in a fresh state of that board.
 pub fn begin(s: &[u8]) -> Session
     ensures { λ r. ⌜ Begins (now (s .entry)) r ⌝ }
 {

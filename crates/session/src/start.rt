@@ -16,11 +16,12 @@ use state::State;
 pub fn refuse(refusal: Refusal) -> Session
     ensures { λ r. ⌜ toldSession r ≡ begunFrom (refused (refusal .number) (refusal .place)) ⌝ }
 {
+    let board = board::empty();
     Session {
-        board: board::empty(),
+        board,
         allowance: 0,
         ahead: Ahead {
-            state: State::fresh(),
+            state: State::fresh(board),
             event: 0,
             place: 0,
             stage: Stage::Refused(refusal),
@@ -37,7 +38,7 @@ pub fn begin_with(board: Board, allowance: Number) -> Session
             board,
             allowance,
             ahead: Ahead {
-                state: State::fresh(),
+                state: State::fresh(board),
                 event: 0,
                 place,
                 stage: Stage::First,

@@ -103,9 +103,9 @@ head-fine s =
     (λ at was. gives-after HeadFine (numberAt currentWidth s at) _ (λ w read. was .fine))
 
 pub head-walk : (h : Found Head) (s : List ℕ) → HeadFine h → (Q : ℕ → State → List Line → Type 0)
-    → Along (h .value) Q → Q 0 freshState (headLines currentEdition (given h) s)
+    → Along (h .value) Q → Q 0 (freshState (h .value .board)) (headLines currentEdition (given h) s)
 unfolding headLines
 head-walk h s fine Q so =
-    let first =
-    ran-fits (h .value .board) fine (h .value .allowance) 0 freshState (fresh-fits (h .value .board .counts)) in
-    so .shown 0 freshState _ _ refl first (lines-walk (h .value) s fine Q so (length s) _ 0 (h .next) (first .fits))
+    let b = h .value .board in
+    let first = ran-fits b fine (h .value .allowance) 0 (freshState b) (fresh-fits b fine) in
+    so .shown 0 (freshState b) _ _ refl first (lines-walk (h .value) s fine Q so (length s) _ 0 (h .next) (first .fits))

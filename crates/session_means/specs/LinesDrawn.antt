@@ -9,7 +9,7 @@
 --                              one is the next event's, in the state that the line before it leaves. A closing line
 --                              is the last
 --     LinesDrawn               so it is of the lines of every session whose board and allowance are read, from
---                              the fresh state
+--                              the fresh state of its board
 use Prim.Native.Nat.{ℕ, zero, suc}
 use mathlib.Core.Path.{_≡_}
 use mathlib.Core.Bool.{true}
@@ -42,4 +42,4 @@ abbrev pub LinesDrawn : Type 0
 LinesDrawn =
     (s : List ℕ) (h : Found Head)
     → headAt currentEdition s ≡ given h
-    → SumsFrom (h .value) 0 freshState (sessionLines currentEdition s)
+    → SumsFrom (h .value) 0 (freshState (h .value .board)) (sessionLines currentEdition s)

@@ -1,17 +1,19 @@
--- Request A1: "Every file accepted so far keeps its meaning", said of sessions. Stated over the definition of a
--- session's lines, with numbers of at most three bytes as before that request, and by the rule book as it stands.
---     Unclosed l         the line l tells of an event; it does not end the session
---     SessionsKept       a session that was not refused prints the same lines
---     LinesKept ls ms    what became of the lines ls, which are the lines ms today:
---       same             they are the same
---       ended            the session was ended by 2, and the lines before that stand
---     LinesStand         so it is of every session, refused or not
+-- Request A1, "Every file accepted so far keeps its meaning", and request A2, "First-edition files read as before",
+-- said of sessions. Stated over the definition of a session's lines, with numbers of at most three bytes as before A1,
+-- by the first edition as A1 left it, and by the rule book as it stands.
+--     Unclosed l           the line l tells of an event; it does not end the session
+--     SessionsKept         a session that was not refused before A1 prints the same lines
+--     FirstSessionsKept    nor is any line changed of a session that the first edition did not refuse
+--     LinesKept n ls ms    what became of the lines ls, which are the lines ms in the next edition:
+--       same               they are the same
+--       ended              the session was ended by n, and the lines before that stand
+--     LinesStand           so it is of every session, refused or not: by 2 from A1 on, and by 4 from A2 on
 use Prim.Native.Nat.{ℕ}
 use mathlib.Core.Path.{_≡_}
 use mathlib.Core.List.{List, [], _∷_, _++_}
 use Rattle.lists.specs.Members.{All}
-use Rattle.refusals.specs.Refusals.{badForm}
-use Rattle.board_reader.specs.Editions.{threeByteEdition, currentEdition}
+use Rattle.refusals.specs.Refusals.{badForm, noSuchKind}
+use Rattle.board_reader.specs.Editions.{threeByteEdition, firstEdition, currentEdition}
 use Rattle.lines.specs.Lines.{Line, event, closing}
 use Rattle.session.specs.Sessions.{sessionLines, sessionText}
 
@@ -25,10 +27,19 @@ SessionsKept =
     → All Unclosed (sessionLines threeByteEdition s)
     → sessionText currentEdition s ≡ sessionText threeByteEdition s
 
-pub data LinesKept (ls ms : List Line) : Type 0 where
-  same : ms ≡ ls → LinesKept ls ms
-  ended : (before rest : List Line) (p : ℕ) → ls ≡ before ++ (closing badForm p ∷ []) → ms ≡ before ++ rest
-      → LinesKept ls ms
+abbrev pub FirstSessionsKept : Type 0
+FirstSessionsKept =
+    (s : List ℕ)
+    → All Unclosed (sessionLines firstEdition s)
+    → sessionText currentEdition s ≡ sessionText firstEdition s
+
+pub data LinesKept (n : ℕ) (ls ms : List Line) : Type 0 where
+  same : ms ≡ ls → LinesKept n ls ms
+  ended : (before rest : List Line) (p : ℕ) → ls ≡ before ++ (closing n p ∷ []) → ms ≡ before ++ rest
+      → LinesKept n ls ms
 
 abbrev pub LinesStand : Type 0
-LinesStand = (s : List ℕ) → LinesKept (sessionLines threeByteEdition s) (sessionLines currentEdition s)
+LinesStand =
+    (s : List ℕ)
+    → LinesKept badForm (sessionLines threeByteEdition s) (sessionLines firstEdition s)
+    × LinesKept noSuchKind (sessionLines firstEdition s) (sessionLines currentEdition s)

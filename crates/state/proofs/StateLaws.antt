@@ -16,6 +16,7 @@ use Rattle.refusals.proofs.OrderLaws.{asks-append, asks-then, first-holds}
 use Rattle.board.specs.declared.Counts.{Counts}
 use Rattle.board.specs.declared.Board.{Board}
 use Rattle.board.specs.Rules.{boardFine}
+use Rattle.board.proofs.FineLaws.{fine-start-below}
 use Rattle.bits.proofs.BoolLaws.{both-true, true-both}
 use Rattle.state.specs.declared.State.{State}
 use Rattle.state.specs.States.{freshState, isDrawn, isPushed, withDrawn, withDropped, withPushed, withReleased}
@@ -88,8 +89,11 @@ members-state-fits c s below =
 
 -- ---- a state that fits still fits after each method
 
-pub fresh-fits : (c : Counts) → stateFine c freshState ≡ true
-fresh-fits c = within-both c freshState (within-none (c .relays)) (within-none (c .buttons))
+pub fresh-fits : (b : Board) → boardFine b ≡ true → stateFine (b .counts) (freshState b) ≡ true
+fresh-fits b fine =
+    within-both (b .counts) (freshState b)
+    (member-within (b .start) (b .counts .relays) (fine-start-below b fine))
+    (within-none (b .counts .buttons))
 
 module _ (c : Counts) (s : State) (n : ℕ) (fine : stateFine c s ≡ true) where
   pub state-fits-draw : n < c .relays → stateFine c (withDrawn s n) ≡ true

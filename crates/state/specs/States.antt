@@ -1,6 +1,7 @@
--- The state of a board. Rule book: "The state is which relays are drawn and which buttons are pushed; a fresh state has
--- none of either."
---     freshState                      none of either
+-- The state of a board. Rule book: "The state is which relays are drawn and which buttons are pushed"; request A2: "The
+-- board record carries the start its marks give (else 15), and a fresh state follows it."
+--     emptyState                       no relay drawn and no button pushed
+--     freshState b                    the fresh state of board b: the relays of its start drawn, no button pushed
 --     isDrawn s r, isPushed s b       relay r is drawn, button b is pushed
 --     withDrawn, withDropped s r      s with relay r drawn, dropped: "A move changes that relay and nothing else"
 --     withPushed, withReleased s b    s with button b pushed, released
@@ -9,7 +10,7 @@
 --     usable b s                      what stands against it by these
 --     left s f o                      the state that a call leaves beside what it came to: f a where it gives a; "A
 --                                     refused call returns the number, place 0 and the state it was given"
---     StateFresh r                    promise: `fresh` answers r
+--     StateFresh b r                  promise: `fresh` of board b answers r
 --     StateDraws s n r                promise: `draw` of relay n in state s answers r
 --     StateDrops s n r                promise: `drop`, likewise
 --     StatePushes s n r               promise: `push` of button n in state s answers r
@@ -32,8 +33,11 @@ use Rattle.board.specs.declared.Board.{Board}
 use Rattle.board.specs.Rules.{boardFine}
 use Rattle.state.specs.declared.State.{State}
 
-abbrev pub freshState : State
-freshState = record { drawn = 0; pushed = 0 }
+abbrev pub emptyState : State
+emptyState = record { drawn = 0; pushed = 0 }
+
+abbrev pub freshState : Board → State
+freshState b = record { drawn = b .start; pushed = 0 }
 
 abbrev pub isDrawn : State → ℕ → Bool
 isDrawn s r = member (s .drawn) r
@@ -66,8 +70,8 @@ unfoldable pub left : {A : Type 0} → State → (A → State) → Outcome A →
 left s f (given a) = (f a, given a)
 left s f (refused n p) = (s, refused n p)
 
-abbrev pub StateFresh : State → Type 0
-StateFresh r = r ≡ freshState
+abbrev pub StateFresh : Board → State → Type 0
+StateFresh b r = r ≡ freshState b
 
 abbrev pub StateDraws : State → ℕ → State → Type 0
 StateDraws s n r = r ≡ withDrawn s n

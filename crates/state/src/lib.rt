@@ -15,12 +15,12 @@ pub struct State {
 }
 
 impl State {
-    // A fresh state: no relay drawn, no button pushed.
-    pub fn fresh() -> Self
-        ensures { λ r. ⌜ StateFresh r ⌝ }
+    // A fresh state of a board: the relays of its start drawn, no button pushed.
+    pub fn fresh(board: Board) -> Self
+        ensures { λ r. ⌜ StateFresh board r ⌝ }
     {
         State {
-            drawn: 0,
+            drawn: board.start,
             pushed: 0,
         }
     }

@@ -1,15 +1,17 @@
-// Which windings the parts so far gave each relay: what refusals 8 and 9 go by.
+// Which windings and which marks the parts so far gave each relay: what refusals 8, 9 and 17 and a board's start go by.
 ghost use mathlib.Core.Path.{_≡_};
 ghost use mathlib.Core.Bool.{not, _&&_};
 ghost use Rattle.bits.specs.Sets.{member};
-ghost use Rattle.windings.specs.Windings.{wound, WoundNone, WoundFree, WoundWith, WoundComplete};
+ghost use Rattle.windings.specs.Windings.{wound, WoundNone, WoundFree, WoundUnmarked};
+ghost use Rattle.windings.specs.Windings.{WoundWith, WoundComplete};
 use kinds::Kind;
 
-// The relays that have a part of kind 4, of kind 5 and of kind 6.
+// The relays that have a part of kind 4, of kind 5, of kind 6 and of kind 7.
 pub struct WoundSoFar {
     pub regular: u64,
     pub drawing: u64,
     pub dropping: u64,
+    pub marked: u64,
 }
 
 // Whether a relay is in neither set.
@@ -32,6 +34,7 @@ impl WoundSoFar {
             regular: 0,
             drawing: 0,
             dropping: 0,
+            marked: 0,
         }
     }
 
@@ -54,10 +57,27 @@ impl WoundSoFar {
             Kind::Upper(_) => true,
             Kind::Lower(_) => true,
             Kind::Button(_) => true,
+            Kind::Mark(_) => true,
         }
     }
 
-    // The windings once a part of this kind has come too.
+    // Whether a part of this kind may come now (17): a mark may if its relay is not marked yet.
+    pub fn unmarked(self, kind: Kind) -> bool
+        ensures { λ r. ⌜ WoundUnmarked self kind r ⌝ }
+    {
+        match kind {
+            Kind::Mark(relay) => !bits::has(self.marked, bits::wide(relay)),
+            Kind::Wire => true,
+            Kind::Upper(_) => true,
+            Kind::Lower(_) => true,
+            Kind::Button(_) => true,
+            Kind::Regular(_) => true,
+            Kind::Drawing(_) => true,
+            Kind::Dropping(_) => true,
+        }
+    }
+
+    // The windings and marks once a part of this kind has come too.
     pub fn with(self, kind: Kind) -> Self
         ensures { λ r. ⌜ WoundWith self kind r ⌝ }
     {
@@ -76,6 +96,11 @@ impl WoundSoFar {
             Kind::Dropping(relay) => {
                 let set = bits::with(self.dropping, bits::wide(relay));
                 next.dropping = set;
+                next
+            }
+            Kind::Mark(relay) => {
+                let set = bits::with(self.marked, bits::wide(relay));
+                next.marked = set;
                 next
             }
             Kind::Wire => next,

@@ -1,4 +1,5 @@
--- `board::check` meets its contract: the counts first, within their ranges the parts, and after the last part 9.
+-- `board::check` meets its contract: the counts first, within their ranges the parts, after the last part 9, and
+-- then the start.
 use borrow.Author.Needs.{needs}
 use Rattle.board.proofs.check.Statement.{statement}
 use Rattle.board.proofs.check.Tie as tie
@@ -7,7 +8,7 @@ use mathlib.Core.Bool.{true}
 use borrow.Author.Tests.{not-true, not-false}
 use Rattle.board.specs.Rules.{countsFine, toldRow}
 use Rattle.board.proofs.RuleLaws.{counts-in-range}
-use Rattle.board.proofs.FineLaws.{check-counts, check-row, check-whole}
+use Rattle.board.proofs.FineLaws.{check-counts, check-row, check-lacking, check-start}
 
 -- past the first test the counts are in range
 in-range : (e : tie.Else1) → countsFine (e .before .before .before .args .board .counts) ≡ true
@@ -22,12 +23,22 @@ returns-2 c =
 
 returns-3 : tie.Need-returns-3
 returns-3 c =
-    let row = c .before .before in
+    let row = c .before .before .before in
     let called = row .before .before in
     let none = called .before in
-    c .complete .ensures
-    ∙ check-whole _ (in-range (none .before .before)) (none .none .ensures)
+    check-lacking _ (in-range (none .before .before)) (none .none .ensures)
     (sym (ap toldRow (row .row .given .1)) ∙ called .row-after .ensures)
+    (sym (c .before .complete .ensures) ∙ not-true _ (c .if2 .taken))
+
+returns-4 : tie.Need-returns-4
+returns-4 c =
+    let else = c .before .before in
+    let row = else .before .before .before in
+    let called = row .before .before in
+    let none = called .before in
+    check-start _ (in-range (none .before .before)) (none .none .ensures)
+    (sym (ap toldRow (row .row .given .1)) ∙ called .row-after .ensures)
+    (sym (else .before .complete .ensures) ∙ not-false _ (else .if2 .left))
 
 pub check-spec : {M : Type 1} → statement M
 check-spec =
@@ -40,4 +51,5 @@ check-spec =
     (λ c. search needs) (λ c. search needs)
     returns-2
     (λ c κs. search needs)
-    returns-3)
+    returns-3
+    returns-4)

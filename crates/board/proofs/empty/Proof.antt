@@ -13,4 +13,4 @@ empty-spec =
     tie.close
     (tie.spec
     (λ c κs. search needs)
-    (λ c. ap (λ (p : Part). record { counts = _; parts = replicate mostParts p }) (c .blank .ensures)))
+    (λ c. ap (λ (p : Part). record { counts = _; parts = replicate mostParts p; start = _ }) (c .blank .ensures)))

@@ -1,5 +1,5 @@
 -- `board::row_after` meets its contract. The invariant: all the parts come to what those from i on come to after the
--- windings so far.
+-- windings and marks so far.
 use Rattle.board.proofs.row_after.Statement.{statement}
 use Rattle.board.proofs.row_after.Tie as tie
 use borrow.Author.Needs.{needs}

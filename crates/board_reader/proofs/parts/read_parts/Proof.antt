@@ -1,5 +1,5 @@
 -- `board_reader::parts::read_parts` meets its contract. The invariant: the parts read so far fill the array and give
--- the windings so far, and those of the definition are these and then the ones from the present place on.
+-- the windings and marks so far, and those of the definition are these and then the ones from the present place on.
 use Rattle.board_reader.proofs.parts.read_parts.Statement.{statement}
 use Rattle.board_reader.proofs.parts.read_parts.Tie as tie
 use borrow.Author.Needs.{needs}

@@ -7,10 +7,10 @@ use Rattle.file_cases.proofs.handed_case.handed_board.Statement.{statem
 use Rattle.file_cases.proofs.handed_case.handed_board.Tie as tie
 
 abbrev Inv-loop : tie.InvT-loop
-Inv-loop bytes counts parts₀ i₀ parts i = (length parts ≡ 256) × (i ≤ 256)
+Inv-loop bytes counts start parts₀ i₀ parts i = (length parts ≡ 256) × (i ≤ 256)
 
 abbrev μ-loop : tie.MeasureT-loop
-μ-loop bytes counts parts₀ i₀ parts i = 256 - i
+μ-loop bytes counts start parts₀ i₀ parts i = 256 - i
 
 pub handed-board-spec : {M : Type 1} → statement M
 handed-board-spec =
@@ -18,6 +18,6 @@ handed-board-spec =
     (tie.spec
     Inv-loop
     μ-loop
-    (λ c κs. search needs) (λ c κs. search needs) (λ c. search needs) (λ c. search needs) (λ c. search needs)
-    (λ c κs. search needs) (λ c. search needs) (λ c. search needs) (λ c. search needs) (λ c. search needs)
-    (λ c. search needs) (λ c. search needs))
+    (λ c κs. search needs) (λ c κs. search needs) (λ c κs. search needs) (λ c. search needs) (λ c. search needs)
+    (λ c. search needs) (λ c κs. search needs) (λ c. search needs) (λ c. search needs) (λ c. search needs)
+    (λ c. search needs) (λ c. search needs) (λ c. search needs))

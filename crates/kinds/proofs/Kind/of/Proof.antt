@@ -1,20 +1,21 @@
 -- `kinds::Kind::of` meets its contract: each arm's number picks the same case of `kindOf`.
 use Rattle.kinds.proofs.Kind.of.Statement.{statement}
 use Rattle.kinds.proofs.Kind.of.Tie as tie
-use Rattle.kinds.specs.Kinds.{buttonKind, regularKind, drawingKind, kindOf}
+use Rattle.kinds.specs.Kinds.{buttonKind, regularKind, drawingKind, droppingKind, kindOf}
 use borrow.Author.Tests.{ne-eqb}
 
-returns-7 : tie.Need-returns-7
+returns-8 : tie.Need-returns-8
 unfolding kindOf
-returns-7 c =
+returns-8 c =
     let none = c .match .rest in
     rw (
-      ne-eqb _ 0 (none .0 .0 .0 .0 .0 .1),
-      ne-eqb _ 1 (none .0 .0 .0 .0 .1),
-      ne-eqb _ 2 (none .0 .0 .0 .1),
-      ne-eqb _ buttonKind (none .0 .0 .1),
-      ne-eqb _ regularKind (none .0 .1),
-      ne-eqb _ drawingKind (none .1),
+      ne-eqb _ 0 (none .0 .0 .0 .0 .0 .0 .1),
+      ne-eqb _ 1 (none .0 .0 .0 .0 .0 .1),
+      ne-eqb _ 2 (none .0 .0 .0 .0 .1),
+      ne-eqb _ buttonKind (none .0 .0 .0 .1),
+      ne-eqb _ regularKind (none .0 .0 .1),
+      ne-eqb _ drawingKind (none .0 .1),
+      ne-eqb _ droppingKind (none .1),
     )
 
 pub of-spec : {M : Type 1} → statement M
@@ -28,4 +29,5 @@ of-spec =
     (λ c. rw (c .match .keys4))
     (λ c. rw (c .match .keys5))
     (λ c. rw (c .match .keys6))
-    returns-7)
+    (λ c. rw (c .match .keys7))
+    returns-8)
