@@ -1,8 +1,8 @@
 -- When two boards are the same, over the call `board::same`. Rule book: "Boards are compared by their counts and first
 -- C parts, each part by its kind and the fields the table gives it."
---     compared p     what a part is compared by
---     Same x y       the boards x and y have the same counts, and their first C parts are the same one by one
---     SameExactly    `same` says of two boards that they are the same exactly if they are
+--     compared p     what a part is compared by: its kind and its fields
+--     Same x y       the boards x and y have equal counts, and what their first C parts are compared by is equal too
+--     SameExactly    `same` says of two boards that they are the same exactly if `Same` holds of them
 use Prim.Native.Nat.{ℕ}
 use mathlib.Core.Path.{_≡_}
 use mathlib.Core.Logic.{_↔_}

@@ -38,7 +38,7 @@ use Rattle.file_means.specs.FileRefusals.{line1, line2, line3-T, line3-R
 use Rattle.file_means.specs.FileRefusals.{line5-second, line6, line7-button, line7-relay, line8, line9}
 use Rattle.file_means.specs.FileRefusals.{line17}
 use Rattle.file_means.proofs.TakenLaws.{taken-winding, taken-barred, marked-barred}
-use Rattle.file_means.proofs.ReachedRead.{PartsSoFar, KindRead, StageRead, relay-limit}
+use Rattle.file_means.proofs.ReachedRead.{PartsSoFar, KindRead, EndsFound, StageRead, relay-limit}
 use Rattle.file_means.proofs.ReachedRead.{name-found, reached-read, rest-refused, last-part}
 
 -- the reader's test of the number that is wanted at a stage, and the number for no of it
@@ -135,8 +135,17 @@ module _ (e : Edition) (known : Known e) (s : List ℕ) where
   -- the relay of a winding or a mark is there, and is barred
   module _ (c : Counts) (ps : List Part) (k a b v at : ℕ) (stands : NumberStands e s (at-name c ps k a b) at v)
       (relay : ¬ (k ≡ buttonKind)) (below : v < c .relays) where
-    abbrev named : StageRead e s (at-name c ps k a b) at
-    named = reached-read e known s (at-name c ps k a b) at (stands .0)
+    abbrev w : WoundSoFar
+    w = reached-read e known s (at-name c ps k a b) at (stands .0) .0
+
+    abbrev ends : EndsFound e s c ps w k a b at
+    ends = reached-read e known s (at-name c ps k a b) at (stands .0) .1
+
+    abbrev kind : KindRead e s c ps w k (ends .ends-at)
+    kind = ends .before
+
+    barred : (n : ℕ) → refused n at ≡ partAt e c w s (kind .part-at) → boardAt e s ≡ refused n at
+    barred n = board-part n at c ps w (kind .part-at) (kind .before) (kind .one-more)
 
     relay-found : nameAt e c k s at ≡ found v (stands .2)
     relay-found =
@@ -144,22 +153,15 @@ module _ (e : Edition) (known : Known e) (s : List ℕ) where
 
     board-winding : Taken v ps k → boardAt e s ≡ refused windingTaken at
     board-winding taken =
-        let w = named .0 in
-        let x = named .1 in
-        let z = x .before in
-        board-part windingTaken at c ps w (z .part-at) (z .before) (z .one-more)
-        (winding-taken-refused e c w s (z .part-at) k (x .ends-at) (z .kind-read) (a, b) at (x .ends-read) v
-        (stands .2) relay-found (taken-barred w ps v (z .before .so-far v) k taken))
+        barred windingTaken
+        (winding-taken-refused e c w s (kind .part-at) k (ends .ends-at) (kind .kind-read) (a, b) at (ends .ends-read)
+        v (stands .2) relay-found (taken-barred w ps v (kind .before .so-far v) k taken))
 
     board-mark : TakenMark v ps k → boardAt e s ≡ refused markedTwice at
     board-mark twice =
-        let w = named .0 in
-        let x = named .1 in
-        let z = x .before in
-        board-part markedTwice at c ps w (z .part-at) (z .before) (z .one-more)
-        (marked-twice-refused e c w s (z .part-at) k (x .ends-at) (z .kind-read) (a, b) at (x .ends-read) v
-        (stands .2) relay-found (mark-free w k v (twice .0))
-        (marked-barred w ps v (z .before .so-far v) k twice))
+        barred markedTwice
+        (marked-twice-refused e c w s (kind .part-at) k (ends .ends-at) (kind .kind-read) (a, b) at (ends .ends-read)
+        v (stands .2) relay-found (mark-free w k v (twice .0)) (marked-barred w ps v (kind .before .so-far v) k twice))
 
   board-lacking : (c : Counts) (ps : List Part) (r at : ℕ) → Reached e s (at-part c ps) at → length ps ≡ c .parts
       → r < c .relays → ¬ isRegular r ps → ¬ isSteel r ps → boardAt e s ≡ refused windingLacking at

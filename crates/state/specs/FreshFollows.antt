@@ -1,8 +1,8 @@
 -- What a fresh state is, over the call `State::fresh`. Request A2: "The board record carries the start its marks give
 -- (else 15), and a fresh state follows it."
---     IsFresh b s    in state s exactly the relays are drawn that board b marks, no button is pushed, and 14
---                           does not refuse it
---     FreshFollows          the fresh state of a board that breaks no rule is such a state
+--     IsFresh b s     in state s exactly the relays are drawn that board b marks, no button is pushed, and 14 does not
+--                     refuse it
+--     FreshFollows    the fresh state of a board that breaks no rule is such a state
 use Prim.Native.Nat.{ℕ}
 use mathlib.Core.Path.{_≡_}
 use mathlib.Core.Logic.{_↔_}

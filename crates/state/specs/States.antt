@@ -1,6 +1,6 @@
 -- The state of a board. Rule book: "The state is which relays are drawn and which buttons are pushed"; request A2: "The
 -- board record carries the start its marks give (else 15), and a fresh state follows it."
---     emptyState                       no relay drawn and no button pushed
+--     emptyState                      no relay drawn and no button pushed
 --     freshState b                    the fresh state of board b: the relays of its start drawn, no button pushed
 --     isDrawn s r, isPushed s b       relay r is drawn, button b is pushed
 --     withDrawn, withDropped s r      s with relay r drawn, dropped: "A move changes that relay and nothing else"
