@@ -1,6 +1,7 @@
--- What conducts. Rule book, "Parts of a board", the table's last column, a line for each kind in its order; and
--- request A2: a mark "joins nothing and conducts nothing".
---     conducts s k      a part of kind k conducts in state s
+-- What conducts. Rule book, "Parts of a board", the table's last column, a line for each kind in its order; and request
+-- A2: a mark "joins nothing and conducts nothing". The code has the same lines (request A3).
+--     conducts s k      a part of kind k conducts in state s: `true` is the table's "always", `false` its "never", and
+--                       a relay is dropped while it is not drawn
 --     Conducts k s r    promise: `conducts` of kind k in state s answers r
 -- A contact has no state of its own: it follows its relay (document 002).
 use mathlib.Core.Path.{_≡_}
@@ -15,10 +16,10 @@ conducts s Wire = true
 conducts s (Upper relay) = isDrawn s relay
 conducts s (Lower relay) = not (isDrawn s relay)
 conducts s (Button button) = isPushed s button
-conducts s (Regular relay) = true
-conducts s (Drawing relay) = true
-conducts s (Dropping relay) = true
-conducts s (Mark relay) = false
+conducts s (Regular _) = true
+conducts s (Drawing _) = true
+conducts s (Dropping _) = true
+conducts s (Mark _) = false
 
 abbrev pub Conducts : Kind → State → Bool → Type 0
 Conducts k s r = r ≡ conducts s k

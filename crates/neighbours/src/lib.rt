@@ -16,15 +16,17 @@ pub struct Sets {
     pub near: [u64; 64],
 }
 
-// Whether a part of this kind conducts: a line for each line of the rule book's table. A contact follows its relay.
+// Whether a part of this kind conducts in this state: docs/RULES.md, "Parts of a board", the table's last column, line
+// by line. `true` is its "always", `false` its "never", and a relay is dropped while it is not drawn. `as u32` hands
+// the part's number on as it is, and `_` is a relay that is not asked.
 pub fn conducts(kind: Kind, state: State) -> bool
     ensures { λ r. ⌜ Conducts kind state r ⌝ }
 {
     match kind {
         Kind::Wire => true,
-        Kind::Upper(relay) => bits::has(state.drawn, bits::wide(relay)),
-        Kind::Lower(relay) => !bits::has(state.drawn, bits::wide(relay)),
-        Kind::Button(button) => bits::has(state.pushed, bits::wide(button)),
+        Kind::Upper(relay) => state.is_drawn(relay as u32),
+        Kind::Lower(relay) => !state.is_drawn(relay as u32),
+        Kind::Button(button) => state.is_pushed(button as u32),
         Kind::Regular(_) => true,
         Kind::Drawing(_) => true,
         Kind::Dropping(_) => true,
