@@ -108,9 +108,9 @@ def twenty_relays():
 
 
 def ladder(terminals):
-    """The ladder of bench/judge.py with a button beside the dead winding, where it changes no chain."""
+    """The ladder of bench/judge.py with a button beside its first wire, where it changes no chain and shunts nothing."""
     wires, a, b = judge.ladder(terminals)
-    return [terminals, 1, 1], [[WIRE, *pair] for pair in wires] + [[REGULAR, a, b, 0], [BUTTON, a, b, 0]]
+    return [terminals, 1, 1], [[WIRE, *pair] for pair in wires] + [[REGULAR, a, b, 0], [BUTTON, *wires[0], 0]]
 
 
 def deep(last):

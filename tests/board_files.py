@@ -100,30 +100,40 @@ def typed_part(row):
     return [0, a, b] if kind == 0 else [model.MARK, name] if kind >= model.MARK else [kind, a, b, name]
 
 
-def handed_size(data):
-    """How long the file of a board handed in is; None for one that is not fine. It is fine exactly if its file reads and its
-    start is that of its marks."""
+def handed_board(data):
+    """How long the file of a board handed in is, None for one that is not fine, its counts and its parts. It is fine exactly
+    if its file reads and its start is that of its marks."""
     data = data + bytes(HANDED_PARTS + 4 * 256)
     counts, parts, start = list(data[:3]), int.from_bytes(data[3:5], "little"), int.from_bytes(data[5:HANDED_PARTS], "little")
     if parts > 256:
-        return None
+        return None, counts, []
     rows = [typed_part(data[at : at + 4]) for at in range(HANDED_PARTS, HANDED_PARTS + 4 * parts, 4)]
     try:
         size, marked = model.read(model.file_of(counts, rows))
     except model.Refused:
-        return None
-    return size if total(marked) == start else None
+        return None, counts, rows
+    return size if total(marked) == start else None, counts, rows
+
+
+def moves_without_chains(counts, parts):
+    """What a move of relay 0 and a run come to that are allowed no chain, with nothing drawn and nothing pushed: a relay
+    whose windings are all shunted rests, and any other is undecided."""
+    windings = [part for part in parts if part[0] in judge_model.WINDINGS]
+    undecided = {part[3] for part in windings if not judge_model.shunted(parts, set(), set(), *part[1:3])}
+    moved = "refused 11" if not counts[1] else "undecided" if 0 in undecided else "rests"
+    ran = f"undecided 0 0 0 {min(undecided)}:" if undecided else "idle 0 0 0 255:"
+    return f"moved {moved} 0 0", f"ran {ran}"
 
 
 def handed_answers(data):
     """What the calls answer on a board handed in, a line of each program's."""
-    size, relays, buttons = handed_size(data), *(data + bytes(3))[1:3]
+    size, counts, parts = handed_board(data)
+    buttons = counts[2]
     if size is None:
         calls = " ".join(f"{call} refused 15" for call in ("write", "push", "again", "release", "absent", "beyond"))
         return calls, "moved refused 15 0 0", "ran refused 15 0 0 0 255:"
     presses = "push done again refused 12 release refused 12" if buttons else "push refused 7 again refused 7 release refused 7"
-    moves = ("moved undecided 0 0", "ran undecided 0 0 0 0:") if relays else ("moved refused 11 0 0", "ran idle 0 0 0 255:")
-    return f"write {size} {presses} absent refused 7 beyond refused 14", *moves
+    return f"write {size} {presses} absent refused 7 beyond refused 14", *moves_without_chains(counts, parts)
 
 
 def file_answer(ending, data):
@@ -163,8 +173,9 @@ def compare(seed, count):
     checks = case_checks(found)
     for want in (line for _, _, lines in found for line in lines):
         words.update(f"refused {number.split()[0]}" for number in want.split("refused ")[1:])
-        words.add(want.split()[0])
-    for word in ["read", "write", "short"] + [f"refused {number}" for number in (1, 2, 3, 4, 5, 6, 7, 8, 9, 11, 12, 14, 15, 16, 17)]:
+        words.update({want.split()[0], " ".join(want.split()[:2])})
+    met = ["read", "write", "short", "moved undecided", "moved rests", "ran undecided", "ran idle"]
+    for word in met + [f"refused {number}" for number in (1, 2, 3, 4, 5, 6, 7, 8, 9, 11, 12, 14, 15, 16, 17)]:
         checks.append((f"some case answers {word}", word in words))
     return checks
 

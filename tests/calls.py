@@ -5,7 +5,7 @@ moves, and is asked to go on from there). Boards of all sorts in tests/lib/sessi
 with allowances around the efforts and logs of 0, 1 and around the moves; damaged files; boards handed in that break a rule. No
 answer is compared with a model in Python, which only tells which damaged files are read at all; what is around an effort is asked
 of the second program. Seeded, so each run tries the same
-cases; `python3 tests/calls.py SEED BOARDS` tries others, or more (it is 1 and 500 else). Needs cargo, and
+cases; `python3 tests/calls.py SEED BOARDS` tries others, or more (it is 1 and 540 else). Needs cargo, and
 target/bin/current_cases and target/bin/run_cases, which `rt check current_cases run_cases` builds."""
 import collections
 import concurrent.futures
@@ -40,7 +40,7 @@ SPENT = re.compile(rf"ran spent {SHOWN} (\d+) (\d+) ")
 
 SORTS = [boards.feeding, boards.feeding, boards.web, boards.web, boards.buzzing, boards.conflicting, boards.every_kind, boards.crowded]
 SORTS += [boards.largest, lambda dice: boards.counting(dice, dice.randint(2, 8), dice.randint(0, 3)), lambda dice: boards.diamonds(dice, dice.randint(0, 12))[0]]
-SORTS += [lambda dice: boards.dense(dice, dice.randint(4, 9))]
+SORTS += [lambda dice: boards.dense(dice, dice.randint(4, 9)), boards.shunting]
 
 
 class Asked:
@@ -91,7 +91,7 @@ def asked_boards(dice, count):
 
 def around(effort, largest):
     """Allowances around an effort, the least and the largest."""
-    return [0, 1, 5, MUCH - 1] if effort is None else sorted({0, 1, effort - 1, effort, effort + 1, largest})
+    return [0, 1, 5, MUCH - 1] if effort is None else sorted({0, 1, max(effort - 1, 0), effort, effort + 1, largest})
 
 
 def judgements(dice, own):
@@ -192,6 +192,8 @@ def occurring(lines):
     known += [f"ran {word}" for word in ("idle", "spent", "undecided", "conflict", "refused 13", "refused 14", "refused 15")]
     for word in known:
         yield f"{word} occurs {counts[word]} times, at least {OFTEN}", counts[word] >= OFTEN
+    shunted = lines.count("judged dead 0")
+    yield f"judged dead 0, which is shunted, occurs {shunted} times, at least {OFTEN}", shunted >= OFTEN
     yield f"no other answer occurs: {set(counts) - set(known)}", set(counts) <= set(known)
 
 
@@ -207,5 +209,5 @@ def compare(seed, count):
 
 
 if __name__ == "__main__":
-    seed, count = (int(word) for word in sys.argv[1:3]) if len(sys.argv) > 2 else (1, 500)
+    seed, count = (int(word) for word in sys.argv[1:3]) if len(sys.argv) > 2 else (1, 540)
     sys.exit(repository.report(compare(seed, count)))

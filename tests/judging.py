@@ -1,8 +1,10 @@
 """Compares the proved program `current_cases` with the model of judging in tests/lib/judge_model.py on generated judgements:
-random boards of 2 to 10 terminals, rings, ladders, paths through all 64 terminals, with marks and without, each with
-allowances around the effort, states within and beyond the board, relays that are there and that are not; and searches that
-nest deeply, with 2 MiB of stack. Seeded, so each run tries the same cases; `python3 tests/judging.py SEED BOARDS` tries
-others, or more (it is 1 and 600 else). Needs target/bin/current_cases, which `rt check current_cases` builds."""
+random boards of 2 to 10 terminals, rings, ladders, paths through all 64 terminals, with marks and without, with windings
+that are live, dead and shunted, each with allowances around the effort, states within and beyond the board, relays that are
+there and that are not; on the boards with shunts in tests/lib/shunt_boards.py; and on searches that nest deeply, these two
+with 2 MiB of stack. Seeded, so each run tries the same cases; `python3 tests/judging.py SEED BOARDS` tries others, or more
+(it is 1 and 650 else). Needs target/bin/current_cases, which `rt check current_cases` builds."""
+import collections
 import os
 import random
 import sys
@@ -12,11 +14,14 @@ import board_model
 import judge_model as model
 import program
 import repository
+import shunt_boards
 from board_model import LARGEST, NARROW
 
 AFFORDABLE = 2_097_151  # an allowance that there is time for, however many chains a board has
-MOST_CHAINS = 200_000  # boards with more are left out
+MOST_CHAINS = 200_000  # of boards with more only shunted windings are judged
 STACK = 2 * 1024 * 1024
+SHARE = 0.15  # of the windings that are judged at least so many are live, so many dead by their chains, and so many shunted
+OFTEN = 20  # and at least so many would have another effort if the shunted windings of others did not conduct
 
 
 def some_marks(dice, relays):
@@ -26,12 +31,15 @@ def some_marks(dice, relays):
 
 
 def some_parts(dice, relays, buttons, joined, ends):
-    """A part on each of the pairs that are to be joined, each relay's windings on some of the pairs of ends, and some marks."""
+    """A part on each of the pairs that are to be joined, each relay's windings on some of the pairs of ends, and some marks.
+    On most boards nothing lies beside a winding but other windings."""
     parts = []
     for relay in range(relays):
         for kind in dice.choice([[4], [5, 6], [6, 5]]):
             parts.append([kind] + dice.choice(ends) + [relay])
-    kinds = [0] * dice.choice([1, 5, 500]) + [1, 2, 3]
+    if dice.random() < 0.7:
+        joined = [pair for pair in joined if pair not in [part[1:3] for part in parts]]
+    kinds = [0] * dice.choice([1, 5, 500, 500]) + [1, 2, 3]
     for pair in joined:
         kind = dice.choice(kinds)
         names = buttons if kind == model.BUTTON else relays
@@ -85,13 +93,31 @@ def path_pairs(dice):
     return 64, path + cuts, path + cuts
 
 
+SORTS = [random_pairs] * 6 + [dense_pairs] + [ring_pairs, ladder_pairs, path_pairs] * 2
+
+
+def parted(dice, terminals, joined, ends):
+    """Pairs to be joined and pairs of ends, of these, so that windings alone join plus and some terminals around it to the
+    others: those windings are never shunted. As many, if there is room, lie elsewhere."""
+    side = {model.PLUS}
+    for _ in range(dice.randrange(terminals)):
+        near = [end for pair in joined if side.intersection(pair) for end in pair if end not in side and end != model.MINUS]
+        side.update(dice.sample(near, min(1, len(near))))
+    across = [pair for pair in joined if len(side.intersection(pair)) == 1]
+    others = [pair for pair in joined if pair not in across]
+    return others, across + dice.sample(others, min(len(others), len(across))) or ends
+
+
 def board(dice):
     """The counts T, R, B and the parts of some fine board."""
-    terminals, joined, ends = dice.choice([random_pairs] * 6 + [dense_pairs, ring_pairs, ring_pairs, ladder_pairs, ladder_pairs, path_pairs, path_pairs])(dice)
-    if terminals < 64 and dice.random() < 0.4:  # the windings hang on a terminal of their own, and are dead
-        ends = [[dice.randrange(terminals), terminals]]
+    terminals, joined, ends = dice.choice(SORTS)(dice)
+    sort = dice.random()
+    if sort < 0.3 and terminals < 64:  # about half of the windings hang on a terminal of their own, and are dead
+        ends = ends + [[dice.randrange(terminals), terminals]] * len(ends)
         terminals += 1
-    relays, buttons = dice.choice([0, 1, 2, 3, 5, 5]), dice.choice([0, 1, 2, 5])
+    elif sort < 0.7:
+        joined, ends = parted(dice, terminals, joined, ends)
+    relays, buttons = dice.choice([0, 1, 3, 5, 8, 12]), dice.choice([0, 1, 2, 5])
     return [terminals, relays, buttons], some_parts(dice, relays, buttons, joined, ends)
 
 
@@ -112,8 +138,28 @@ def case(counts, parts, drawn, pushed, relay, which, allowance):
     return data.hex() + "@\n"
 
 
-def judgements(dice, counts, parts):
-    """Judgements of some winding on a board, with the line that each should print."""
+def carried(asked, found):
+    """Whether the effort of a winding, or the chain that shows it, would be another if shunted windings did not conduct."""
+    counts, parts, drawn, pushed, relay, which = asked
+    own = model.winding(parts, relay, which)
+    shunted = [part for part in parts if part[0] in model.WINDINGS and model.shunted(parts, drawn, pushed, *part[1:3])]
+    others = [part for part in parts if part == own or part not in shunted]
+    return others != parts and model.effort(counts, others, drawn, pushed, relay, which, MOST_CHAINS) != found
+
+
+def lines(asked, effort, chain, allowances):
+    """The judgements of a winding with these allowances, each with the line that it should print."""
+    verdicts = [(allowance, model.verdict(effort, chain, allowance)) for allowance in sorted(allowances)]
+    return [(case(*asked, allowance), f"judged {verdict}") for allowance, verdict in verdicts]
+
+
+def around(effort):
+    """The least allowances, the largest, and those around an effort."""
+    return {0, 1, max(effort - 1, 0), effort, effort + 1, LARGEST}
+
+
+def judgements(dice, counts, parts, seen):
+    """Judgements of some winding on a board, with the line that each should print; counts what is seen of it."""
     drawn, pushed = state(dice, counts[1], counts[2])
     there = dice.randrange(max(counts[1], 1))
     relay = dice.choice([there] * 6 + [counts[1], there + 2 ** dice.choice(NARROW), LARGEST])
@@ -125,8 +171,9 @@ def judgements(dice, counts, parts):
     effort, chain = model.effort(*asked, MOST_CHAINS)
     if effort is None:
         return []
-    allowances = sorted({0, 1, effort - 1, effort, effort + 1, effort - 1 + 2 ** dice.choice(NARROW), LARGEST})
-    return [(case(*asked, allowance), "judged " + model.verdict(effort, chain, allowance)) for allowance in allowances]
+    seen["live" if chain else "dead" if effort else "shunted"] += 1
+    seen["carried"] += carried(asked, (effort, chain))
+    return lines(asked, effort, chain, around(effort) | {effort - 1 + 2 ** dice.choice(NARROW)})
 
 
 def deep_boards():
@@ -143,9 +190,28 @@ def deep_judgements():
     found = []
     for counts, parts in deep_boards():
         asked = counts, parts, set(), set(), 0, 0
-        effort, chain = model.effort(*asked, MOST_CHAINS)
-        found.append((case(*asked, LARGEST), "judged " + model.verdict(effort, chain, LARGEST)))
+        found += lines(asked, *model.effort(*asked, MOST_CHAINS), [LARGEST])
     return found
+
+
+def shunt_judgements():
+    """The judgements of the boards with shunts, with the line that each should print by what was worked out by hand."""
+    return [line for own in shunt_boards.every_one() for line in lines(own.asked, own.effort, own.chain, around(own.effort))]
+
+
+def by_hand():
+    """The checks that the model comes to what was worked out by hand for the boards with shunts."""
+    for own in shunt_boards.every_one():
+        found, wanted = model.effort(*own.asked, MOST_CHAINS), (own.effort, own.chain)
+        yield f"{own.name}, {own.asked[2:]}: the model says {found}, and by hand it is {wanted}", found == wanted
+
+
+def shares(seen):
+    """The checks that there are enough windings of each sort."""
+    judged = seen["live"] + seen["dead"] + seen["shunted"]
+    for sort in ("live", "dead", "shunted"):
+        yield f"{seen[sort]} of {judged} windings are {sort}, at least {SHARE:.0%}", seen[sort] >= SHARE * judged
+    yield f"shunted windings carry the chains of {seen['carried']} others, at least {OFTEN}", seen["carried"] >= OFTEN
 
 
 def compared(found, stack=None):
@@ -155,17 +221,17 @@ def compared(found, stack=None):
 
 
 def compare(seed, boards):
-    dice, found = random.Random(seed), []
+    dice, found, seen = random.Random(seed), [], collections.Counter()
     for _ in range(boards):
         counts, parts = board(dice)
         for _ in range(3):
-            found += judgements(dice, counts, parts)
-    checks = compared(found) + compared(deep_judgements(), STACK)
-    for words in ("live", "dead", "undecided", "refused 11", "refused 14"):
+            found += judgements(dice, counts, parts, seen)
+    checks = compared(found) + compared(deep_judgements() + shunt_judgements(), STACK) + list(by_hand())
+    for words in ("live", "dead", "dead 0", "undecided", "undecided 0", "refused 11", "refused 14"):
         checks.append((f"some case is {words}", any(line.startswith("judged " + words) for _, line in found)))
-    return checks
+    return checks + list(shares(seen))
 
 
 if __name__ == "__main__":
-    seed, boards = (int(word) for word in sys.argv[1:3]) if len(sys.argv) > 2 else (1, 600)
+    seed, boards = (int(word) for word in sys.argv[1:3]) if len(sys.argv) > 2 else (1, 650)
     sys.exit(repository.report(compare(seed, boards)))

@@ -1,11 +1,11 @@
 """Compares the proved program `run_cases` with the model of moving and running in tests/lib/run_model.py on generated
 single moves and runs: relays that feed each other by their contacts, in sequence and in rings, relays that hold themselves,
-steel relays fed by buttons and contacts, and the boards of tests/judging.py, with marks and without; states within and
-beyond the board, relays that are there and that are not, allowances around the efforts, logs around the number of moves. Of
-the program's own answers it compares any two runs from one board and state: the one with no shorter log and no less
-allowance starts with every move of the other, and is the same if that one ended idle or in conflict. Seeded, so each run
-tries the same cases; `python3 tests/running.py SEED BOARDS` tries others, or more (it is 1 and 130 else). Needs
-target/bin/run_cases, which `rt check run_cases` builds."""
+steel relays fed by buttons and contacts, relays that are shunted, and the boards of tests/judging.py, with marks and
+without; states within and beyond the board, relays that are there and that are not, allowances around the efforts, logs
+around the number of moves; and the boards of tests/lib/shunt_boards.py. Of the program's own answers it compares any two
+runs from one board and state: the one with no shorter log and no less allowance starts with every move of the other, and is
+the same if that one ended idle or in conflict. Seeded, so each run tries the same cases; `python3 tests/running.py SEED
+BOARDS` tries others, or more (it is 1 and 130 else). Needs target/bin/run_cases, which `rt check run_cases` builds."""
 import itertools
 import os
 import random
@@ -17,28 +17,34 @@ import judging
 import program
 import repository
 import run_model as model
+import shunt_boards
 from judge_model import BUTTON, DRAWING, DROPPING, LOWER, MARK, MINUS, PLUS, REGULAR, UPPER
 from program import LARGEST_HANDED
 
 MOST_CHAINS = 400  # states with more, and runs that come to one, are left out
 MANY_MOVES = 200  # a run that makes so many is taken for one that never ends
 SHOWN = 40  # the program prints so many moves of a log
+OFTEN = 10  # so many relays that are judged have a shunt, of each sort
 
 
 def wired(dice, relays, buttons, rows, marks=None):
     """The board of these rows, its terminals in any order. A row is a winding, as its kind and relay, and the ways that feed
-    it from plus; a way is a list of switches in series, each a kind with its relay or button. It has these marks besides, or
-    some if none are given."""
+    it from plus; perhaps also the ways that shunt it, and the relay through whose regular winding it returns, None for one
+    that returns to minus. A way is a list of switches in series, each a kind with its relay or button. It has these marks
+    besides, or some if none are given."""
     terminals, parts = 2, []
-    for kind, relay, ways in rows:
-        fed, terminals = terminals, terminals + 1
-        parts.append([kind, fed, MINUS, relay])
-        for way in ways:
-            at = PLUS
+    for kind, relay, ways, *more in rows:
+        shunts, load = more or ([], None)
+        fed, back, terminals = terminals, MINUS, terminals + 1
+        if load is not None:
+            back, terminals = terminals, terminals + 1
+            parts.append([REGULAR, back, MINUS, load])
+        parts.append([kind, fed, back, relay])
+        for way, at, end in [(way, PLUS, fed) for way in ways] + [(way, fed, back) for way in shunts]:
             for switch in way[:-1]:
                 parts.append([switch[0], at, terminals] + switch[1:])
                 at, terminals = terminals, terminals + 1
-            parts.append([way[-1][0], at, fed] + way[-1][1:])
+            parts.append([way[-1][0], at, end] + way[-1][1:])
     order = [PLUS, MINUS] + dice.sample(range(2, terminals), terminals - 2)
     for part in parts:
         part[1:3] = dice.sample([order[part[1]], order[part[2]]], 2)
@@ -97,12 +103,27 @@ def steel_rows(dice):
     return relays, 2, rows
 
 
+def shunting_rows(dice):
+    """Relays of both sorts, each winding fed by a switch or a wire, and shunted by one or two switches in series. Most
+    return through the winding of a relay of their own; without it a closed shunt of a fed winding links plus and minus, and
+    so shunts all that is fed."""
+    relays, buttons, rows = dice.randint(1, 3), 2, []
+    every = relays
+    for relay in range(relays):
+        for kind in dice.choice([[REGULAR], [REGULAR], [DRAWING, DROPPING]]):
+            load, every = (every, every + 1) if dice.random() < 0.8 else (None, every)
+            feed = dice.choice([[0], some_switch(dice, relays, buttons)])
+            shunt = [some_switch(dice, relays, buttons) for _ in range(dice.choice([1, 1, 2]))]
+            rows.append((kind, relay, [[feed]], [shunt], load))
+    return every, buttons, rows
+
+
 def board(dice):
     """The counts T, R, B and the parts of some fine board."""
     if dice.random() < 0.2:
         return judging.board(dice)
-    rows = dice.choice([any_rows] * 5 + [sequence_rows] * 2 + [steel_rows] * 2 + [ring_rows, holding_rows])
-    return wired(dice, *rows(dice))
+    rows = [any_rows] * 5 + [sequence_rows, steel_rows] * 2 + [shunting_rows] * 4 + [ring_rows, holding_rows]
+    return wired(dice, *dice.choice(rows)(dice))
 
 
 def total(names):
@@ -138,7 +159,7 @@ def run_case(own, drawn, pushed, allowance, room):
 
 def around(efforts):
     """The least allowances and the largest, and those around these efforts."""
-    return sorted({0, 1, LARGEST_HANDED}.union(*({effort - 1, effort, effort + 1} for effort in efforts)))
+    return sorted({0, 1, LARGEST_HANDED}.union(*({max(effort - 1, 0), effort, effort + 1} for effort in efforts)))
 
 
 def moves(dice, own, drawn, pushed):
@@ -176,6 +197,17 @@ def long_runs(dice):
     return [run_case(model.Board(*own, MOST_CHAINS), set(), pushed, LARGEST_HANDED, model.LONGEST_LOG) for own, pushed in boards]
 
 
+def shunt_cases():
+    """Moves and runs on the boards with shunts."""
+    found = []
+    for each in shunt_boards.every_one():
+        counts, parts, drawn, pushed, relay, _ = each.asked
+        own = model.Board(counts, parts, MOST_CHAINS)
+        for allowance in around([each.effort]):
+            found += [move_case(own, drawn, pushed, relay, allowance), run_case(own, drawn, pushed, allowance, SHOWN)]
+    return found
+
+
 def goes_on(less, more):
     """Whether the second line, of a run that is no less generous, starts with every move of the first, and is the same if
     that one ended idle or in conflict."""
@@ -203,10 +235,21 @@ def met(found):
     yield "in some run relay 0 is not the first to move", any(len(words) > 6 and int(words[6]) % model.DRAW for words in made)
 
 
-def compare(seed, boards):
-    dice, found, groups = random.Random(seed), [], []
-    for _ in range(boards):
+def shunts_met(boards):
+    """Whether enough relays have a shunt in the states that these boards came to."""
+    regular, steel = 0, 0
+    for (drawn, _), relays in (state for own in boards for state in own.known.items()):
+        regular += sum(windings == [model.SHUNTED] and relay in drawn for relay, windings in enumerate(relays))
+        steel += sum(model.SHUNTED in windings and any(is_live for _, is_live in windings) for windings in relays)
+    yield f"{regular} drawn regular relays are shunted, at least {OFTEN}", regular >= OFTEN
+    yield f"of {steel} steel relays one winding is shunted and one live, at least {OFTEN}", steel >= OFTEN
+
+
+def compare(seed, count):
+    dice, found, groups, boards = random.Random(seed), [], [], []
+    for _ in range(count):
         own = model.Board(*board(dice), MOST_CHAINS)
+        boards.append(own)
         for _ in range(2):
             drawn, pushed = judging.state(dice, own.counts[1], own.counts[2], program.HANDED_BITS)
             try:
@@ -215,16 +258,16 @@ def compare(seed, boards):
                 continue
             groups.append((len(found) + len(of_moves), [asked for _, asked in of_runs]))
             found += of_moves + [each for each, _ in of_runs]
-    found += long_runs(dice)
+    found += long_runs(dice) + shunt_cases()
     cases, wanted = zip(*found)
     told = program.answers(program.command("run_cases"), cases)
     checks = program.compared(cases, wanted, told)
     for start, asked in groups:
         wrong = disagreeing(list(zip(asked, told[start:])))
         checks.append((f"{found[start][0].strip()}: of two runs from this state the one goes on as the other did: {wrong}", not wrong))
-    return checks + list(met(found))
+    return checks + list(met(found)) + list(shunts_met(boards))
 
 
 if __name__ == "__main__":
-    seed, boards = (int(word) for word in sys.argv[1:3]) if len(sys.argv) > 2 else (1, 130)
-    sys.exit(repository.report(compare(seed, boards)))
+    seed, count = (int(word) for word in sys.argv[1:3]) if len(sys.argv) > 2 else (1, 130)
+    sys.exit(repository.report(compare(seed, count)))

@@ -65,6 +65,18 @@ impl Part {
             Kind::Mark(_) => false,
         }
     }
+
+    /// Whether the table of parts calls it a winding: kinds 4 to 6.
+    pub fn is_winding(&self) -> bool {
+        match self.kind {
+            Kind::RegularWinding(_) | Kind::DrawingWinding(_) | Kind::DroppingWinding(_) => true,
+            Kind::Wire
+            | Kind::UpperContact(_)
+            | Kind::LowerContact(_)
+            | Kind::Button(_)
+            | Kind::Mark(_) => false,
+        }
+    }
 }
 
 /// The windings of one relay, which also say of which sort it is.
@@ -190,6 +202,24 @@ mod tests {
             assert!(conducts(Kind::DrawingWinding(0), state));
             assert!(conducts(Kind::DroppingWinding(0), state));
             assert!(!conducts(Kind::Mark(0), state));
+        }
+    }
+
+    #[test]
+    fn kinds_4_to_6_are_windings() {
+        let kinds = [
+            Kind::Wire,
+            Kind::UpperContact(0),
+            Kind::LowerContact(0),
+            Kind::Button(0),
+            Kind::RegularWinding(0),
+            Kind::DrawingWinding(0),
+            Kind::DroppingWinding(0),
+            Kind::Mark(0),
+        ];
+        for (number, kind) in kinds.into_iter().enumerate() {
+            let part = Part { ends: (0, 1), kind };
+            assert_eq!(part.is_winding(), (4..=6).contains(&number));
         }
     }
 

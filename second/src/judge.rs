@@ -1,10 +1,13 @@
 //! Judging one winding.
 //!
-//! Renders the last two paragraphs of "Chains and current": the chains are
-//! looked at one by one until one shows the winding live or W were looked at.
+//! Renders the last two paragraphs of "Chains and current" and, of request A4,
+//! what a shunted winding is judged to be: dead with effort 0, whatever W is.
+//! Of any other winding the chains are looked at one by one until one shows it
+//! live or W were looked at.
 
 use crate::board::{Board, Ends, State, MINUS, MOST_TERMINALS};
 use crate::chains::Chains;
+use crate::shunts::is_shunted;
 
 #[derive(Clone, Copy, Debug, PartialEq, Eq)]
 pub enum Verdict {
@@ -43,9 +46,18 @@ impl Judgement {
     }
 }
 
-/// Judges the winding with these ends, with the allowance `w`. At most one
-/// chain more than `w` is made.
+/// Judges the winding with these ends, with the allowance `w`. If it is shunted
+/// no chain is made.
 pub fn judge(board: &Board, state: &State, ends: Ends, w: u32) -> Judgement {
+    if is_shunted(board, state, ends) {
+        return Judgement::without_chain(Verdict::Dead, 0);
+    }
+    judge_by_chains(board, state, ends, w)
+}
+
+/// Judges by the chains alone, as before request A4. At most one chain more
+/// than `w` is made.
+pub(crate) fn judge_by_chains(board: &Board, state: &State, ends: Ends, w: u32) -> Judgement {
     judge_on(&mut Chains::of(board, state), ends, 0, w)
 }
 

@@ -1,10 +1,10 @@
-//! Tests over several modules: "Boards to try", "Slips to rule out" and the
-//! sessions of the rule book, the figure of document 000, the marks of request
-//! A2, and a few more.
+//! Tests over several modules: "Boards to try" as request A4 amended them,
+//! "Slips to rule out" and the sessions of the rule book, the figure of document
+//! 000, the marks of request A2, and a few more.
 
 use crate::board::{Board, Ends, Kind, State, Windings};
 use crate::file::read_board;
-use crate::judge::{judge, Judgement, Verdict};
+use crate::judge::{judge, judge_by_chains, Judgement, Verdict};
 use crate::moves::{move_relay, Answer};
 use crate::number::Reader;
 use crate::runs::{run, RunAnswer, Word};
@@ -21,6 +21,13 @@ const H4: &[u8] = &[5, 1, 0, 4, 0, 0, 2, 0, 2, 3, 0, 4, 2, 4, 3, 4, 0];
 const H4_ADDED: &[u8] = &[5, 1, 0, 5, 0, 0, 2, 0, 2, 3, 0, 4, 2, 4, 3, 4, 0, 0, 2, 1];
 const H5: &[u8] = &[4, 1, 2, 4, 3, 0, 2, 0, 3, 0, 3, 1, 5, 2, 1, 0, 6, 3, 1, 0];
 const H6: &[u8] = &[3, 1, 0, 3, 0, 0, 2, 0, 2, 1, 4, 2, 1, 0];
+
+/// Both H4 boards with the winding of relay 1 instead of the wire 4-2, so that
+/// the winding of relay 0 is no longer shunted.
+const H4_WOUND: &[u8] = &[5, 2, 0, 4, 0, 0, 2, 0, 2, 3, 4, 4, 2, 1, 4, 3, 4, 0];
+const H4_WOUND_ADDED: &[u8] = &[
+    5, 2, 0, 5, 0, 0, 2, 0, 2, 3, 4, 4, 2, 1, 4, 3, 4, 0, 0, 2, 1,
+];
 
 /// The circuit c0 of document 000, section 6.1 (figure 3). Its connectors are,
 /// from terminal 2 up: B.11 B.12 R1.01 R1.02 R1.11 R1.12 R1.21 R1.22 R2.01
@@ -146,10 +153,22 @@ fn h3_is_spent() {
 }
 
 #[test]
-fn h4_is_dead_though_both_ends_are_reached() {
-    assert_turns_at_effort(H4, fresh(), dead(6));
-    assert_eq!(judge_first(H4, fresh(), 5), undecided(5));
-    assert_turns_at_effort(H4_ADDED, fresh(), dead(7));
+fn both_h4_boards_are_shunted() {
+    for bytes in [H4, H4_ADDED] {
+        assert_turns_at_effort(bytes, fresh(), dead(0));
+        let dropped = answer(Word::Idle, 1, fresh(), 255);
+        assert_eq!(
+            run_logged(bytes, fresh().draw(0), 0, 2),
+            (dropped, vec![0, 77])
+        );
+    }
+}
+
+#[test]
+fn h4_with_a_winding_for_a_wire_is_dead_though_both_ends_are_reached() {
+    assert_turns_at_effort(H4_WOUND, fresh(), dead(6));
+    assert_eq!(judge_first(H4_WOUND, fresh(), 5), undecided(5));
+    assert_turns_at_effort(H4_WOUND_ADDED, fresh(), dead(7));
 }
 
 #[test]
@@ -195,16 +214,23 @@ fn h5_as_a_session() {
 }
 
 #[test]
-fn h6_is_live_beside_a_wire() {
-    assert_turns_at_effort(H6, fresh(), live(3, &[0, 2, 1]));
+fn h6_is_shunted_by_a_wire() {
+    assert_turns_at_effort(H6, fresh(), dead(0));
+    for w in [0, 2, 3, MUCH] {
+        let idle = answer(Word::Idle, 0, fresh(), 255);
+        assert_eq!(run_logged(H6, fresh(), w, 1), (idle, vec![77]));
+        let h6 = board(H6);
+        let dropped = (Answer::Dropped, fresh());
+        assert_eq!(move_relay(&h6, fresh().draw(0), 0, w), dropped);
+    }
 }
 
 #[test]
 fn terminals_are_left_again_on_the_way_back_and_windings_crossed_both_ways() {
-    // wires 0-2, 0-3 and 2-1, winding 2-3 or 3-2; chains 0, 02, 021, 023, 03,
-    // 032 and 0321, where 2 and 3 were met before the last two
+    // wires 0-2 and 2-1, winding 0-3 of relay 1, winding 2-3 or 3-2; chains 0,
+    // 02, 021, 023, 03, 032 and 0321, where 2 and 3 were met before the last two
     for (a, b) in [(2, 3), (3, 2)] {
-        let bytes = [4, 1, 0, 4, 0, 0, 2, 0, 0, 3, 0, 2, 1, 4, a, b, 0];
+        let bytes = [4, 2, 0, 4, 0, 0, 2, 4, 0, 3, 1, 0, 2, 1, 4, a, b, 0];
         assert_turns_at_effort(&bytes, fresh(), live(7, &[0, 3, 2, 1]));
     }
 }
@@ -267,12 +293,15 @@ fn the_figure_of_document_000_moves_as_it_says() {
     assert_eq!(run, (idle, vec![128, 129, 77]));
 }
 
+/// Document 000 says of every part whether it carries current. Request A4 speaks
+/// of windings alone, so wires are judged here by the chains.
 #[test]
 fn the_live_wires_of_document_000() {
     let figure = board(FIGURE);
     let live_wires = |state: State| -> Vec<usize> {
         let wires = figure.parts.iter().filter(|part| part.kind == Kind::Wire);
-        let is_live = |ends| judge(&figure, &state, ends, MUCH).verdict == Verdict::Live;
+        let verdict = |ends| judge_by_chains(&figure, &state, ends, MUCH).verdict;
+        let is_live = |ends| verdict(ends) == Verdict::Live;
         let numbered = wires.enumerate().map(|(place, part)| (place + 1, part));
         let carrying = numbered.filter(|(_, part)| is_live(part.ends));
         carrying.map(|(number, _)| number).collect()
@@ -401,7 +430,7 @@ fn a_fresh_state_has_exactly_the_marked_relays_drawn() {
 
 #[test]
 fn a_mark_changes_no_judgement_and_no_run() {
-    for bytes in [H1, H3, H4, H4_ADDED, H5, H6, FIGURE] {
+    for bytes in [H1, H3, H4, H4_ADDED, H4_WOUND, H5, H6, FIGURE] {
         let marked = with_mark(bytes, 0);
         for state in [
             fresh(),

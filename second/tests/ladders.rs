@@ -1,5 +1,6 @@
 //! Ladder boards, for which request A1 was made: they have more chains than a
-//! number of three bytes can say.
+//! number of three bytes can say. A winding that such a ladder shunts is dead
+//! all the same with no allowance, by request A4.
 //!
 //! A ladder has two rails and a rung in each column, all of wire; plus feeds
 //! one end of the first rung, and nothing else joins the ladder. Let c(n, k) be
@@ -16,6 +17,12 @@ use second::session::session;
 const THREE_BYTES: u32 = 2_097_151;
 
 const UNDECIDED: &str = "0 undecided 0 0\n";
+const DEAD: &str = "0 idle 0 0\n";
+const LIVE: &str = "0 idle 1 1\n";
+
+/// The first part of a ladder, which feeds it: a wire, or the winding itself.
+const WIRE_FEED: &[u8] = &[0, 0, 2];
+const WINDING_FEED: &[u8] = &[4, 0, 2, 0];
 
 /// The ways into a ladder of so many columns, from the end that is fed.
 fn ways(columns: u32) -> u32 {
@@ -40,11 +47,11 @@ fn shortest(value: u32) -> Vec<u8> {
     [vec![low + 128], shortest(value / 128)].concat()
 }
 
-/// A board of one relay with a ladder on terminals 2 and up, and more parts;
-/// these may use the first terminal beyond the ladder.
-fn with_ladder(columns: u8, more: impl Fn(u8) -> Vec<Vec<u8>>) -> Vec<u8> {
+/// A board of one relay with a ladder on terminals 2 and up, the part that
+/// feeds it, and more parts; these may use the first terminal beyond the ladder.
+fn with_ladder(columns: u8, feed: &[u8], more: impl Fn(u8) -> Vec<Vec<u8>>) -> Vec<u8> {
     let beyond = 2 + 2 * columns;
-    let mut parts = vec![vec![0, 0, 2]];
+    let mut parts = vec![feed.to_vec()];
     for upper in (2..beyond).step_by(2) {
         parts.push(vec![0, upper, upper + 1]);
         if upper + 2 < beyond {
@@ -60,17 +67,26 @@ fn with_ladder(columns: u8, more: impl Fn(u8) -> Vec<Vec<u8>>) -> Vec<u8> {
 /// The winding is on the minus side of a terminal that nothing feeds: it is
 /// dead, and its effort is the number of all chains.
 fn dead_ladder(columns: u8) -> (Vec<u8>, u32) {
-    let board = with_ladder(columns, |beyond| vec![vec![4, beyond, 1, 0]]);
+    let board = with_ladder(columns, WIRE_FEED, |beyond| vec![vec![4, beyond, 1, 0]]);
     (board, 1 + ways(columns.into()))
 }
 
 /// The winding is beside the ladder, from plus to the last terminal, and a wire
 /// goes from there to minus: two more chains, and the last shows it live.
 fn live_ladder(columns: u8) -> (Vec<u8>, u32) {
-    let board = with_ladder(columns, |beyond| {
+    let board = with_ladder(columns, WIRE_FEED, |beyond| {
         vec![vec![4, beyond, 0, 0], vec![0, beyond, 1]]
     });
     (board, 1 + ways(columns.into()) + 2)
+}
+
+/// All the 64 terminals but the poles are in a ladder of 31 columns, so that
+/// there is none beyond it. Without more parts it has 6,442,450,911 chains.
+fn whole_ladder(feed: &[u8], more: &[Vec<u8>]) -> Vec<u8> {
+    let mut board = with_ladder(31, feed, |_| more.to_vec());
+    board[0] -= 1;
+    assert_eq!(board[0], 64);
+    board
 }
 
 /// The lines of a session with this board and this allowance, without events.
@@ -90,10 +106,10 @@ fn small_ladders_turn_at_their_effort() {
     for columns in 1..10 {
         let (dead, effort) = dead_ladder(columns);
         assert_eq!(lines(&dead, effort - 1), UNDECIDED);
-        assert_eq!(lines(&dead, effort), "0 idle 0 0\n");
+        assert_eq!(lines(&dead, effort), DEAD);
         let (live, effort) = live_ladder(columns);
         assert_eq!(lines(&live, effort - 1), UNDECIDED);
-        assert_eq!(lines(&live, effort), "0 idle 1 1\n");
+        assert_eq!(lines(&live, effort), LIVE);
     }
 }
 
@@ -105,7 +121,7 @@ fn a_dead_ladder_needs_more_than_three_bytes() {
         assert_eq!(lines(&board, w), UNDECIDED);
     }
     for w in [effort, u32::MAX] {
-        assert_eq!(lines(&board, w), "0 idle 0 0\n");
+        assert_eq!(lines(&board, w), DEAD);
     }
 }
 
@@ -117,7 +133,34 @@ fn a_live_ladder_needs_more_than_three_bytes() {
         assert_eq!(lines(&board, w), UNDECIDED);
     }
     for w in [effort, u32::MAX] {
-        assert_eq!(lines(&board, w), "0 idle 1 1\n");
+        assert_eq!(lines(&board, w), LIVE);
+    }
+}
+
+#[test]
+fn a_winding_shunted_by_a_ladder_is_dead_however_many_chains_there_are() {
+    // the winding is beside the last rung, then between the first rung and the
+    // last, and then between plus and the last rung
+    for (a, b) in [(62, 63), (2, 63), (62, 3), (63, 0)] {
+        let board = whole_ladder(WIRE_FEED, &[vec![4, a, b, 0]]);
+        for w in [0, 1, THREE_BYTES, u32::MAX] {
+            assert_eq!(lines(&board, w), DEAD);
+        }
+    }
+    // the winding that feeds the ladder is not shunted by it
+    let board = whole_ladder(WINDING_FEED, &[]);
+    for w in [0, 1, 10_000] {
+        assert_eq!(lines(&board, w), UNDECIDED);
+    }
+}
+
+#[test]
+fn a_small_ladder_fed_by_the_winding_turns_at_its_effort() {
+    for columns in 1..10 {
+        let board = with_ladder(columns, WINDING_FEED, |_| vec![]);
+        let effort = 1 + ways(columns.into());
+        assert_eq!(lines(&board, effort - 1), UNDECIDED);
+        assert_eq!(lines(&board, effort), DEAD);
     }
 }
 
@@ -126,17 +169,14 @@ fn a_live_ladder_needs_more_than_three_bytes() {
 fn a_dead_ladder_needs_all_32_bits() {
     let (board, effort) = dead_ladder(30);
     assert_eq!(effort, 3_221_225_440);
-    assert_eq!(lines(&board, effort), "0 idle 0 0\n");
+    assert_eq!(lines(&board, effort), DEAD);
     assert_eq!(lines(&board, effort - 1), UNDECIDED);
 }
 
 #[test]
 #[ignore = "takes some minutes"]
 fn a_ladder_of_64_terminals_has_too_many_chains_for_any_allowance() {
-    // 31 columns on all the terminals but the poles, and the winding beside
-    // the last rung; there are 6,442,450,911 chains
-    let mut board = with_ladder(31, |beyond| vec![vec![4, beyond - 2, beyond - 1, 0]]);
-    board[0] -= 1;
-    assert_eq!(board[0], 64);
+    // the ladder is fed by the winding, which nothing shunts
+    let board = whole_ladder(WINDING_FEED, &[]);
     assert_eq!(lines(&board, u32::MAX), UNDECIDED);
 }

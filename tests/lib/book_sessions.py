@@ -1,16 +1,32 @@
-"""The rule book's "Boards to try" as sessions, each with the lines that it must print: worked out by hand from
-docs/RULES.md."""
+"""The rule book's "Boards to try" as sessions, and sessions with shunts (request A4), each with the lines that it must
+print: worked out by hand from docs/RULES.md."""
 
 H1 = "03 01 01 02  03 00 02 00  04 02 01 00"
 H2 = "03 01 01 03  03 00 02 00  01 00 02 00  04 02 01 00"
 H3 = "03 01 00 02  02 00 02 00  04 02 01 00"
 H4 = "05 01 00 04  00 00 02  00 02 03  00 04 02  04 03 04 00"
 H4_AND_WIRE = "05 01 00 05  00 00 02  00 02 03  00 04 02  04 03 04 00  00 02 01"
+H4_WINDING = "05 02 00 04  00 00 02  00 02 03  04 04 02 01  04 03 04 00"  # for the wire 4-2 the winding of relay 1
+H4_WINDING_AND_WIRE = "05 02 00 05  00 00 02  00 02 03  04 04 02 01  04 03 04 00  00 02 01"
 H5 = "04 01 02 04  03 00 02 00  03 00 03 01  05 02 01 00  06 03 01 00"
 H6 = "03 01 00 03  00 00 02  00 02 01  04 02 01 00"
 H1_DRAWN = "03 01 01 03  03 00 02 00  04 02 01 00  07 00"
 H2_DRAWN = "03 01 01 04  03 00 02 00  01 00 02 00  04 02 01 00  07 00"
 H5_DRAWN = "04 01 02 05  03 00 02 00  03 00 03 01  05 02 01 00  06 03 01 00  07 00"
+H6_DRAWN = "03 01 00 04  00 00 02  00 02 01  04 02 01 00  07 00"
+
+# H1 with button 1 beside the winding.
+H1_SHUNT = "03 01 02 03  03 00 02 00  04 02 01 00  03 02 01 01"
+# Button 0 feeds relay 0 and behind it relay 1; button 1 lies beside the winding of relay 0.
+SHUNT = "04 02 02 04  03 00 02 00  04 02 03 00  03 02 03 01  04 03 01 01"
+# Buttons 0 and 1 feed the drawing and the dropping winding; button 2 lies beside the drawing one, behind which is relay 1.
+STEEL_SHUNT = "05 02 03 06  03 00 02 00  03 00 03 01  05 02 04 00  06 03 01 00  03 02 04 02  04 04 01 01"
+# H5, drawn from the start, with a wire 2-1: with both buttons pushed plus and minus are linked, and so both windings' ends.
+H5_SHORT = "04 01 02 06  03 00 02 00  03 00 03 01  05 02 01 00  06 03 01 00  00 02 01  07 00"
+# A wire 0-2, and on 2-1 the winding of relay 0 and its own contact, an upper or a lower one.
+SHUNTS_ITSELF = "03 01 00 03  00 00 02  04 02 01 00  01 02 01 00"
+SHUNTED_DROPPED = "03 01 00 03  00 00 02  04 02 01 00  02 02 01 00"
+SHUNTED_DROPPED_DRAWN = "03 01 00 04  00 00 02  04 02 01 00  02 02 01 00  07 00"
 
 TYPED = [
     ("H0", "02 00 00 00  00", ["0 idle 0 0"]),
@@ -30,14 +46,36 @@ TYPED = [
     ("H2", H2 + "64  01 00", ["0 idle 0 0", "1 idle 1 1", "2 idle 0 1"]),
     ("H3", H3 + "64", ["0 spent 4096 0"]),
     ("H4, W 6", H4 + "06", ["0 idle 0 0"]),
-    ("H4, W 5", H4 + "05", ["0 undecided 0 0"]),
+    ("H4, W 0", H4 + "00", ["0 idle 0 0"]),
     ("H4 with a wire 2-1 more, W 7", H4_AND_WIRE + "07", ["0 idle 0 0"]),
-    ("H4 with a wire 2-1 more, W 6", H4_AND_WIRE + "06", ["0 undecided 0 0"]),
+    ("H4 with a wire 2-1 more, W 0", H4_AND_WIRE + "00", ["0 idle 0 0"]),
+    ("H4 with a second winding, W 6", H4_WINDING + "06", ["0 idle 0 0"]),
+    ("H4 with a second winding, W 5", H4_WINDING + "05", ["0 undecided 0 0"]),
+    ("H4 with a second winding and a wire 2-1, W 7", H4_WINDING_AND_WIRE + "07", ["0 idle 0 0"]),
+    ("H4 with a second winding and a wire 2-1, W 6", H4_WINDING_AND_WIRE + "06", ["0 undecided 0 0"]),
     ("H5", H5 + "64  01 00 03 01 02", ["0 idle 0 0", "1 idle 1 1", "2 idle 0 1", "3 idle 1 0", "4 conflict 0 0", "5 idle 1 1"]),
     ("H5 both pushed, W 5", H5 + "05  01 03", ["0 idle 0 0", "1 idle 1 1", "2 conflict 0 1"]),
     ("H5 both pushed, W 4", H5 + "04  01 03", ["0 idle 0 0", "1 idle 1 1", "2 undecided 0 1"]),
-    ("H6, W 3", H6 + "03", ["0 idle 1 1"]),
-    ("H6, W 2", H6 + "02", ["0 undecided 0 0"]),
+    ("H6, W 3", H6 + "03", ["0 idle 0 0"]),
+    ("H6, W 0", H6 + "00", ["0 idle 0 0"]),
+    ("H6, the largest W", H6 + "ff ff ff ff 0f", ["0 idle 0 0"]),
+    ("H6 and a mark, W 0", H6_DRAWN + "00", ["0 idle 1 0"]),
+    ("a relay that a button shunts", SHUNT + "04  01 03 02 00",
+     ["0 idle 0 0", "1 idle 2 3", "2 idle 1 2", "3 idle 1 3", "4 idle 2 0"]),
+    ("the same, W 3", SHUNT + "03  03 01 02", ["0 idle 0 0", "1 idle 0 0", "2 undecided 0 0", "3 undecided 0 0"]),
+    ("H1 and a button beside the winding", H1_SHUNT + "03  01 03 02",
+     ["0 idle 0 0", "1 idle 1 1", "2 idle 1 0", "3 idle 1 1"]),
+    ("the same, W 0", H1_SHUNT + "00  03 01 02", ["0 undecided 0 0", "1 idle 0 0", "2 idle 0 0", "3 undecided 0 0"]),
+    ("steel, both pushed, shunted", STEEL_SHUNT + "64  05 01 03", ["0 idle 0 0", "1 idle 0 0", "2 idle 1 2", "3 idle 0 2"]),
+    ("steel, then not shunted", STEEL_SHUNT + "64  05 01 03 04",
+     ["0 idle 0 0", "1 idle 0 0", "2 idle 1 2", "3 idle 0 2", "4 conflict 0 2"]),
+    ("steel, in conflict, then shunted", STEEL_SHUNT + "64  01 03 05",
+     ["0 idle 0 0", "1 idle 2 3", "2 conflict 0 3", "3 idle 1 2"]),
+    ("steel, drawn, then shunted", STEEL_SHUNT + "64  01 05 04", ["0 idle 0 0", "1 idle 2 3", "2 idle 0 3", "3 idle 0 3"]),
+    ("steel, both windings shunted", H5_SHORT + "64  01 03 00", ["0 idle 0 1", "1 idle 0 1", "2 idle 0 1", "3 idle 1 0"]),
+    ("a relay that shunts itself", SHUNTS_ITSELF + "64", ["0 spent 4096 0"]),
+    ("a relay that shunts itself while dropped", SHUNTED_DROPPED + "64", ["0 idle 0 0"]),
+    ("the same, drawn from the start", SHUNTED_DROPPED_DRAWN + "64", ["0 idle 0 1"]),
     ("80 00", "80 00", ["refused 2 0"]),
     ("80 80", "80 80", ["refused 1 2"]),
     ("80 80 80", "80 80 80", ["refused 1 3"]),

@@ -1,6 +1,6 @@
 """Judging a winding once more, in plain Python, after the rule book (docs/RULES.md), "Parts of a board", "Chains and
-current" and "Numbers for no". Its author had read the crates, so it is not the independent second program. A part is
-[kind, a, b] or [kind, a, b, relay or button], a mark [kind, relay]."""
+current" and "Numbers for no", and request A4: a shunted winding is dead with effort 0. Its author had read the crates, so it
+is not the independent second program. A part is [kind, a, b] or [kind, a, b, relay or button], a mark [kind, relay]."""
 
 PLUS, MINUS = 0, 1
 UPPER, LOWER, BUTTON, REGULAR, DRAWING, DROPPING, MARK = 1, 2, 3, 4, 5, 6, 7
@@ -49,6 +49,16 @@ def shows(chain, a, b):
     return chain[-1] == MINUS and any({a, b} == {x, y} for x, y in zip(chain, chain[1:]))
 
 
+def shunted(parts, drawn, pushed, a, b):
+    """Whether conducting parts, none of them a winding, link a and b: what they link to a grows until nothing is added."""
+    links = [set(part[1:3]) for part in parts if part[0] not in WINDINGS and conducts(part, drawn, pushed)]
+    linked, before = {a}, set()
+    while linked != before:
+        before = linked
+        linked = linked.union(*(ends for ends in links if ends & linked))
+    return b in linked
+
+
 def beyond(counts, drawn, pushed):
     """Whether a state has a relay or button that the board lacks."""
     _, relays, buttons = counts
@@ -69,8 +79,11 @@ def winding(parts, relay, second):
 
 
 def effort(counts, parts, drawn, pushed, relay, second, most):
-    """The effort of a winding and the chain that shows it, None for a dead one; None for both beyond so many chains."""
+    """The effort of a winding and the chain that shows it, None for a dead one; None for both beyond so many chains. A
+    shunted winding is dead with effort 0, however many chains there are."""
     _, a, b, _ = winding(parts, relay, second)
+    if shunted(parts, drawn, pushed, a, b):
+        return 0, None
     count = 0
     for chain in chains(neighbours(counts[0], parts, drawn, pushed)):
         count += 1

@@ -1,6 +1,6 @@
 """Sessions for tests/sessions.py that are long or much work, as bytes: runs that fill the log, the largest and the densest
-boards, efforts of two and four million chains, and inputs around the longest. A function that makes a session takes the dice
-and what its variant is; tests/lib/session_sorts.py has the variants."""
+boards, efforts of two and four million chains, boards that only shunts make little work, and inputs around the longest. A
+function that makes a session takes the dice and what its variant is; tests/lib/session_sorts.py has the variants."""
 import session_boards as boards
 from damaged_sessions import damaged_session
 from session_files import enough, presses, session, typed
@@ -20,6 +20,11 @@ def largest_board_session(dice, allowance):
 def dense_session(dice, variant):
     terminals, allowance = variant
     return session(boards.dense(dice, terminals), allowance, [])
+
+
+def short_session(dice, variant):
+    terminals, allowance = variant
+    return session(boards.short(dice, terminals), allowance, [])
 
 
 def millions_session(dice, variant):

@@ -1,6 +1,6 @@
 """Moving a relay and running a board once more, in plain Python, after the rule book (docs/RULES.md), "How a relay moves"
-and "Numbers for no", on top of judge_model. Its author had read the crates, so it is not the independent second program.
-Refusal 15 is left out: every board here is fine."""
+and "Numbers for no", on top of judge_model, from which it has request A4. Its author had read the crates, so it is not the
+independent second program. Refusal 15 is left out: every board here is fine."""
 import itertools
 
 import judge_model as judge
@@ -9,10 +9,11 @@ LOG_TOO_LONG = 13
 LONGEST_LOG = 65_536
 NO_RELAY = 255
 DRAW = 128
+SHUNTED = 0, False  # the effort of a shunted winding, and that it is not live
 
 
 class TooManyChains(Exception):
-    """A state has more chains than there is time for."""
+    """A state with a winding that is not shunted has more chains than there is time for."""
 
 
 class Board:
@@ -27,16 +28,23 @@ class Board:
         """For each relay the effort of each of its windings, the first one first, and whether it is live."""
         state = frozenset(drawn), frozenset(pushed)
         if state not in self.known:
-            near = judge.neighbours(self.counts[0], self.parts, drawn, pushed)
-            chains = list(itertools.islice(judge.chains(near), self.most_chains + 1))
-            if len(chains) > self.most_chains:
-                raise TooManyChains
-            self.known[state] = [[effort(chains, part) for part in own] for own in self.windings]
+            every = [part for own in self.windings for part in own]
+            fed = [part for part in every if not judge.shunted(self.parts, drawn, pushed, *part[1:3])]
+            chains = self.chains(drawn, pushed) if fed else []
+            self.known[state] = [[effort(chains, part) if part in fed else SHUNTED for part in own] for own in self.windings]
         return self.known[state]
+
+    def chains(self, drawn, pushed):
+        """All chains in a state."""
+        near = judge.neighbours(self.counts[0], self.parts, drawn, pushed)
+        found = list(itertools.islice(judge.chains(near), self.most_chains + 1))
+        if len(found) > self.most_chains:
+            raise TooManyChains
+        return found
 
 
 def effort(chains, winding):
-    """The effort of a winding by the list of all chains, and whether it is live."""
+    """The effort of a winding that is not shunted by the list of all chains, and whether it is live."""
     _, a, b, _ = winding
     shown = next((place for place, chain in enumerate(chains, 1) if judge.shows(chain, a, b)), None)
     return shown or len(chains), shown is not None

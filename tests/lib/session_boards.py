@@ -1,7 +1,7 @@
 """Fine boards for the comparison of whole sessions in tests/sessions.py, each as its counts T, R, B and its parts: relays that
-feed each other, relays that buzz, relays that count, steel relays in conflict, every kind of part, many parallel parts, the
-most of everything, and boards with many chains; most of them with marks in half of the cases. Built with the generators of
-tests/running.py and tests/judging.py."""
+feed each other, relays that are shunted, relays that buzz, relays that count, steel relays in conflict, every kind of part,
+many parallel parts, the most of everything, and boards with many chains; most of them with marks in half of the cases. Built
+with the generators of tests/running.py and tests/judging.py."""
 import judging
 import running
 from judge_model import BUTTON, DRAWING, DROPPING, LOWER, MARK, MINUS, PLUS, REGULAR, UPPER
@@ -21,6 +21,11 @@ def feeding(dice):
     """Relays of both sorts that feed each other; seldom they buzz."""
     rows = dice.choice([running.any_rows] * 4 + [running.sequence_rows] * 3 + [running.steel_rows] * 3 + [running.holding_rows])
     return running.wired(dice, *rows(dice))
+
+
+def shunting(dice):
+    """Relays that buttons and contacts shunt."""
+    return running.wired(dice, *running.shunting_rows(dice))
 
 
 def web(dice):
@@ -92,10 +97,12 @@ CALM = [holding, sequence, conflicting]  # every run comes to an end soon, so a 
 
 
 def crowded(dice):
-    """Few terminals and so many parts, most of them parallel, that their count takes two bytes."""
+    """Few terminals and so many parts, most of them parallel, that their count takes two bytes. In half of the cases only
+    windings join minus to the others, since else nearly all windings are shunted."""
     terminals, relays, buttons = dice.randint(3, 5), dice.randint(1, 4), dice.randint(1, 3)
     every = [[a, b] for a in range(terminals) for b in range(a)]
-    some = dice.sample(every, dice.randint(2, len(every)))
+    pairs = dice.choice([every, [pair for pair in every if MINUS not in pair]])
+    some = dice.sample(pairs, dice.randint(1, len(pairs)))
     parts = judging.some_parts(dice, relays, buttons, [], every)
     count = dice.choice([128, MOST_PARTS - 1, MOST_PARTS, dice.randint(128, MOST_PARTS)])
     while len(parts) < count:
@@ -115,26 +122,39 @@ def earlier_switch(dice, earlier):
 
 def largest(dice):
     """The most of everything: 64 terminals, 32 relays, 32 buttons, 256 parts. In some order of the relays each is fed by
-    buttons and by contacts of those before it, so every run comes to an end."""
+    buttons and by contacts of those before it, so every run comes to an end. On half of the boards a few are shunted by
+    such, and a run may buzz, since a shunt can link plus and minus, and so acts on all relays."""
     order = dice.sample(range(MOST_RELAYS), MOST_RELAYS)
     steel = dice.sample(order, dice.randint(1, 12))
-    rows = [(kind, relay, []) for relay in order for kind in ([DRAWING, DROPPING] if relay in steel else [REGULAR])]
+    kinds = {relay: [DRAWING, DROPPING] if relay in steel else [REGULAR] for relay in order}
+    rows = [(kind, relay, [], [], None) for relay in order for kind in kinds[relay]]
     between = MOST_TERMINALS - 2 - len(rows)  # terminals for ways of two switches
-    marks = judging.some_marks(dice, MOST_RELAYS)
+    marks, share = judging.some_marks(dice, MOST_RELAYS), dice.choice([0, 0.03])
     for number in range(MOST_PARTS - len(rows) - between - len(marks)):
-        _, relay, ways = rows[number] if number < len(rows) else dice.choice(rows)
+        _, relay, ways, shunts, _ = rows[number] if number < len(rows) else dice.choice(rows)
         earlier = order[: order.index(relay)]
-        ways.append([earlier_switch(dice, earlier) for _ in range(2 if number < between else 1)])
+        kept = shunts if number >= len(rows) and dice.random() < share else ways
+        kept.append([earlier_switch(dice, earlier) for _ in range(2 if number < between else 1)])
     return running.wired(dice, MOST_RELAYS, MOST_BUTTONS, rows, marks)
 
 
 def dense(dice, terminals):
-    """So many terminals, each joined to each other, a regular winding on two of them, and one that hangs on a terminal of
-    its own and is dead."""
-    parts = [[WIRE, a, b] for a in range(terminals) for b in range(a)]
-    parts += [[REGULAR] + dice.sample(range(terminals), 2) + [0], [REGULAR, dice.randrange(terminals), terminals, 1]]
+    """So many terminals, each joined to each other, in half of the cases all but minus; a regular winding on minus and
+    another, which is shunted, or else live; and one that hangs on a terminal of its own and is dead."""
+    others = [terminal for terminal in range(terminals) if terminal != MINUS]
+    joined = dice.choice([others, range(terminals)])
+    parts = [[WIRE, a, b] for a in joined for b in joined if b < a]
+    parts += [[REGULAR, MINUS, dice.choice(others), 0], [REGULAR, dice.randrange(terminals), terminals, 1]]
     dice.shuffle(parts)
     return [terminals + 1, 2, 0], parts
+
+
+def short(dice, terminals):
+    """So many terminals, each joined to each other, and relays of both sorts, all of whose windings are shunted."""
+    relays, every = dice.randint(1, 8), [[a, b] for a in range(terminals) for b in range(a)]
+    parts = judging.some_parts(dice, relays, 0, [], every) + [[WIRE] + pair for pair in every]
+    dice.shuffle(parts)
+    return [terminals, relays, 0], parts
 
 
 def diamonds(dice, count):

@@ -91,6 +91,11 @@ def feeding_session(dice):
     return session(board, enough(dice), some_presses(dice, board))
 
 
+def shunting_session(dice):
+    board = boards.shunting(dice)
+    return session(board, some_allowance(dice), some_presses(dice, board, 8))
+
+
 def buzzing_session(dice):
     board = boards.buzzing(dice)
     return session(board, enough(dice), some_presses(dice, board, 3))

@@ -14,6 +14,7 @@ LEAST = 10  # of each sort of which there are many
 # Those sorts: the share of each in the sessions, and what makes one.
 SORTS = {
     "relays that feed each other": (700, fine.feeding_session),
+    "relays that are shunted": (300, fine.shunting_session),
     "relays that buzz": (120, fine.buzzing_session),
     "relays that count": (100, fine.counting_session),
     "steel relays in conflict": (300, fine.conflicting_session),
@@ -47,6 +48,7 @@ FEW = {
     "runs of about 4,096 moves": (long_sessions.full_log_session, [(bits, followers) for bits in (12, 13) for followers in (0, 1, 2)]),
     "the largest boards": (long_sessions.largest_board_session, [LARGEST, LARGEST, 200, 40, 10] * 8),
     "dense boards": (long_sessions.dense_session, [(9, LARGEST), (10, LARGEST), (11, LARGEST), (12, AFFORDABLE), (11, 300_000), (12, 1)]),
+    "all shunted, with very many chains": (long_sessions.short_session, [(22, LARGEST), (22, 0), (16, LARGEST), (16, 1)]),
     "an allowance around an effort of two or four million": (long_sessions.millions_session, [(18, -1), (18, 0), (18, 1), (18, 5), (19, -1), (19, 0), (19, 1)]),
     "65,536 bytes, nearly all events": (long_sessions.longest_session, boards.CALM),
     "65,536 bytes, half the events refused by 12": (long_sessions.doubles_session, [boards.holding]),

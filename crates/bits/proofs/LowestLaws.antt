@@ -72,6 +72,35 @@ first-fewer ok (suc k) (suc l) n few =
     let rest = first-fewer ok k l (suc n) (omega (arith, few)) in
     rw off (λ below. rest .0 (omega (arith, below)), λ past. rest .1 (omega (arith, past)) ∙ omega arith))
 
+-- the first passes, where there is one; where there is none, no number tried does
+first-found : (ok : ℕ → Bool) (k n : ℕ) → firstFrom ok k n < n + k → ok (firstFrom ok k n) ≡ true
+unfolding firstFrom
+first-found ok zero n some = absurd (omega (arith, some))
+first-found ok (suc k) n some =
+    by-test (ok n)
+    (λ here. rw here here)
+    (λ past. rw past (first-found ok k (suc n) (omega (arith, rw past at some))))
+
+first-absent : (ok : ℕ → Bool) (k n m : ℕ) → n + k ≤ firstFrom ok k n → n ≤ m → m < n + k → ok m ≡ false
+unfolding firstFrom
+first-absent ok zero n m none from below = absurd (omega arith)
+first-absent ok (suc k) n m none from below =
+    by-test (ok n)
+    (λ here. absurd (omega (arith, rw here at none)))
+    (λ past. by-less n m
+    (λ later. first-absent ok k (suc n) m (omega (arith, rw past at none)) later (omega arith))
+    (λ here. let at-n : m ≡ n = omega arith in rw at-n past))
+
+-- ---- the lowest member: it is a member, where there is one; where there is none, no number of a word from n up is
+
+pub lowest-found : (s n : ℕ) → lowestFrom s n < room → member s (lowestFrom s n) ≡ true
+unfolding lowestFrom
+lowest-found s n some = first-found (member s) (room - n) n (omega arith)
+
+pub lowest-absent : (s n m : ℕ) → room ≤ lowestFrom s n → n ≤ m → m < room → member s m ≡ false
+unfolding lowestFrom
+lowest-absent s n m none from below = first-absent (member s) (room - n) n m (omega arith) from (omega arith)
+
 -- ---- the lowest member, bit by bit: `rest` is the set without its bits below m
 
 pub lowest-there : (s m rest : ℕ) → rest ≡ s / 2 ^ m → rest % 2 ≡ 1 → member s m ≡ true

@@ -1,6 +1,6 @@
--- The laws of sets of small numbers: what `including`, `excluding` and `remaining` do to each member and to the width.
--- Every proof that speaks of drawn relays, pushed buttons or windings cites these. The last section is for the proofs
--- of `has`, `with`, `without` and `all_below`.
+-- The laws of sets of small numbers: what `including`, `excluding`, `remaining` and `together` do to each member, and
+-- what the first two do to the width. Every proof that speaks of drawn relays, pushed buttons or windings cites these.
+-- The last section is for the proofs of `has`, `with`, `without` and `all_below`.
 use Prim.Native.Nat.{ℕ, zero, suc, _+_, _-_, _*_, _/_, _%_, _^_, _≤_, _<_}
 use mathlib.Core.Path.{_≡_, refl, sym, ap, ap₂, _∙_}
 use mathlib.Core.Bool.{true, false, not, _&&_, _||_, or-true, or-false, false≢true}
@@ -8,14 +8,14 @@ use native.Mathlib.Omega.{arith}
 use native.Mathlib.Nat.{mod-lt, div-eq-of-lt, div-one, pow-suc, lt-of-lt-of-le, add-div-right, one-mul, zero-mul}
 use native.Mathlib.Nat.{add-zero, zero-div, sub-add-cancel}
 use native.Mathlib.Numerals.{one-add}
-use borrow.Author.Tests.{ltb-true, eqb-true, eqb-false, lt-ltb, le-ltb, eq-eqb, ne-eqb}
+use borrow.Author.Tests.{ltb-true, ltb-false, eqb-true, eqb-false, lt-ltb, le-ltb, eq-eqb, ne-eqb}
 use lib.Dec.{ltb, eqb}
 use lib.Arith.{bin-ind}
 use lib.Pow.{pow-pos, pow-mono, split, shr-shr, shl-exact}
 use lib.Bits.{bitAnd, bitOr, bitXor, and-block, and-mask, and-zero-r, and-zero-l, or-add-and, xor-add-and, and-shr}
-use lib.Bits.{xor-shr, and-mod, xor-mod}
+use lib.Bits.{or-shr, xor-shr, and-mod, or-mod, xor-mod}
 use Rattle.bits.proofs.BoolLaws.{by-test, by-less}
-use Rattle.bits.specs.Sets.{room, member, including, excluding, remaining, within}
+use Rattle.bits.specs.Sets.{room, member, including, excluding, remaining, together, within}
 
 -- ---- a member by its bit, lowest first
 
@@ -101,7 +101,7 @@ including-member : (s n : ℕ) → member s n ≡ true → including s n ≡ s
 unfolding including
 including-member s n set = by-test (ltb n room) (λ e. rw (e, set)) (λ e. rw e)
 
-including-new : (s n : ℕ) → n < room → member s n ≡ false → including s n ≡ s + 2 ^ n
+pub including-new : (s n : ℕ) → n < room → member s n ≡ false → including s n ≡ s + 2 ^ n
 unfolding including
 including-new s n fits clear = rw (lt-ltb n room fits, clear)
 
@@ -132,6 +132,15 @@ member-including-other s n m other =
     (λ clear. by-less n room
     (λ fits. ap (λ (x : ℕ). member x m) (including-new s n fits clear) ∙ added-other s n m clear other)
     (λ beyond. ap (λ (x : ℕ). member x m) (including-beyond s n beyond)))
+
+-- what is a member stays one
+pub including-kept : (s n m : ℕ) → member s m ≡ true → member (including s n) m ≡ true
+including-kept s n m is =
+    by-test (ltb n room)
+    (λ fits. by-test (eqb m n)
+    (λ same. rw (eqb-true m n same) (member-including-same s n (ltb-true n room fits)))
+    (λ differ. member-including-other s n m (eqb-false m n differ) ∙ is))
+    (λ beyond. ap (λ (k : ℕ). member k m) (including-beyond s n (ltb-false n room beyond)) ∙ is)
 
 pub member-including : (s n m : ℕ) → m < room → member (including s n) m ≡ (member s m || eqb m n)
 member-including s n m fits =
@@ -243,6 +252,24 @@ member-remaining s t n =
     (λ clear. rw clear
     (clear-member (remaining s t) n (remaining-bit s t n ∙ ap (λ (x : ℕ). bitXor x (bitAnd x (t / 2 ^ n % 2)))
     (member-clear s n clear) ∙ ap (bitXor 0) (and-zero-l (t / 2 ^ n % 2)))))
+
+-- ---- the members of either set
+
+-- bit by bit
+together-bit : (s t n : ℕ) → together s t / 2 ^ n % 2 ≡ bitOr (s / 2 ^ n % 2) (t / 2 ^ n % 2)
+unfolding together
+together-bit s t n = ap (λ (x : ℕ). x % 2 ^ 1) (or-shr s t n) ∙ or-mod (s / 2 ^ n) (t / 2 ^ n) 1
+
+pub member-together : (s t n : ℕ) → member (together s t) n ≡ (member s n || member t n)
+unfolding member
+member-together s t n =
+    by-test (member s n)
+    (λ set. rw set (set-member (together s t) n (by-test (member t n)
+    (λ other. together-bit s t n ∙ ap₂ bitOr (member-set s n set) (member-set t n other))
+    (λ off. together-bit s t n ∙ ap₂ bitOr (member-set s n set) (member-clear t n off)))))
+    (λ clear. rw clear
+    (ap (λ (x : ℕ). eqb x 1)
+    (together-bit s t n ∙ ap (λ (x : ℕ). bitOr x (t / 2 ^ n % 2)) (member-clear s n clear))))
 
 -- ---- what the code's shifts and masks are, for the proofs of `has`, `with`, `without` and `all_below`
 

@@ -4,6 +4,7 @@
 --     including s n          s with n as a member besides, where a word has room for n
 --     excluding s n          s without n
 --     remaining s t          the members of s that are not in t: those of s and not of both
+--     together s t           the members of either set
 --     firstFrom ok k n       the first of n, n + 1, … (k numbers) that passes the test `ok`; else the number after them
 --     lowestFrom s n         the lowest member of s from n up; where there is none, the larger of n and the room of a
 --                            word
@@ -12,6 +13,7 @@
 --     SetWith s n r          promise: `with` of s and n answers r
 --     SetWithout s n r       promise: `without` of s and n answers r
 --     SetRemaining s t r     promise: `remaining` of s and t answers r
+--     SetTogether s t r      promise: `together` of s and t answers r
 --     SetLowestFrom s n r    promise: `lowest_from` of s and n answers r
 --     SetAllBelow s n r      promise: `all_below` of s and n answers r
 --     WideByte x r           promise: `wide` of the byte x answers r, which is below 256
@@ -21,7 +23,7 @@ use Prim.Native.Nat.{ℕ, zero, suc, _+_, _-_, _/_, _%_, _^_, _<_}
 use mathlib.Core.Path.{_≡_}
 use mathlib.Core.Bool.{Bool, cond}
 use lib.Dec.{ltb, eqb}
-use lib.Bits.{bitAnd, bitXor}
+use lib.Bits.{bitAnd, bitOr, bitXor}
 
 unfoldable pub member : ℕ → ℕ → Bool
 member s n = eqb (s / 2 ^ n % 2) 1
@@ -37,6 +39,9 @@ excluding s n = cond (member s n) (s - 2 ^ n) s
 
 unfoldable pub remaining : ℕ → ℕ → ℕ
 remaining s t = bitXor s (bitAnd s t)
+
+unfoldable pub together : ℕ → ℕ → ℕ
+together s t = bitOr s t
 
 unfoldable pub firstFrom : (ℕ → Bool) → ℕ → ℕ → ℕ
 firstFrom ok zero n = n
@@ -59,6 +64,9 @@ SetWithout s n r = r ≡ excluding s n
 
 abbrev pub SetRemaining : ℕ → ℕ → ℕ → Type 0
 SetRemaining s t r = r ≡ remaining s t
+
+abbrev pub SetTogether : ℕ → ℕ → ℕ → Type 0
+SetTogether s t r = r ≡ together s t
 
 abbrev pub SetLowestFrom : ℕ → ℕ → ℕ → Type 0
 SetLowestFrom s n r = r ≡ lowestFrom s n

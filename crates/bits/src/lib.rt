@@ -1,9 +1,9 @@
 // Sets of the numbers 0 to 63, a bit of a word each: n is a member exactly if bit n is set.
-ghost use Rattle.bits.specs.Sets.{SetHas, SetWith, SetWithout, SetRemaining, SetLowestFrom, SetAllBelow};
-ghost use Rattle.bits.specs.Sets.{WideByte};
+ghost use Rattle.bits.specs.Sets.{SetHas, SetWith, SetWithout, SetRemaining, SetTogether, SetLowestFrom};
+ghost use Rattle.bits.specs.Sets.{SetAllBelow, WideByte};
 
 // How many numbers a word has room for.
-const ROOM: u32 = 64;
+pub const ROOM: u32 = 64;
 
 // Whether n is a member.
 pub fn has(set: u64, n: u32) -> bool
@@ -37,6 +37,13 @@ pub fn remaining(set: u64, taken: u64) -> u64
     ensures { λ r. ⌜ SetRemaining set taken r ⌝ }
 {
     set ^ (set & taken)
+}
+
+// The members of either set.
+pub fn together(set: u64, other: u64) -> u64
+    ensures { λ r. ⌜ SetTogether set other r ⌝ }
+{
+    set | other
 }
 
 // The lowest member from n up; where there is none, the room of a word, or n if that is more.

@@ -14,7 +14,8 @@
 --                       number before the higher"
 --     Sorted cs         each of cs comes before every later one
 --     Shows a b c       c "ends at 1 and has a and b side by side, in either order"
---     Live J t a b      "A winding between a and b is live if some chain" shows it
+--     Live J t a b      "A winding between a and b is live if some chain" shows it; that it is not shunted besides
+--                       (request A4) is asked in `judge_means`
 use Prim.Native.Nat.{ℕ, _<_}
 use mathlib.Core.Path.{_≡_}
 use mathlib.Core.Logic.{_⊎_}

@@ -9,7 +9,7 @@ use Rattle.file_means.proofs.FileRefusals.{file-accepted}
 use Rattle.file_means.proofs.FilesKept.{files-kept, only-by-two}
 use Rattle.file_means.proofs.SecondEdition.{first-files-kept, only-by-four, markless-as-before, mark-turned-away}
 use Rattle.judge_means.proofs.Circuits.{paths-are-chains, live-is-carrying}
-use Rattle.judge_means.proofs.Exactness.{judges-keep, as-published}
+use Rattle.judge_means.proofs.Exactness.{judges-keep, shunted-dead, as-published}
 use Rattle.judge_means.proofs.Eleven.{the-winding, every-relay-wound}
 use Rattle.moves_means.proofs.SingleMoves.{move-exactly}
 use Rattle.moves_means.proofs.ByChains.{regular-by-chains, steel-by-chains}
@@ -28,6 +28,7 @@ as-the-model-says = record {
   carrying = live-is-carrying;
   winding = the-winding;
   current = as-published _ judges-keep;
+  shunted = shunted-dead _ judges-keep;
   sorts = every-relay-sort;
   wound = every-relay-wound;
   regular = regular-by-chains;

@@ -60,6 +60,7 @@ one-answer = record {
   bits-with = λ s n. one-itself _;
   bits-without = λ s n. one-itself _;
   bits-remaining = λ s t. one-itself _;
+  bits-together = λ s t. one-itself _;
   bits-lowest-from = λ s n. one-itself _;
   bits-all-below = λ s n. one-itself _;
   bits-wide = λ x byte. record { answer = x; allowed = (refl, byte); only = λ p q e f. e .0 ∙ sym (f .0) };
@@ -96,6 +97,7 @@ one-answer = record {
   board-writer-write = λ b out. one-written _ written-told _;
   neighbours-conducts = λ k s. one-itself _;
   neighbours-neighbours = λ b s. one-itself _;
+  reach-flood = λ near from out. one-itself _;
   search-search = λ near t v w. one-told _ verdict-told _;
   judge-find-windings = λ b r. one-told _ windings-told _;
   judge-judge-by = λ k t v w. one-told _ verdict-told _;

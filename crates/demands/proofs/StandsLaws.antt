@@ -20,11 +20,13 @@ use Rattle.presses.specs.Presses.{pushLines, releaseLines, pushing, releasing}
 use Rattle.board_writer.specs.declared.Written.{Written}
 use Rattle.board_writer.specs.declared.Written.the-variants.{Bytes, Refused}
 use Rattle.board_writer.specs.Writing.{writeLines, writing, toldWritten, bytesWritten}
+use Rattle.neighbours.specs.Neighbours.{setsOf}
 use Rattle.search.specs.declared.Winding.{Winding}
-use Rattle.search.specs.Verdicts.{Verdict, settled, unsettled, firstShown, effort, weighed, verdictBy, places}
+use Rattle.search.specs.Verdicts.{Verdict, settled, unsettled, firstShown, effort, weighed, places}
 use Rattle.judge.specs.declared.Which.{Which}
 use Rattle.judge.specs.RelayWindings.{windingOf, isThere, orNoSuchWinding}
-use Rattle.judge.specs.Judging.{judgeLines, windingFor, verdictOn, judgedBy, judging}
+use Rattle.judge.specs.Judging.{judgeLines, windingFor, verdictOn, judging}
+use Rattle.judge.proofs.JudgeLaws.{judged-weighed}
 use Rattle.moves.specs.Steps.{made, stepOf}
 use Rattle.moves.specs.Moving.{moveLines, movable, moving}
 use Rattle.runs.specs.Runs.{noRelay}
@@ -118,9 +120,10 @@ NoVerdict v = (v .effort ≡ 0) × ((v .length ≡ 0) × (v .places ≡ places [
 
 verdict-stands : (b : Board) (s : State) (w : ℕ) (o : Outcome Winding)
     → StandsAgainst (λ (v : Verdict). v .finding) NoVerdict (against o) (verdictOn b s o w)
-unfolding judgedBy verdictBy
 verdict-stands b s w (given v) =
-    let gives = weighed-given _ _ w in
+    let gives =
+    ap (λ (j : Verdict). against (j .finding)) (judged-weighed (setsOf b s) (b .counts .terminals) v w)
+    ∙ weighed-given _ _ w in
     record { first = gives; left = λ n p e. absurd (refused-never n p tt (sym (ap against e) ∙ gives)) }
 verdict-stands b s w (refused n p) = record { first = refl; left = λ m q e. (refl, (refl, refl)) }
 

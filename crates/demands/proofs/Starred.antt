@@ -4,7 +4,7 @@ use mathlib.Core.Path.{refl}
 use Rattle.refusals.specs.Order.{firstNo}
 use Rattle.number.specs.Numbers.{below, form, placed, numberAt}
 use Rattle.kinds.specs.Kinds.{kindOf}
-use Rattle.bits.specs.Sets.{member, including, excluding, within}
+use Rattle.bits.specs.Sets.{member, including, excluding, remaining, together, firstFrom, lowestFrom, within}
 use Rattle.windings.specs.Windings.{every, complete}
 use Rattle.board.specs.Parts.{padded}
 use Rattle.board.specs.Rules.{inRange, countsFine, nameFine, endsFit, partFits, partFine, gainedAll, partsFine}
@@ -14,11 +14,12 @@ use Rattle.state.specs.States.{stateFine, left}
 use Rattle.presses.specs.Presses.{pushing, releasing}
 use Rattle.board_reader.specs.Reading.{wanted, countsAt, nameAt, endsAt, partAt, partsAt, boardFrom, boardAt}
 use Rattle.board_reader.specs.Reading.{answered, reading}
-use Rattle.neighbours.specs.Neighbours.{setAt, tableFrom, setsAt, neighbours}
+use Rattle.neighbours.specs.Neighbours.{setAt, tableFrom, setsAt, neighbours, bareNeighbours}
 use Rattle.chains.specs.ChainList.{isIn, canFollow, tries, beyond, chains, crosses, someCrosses, beside, shows}
+use Rattle.reach.specs.Floods.{nextSeen, floodOn, flooded}
 use Rattle.search.specs.Verdicts.{firstShown, effort, places, weighed, verdictBy, inSets}
 use Rattle.judge.specs.RelayWindings.{windingOf, windingsAt}
-use Rattle.judge.specs.Judging.{judgedBy, windingFor, judging}
+use Rattle.judge.specs.Judging.{shunted, judgedBy, windingFor, judging}
 use Rattle.moves.specs.Steps.{regularMove, steelMove, decide, findingsOn, stepBy, stepOf}
 use Rattle.moves.specs.Moving.{movable, moving}
 use Rattle.runs.specs.Looks.{lookFrom}
@@ -37,13 +38,14 @@ _&_ : {A B : Type 0} → A → B → A × B
 a & b = (a, b)
 
 pub starred-boards : Starred
-unfolding firstNo kindOf below form placed numberAt member including excluding within every complete padded inRange
-    countsFine nameFine endsFit partFits partFine gainedAll partsFine boardFine carries stateFine left pushing
-    releasing wanted countsAt nameAt endsAt partAt partsAt boardFrom boardAt answered reading setAt tableFrom setsAt
-    neighbours isIn canFollow tries beyond chains crosses someCrosses beside shows firstShown effort places weighed
-    verdictBy inSets windingOf windingsAt judgedBy windingFor judging regularMove steelMove decide findingsOn stepBy
-    stepOf movable moving lookFrom runOf runnable ran running digitsOf decimal lineText eventAt pressing ranLine
-    pressedLine eventLine withAllowance headAt linesFrom headLines sessionLines lineTexts printed sessionText
+unfolding firstNo kindOf below form placed numberAt member including excluding remaining together firstFrom lowestFrom
+    within every complete padded inRange countsFine nameFine endsFit partFits partFine gainedAll partsFine boardFine
+    carries stateFine left pushing releasing wanted countsAt nameAt endsAt partAt partsAt boardFrom boardAt answered
+    reading setAt tableFrom setsAt neighbours bareNeighbours nextSeen floodOn flooded isIn canFollow tries beyond
+    chains crosses someCrosses beside shows firstShown effort places weighed verdictBy inSets windingOf windingsAt
+    shunted judgedBy windingFor judging regularMove steelMove decide findingsOn stepBy stepOf movable moving lookFrom
+    runOf runnable ran running digitsOf decimal lineText eventAt pressing ranLine pressedLine eventLine withAllowance
+    headAt linesFrom headLines sessionLines lineTexts printed sessionText
 starred-boards =
     (λ x told. told) & (λ a k told. told) & (λ v told. told) & (λ v told. told) & (λ v told. told)
     & (λ a k told. told) & (λ a k told. told) & (λ v told. told) & (λ v told. told) & (λ v told. told)
@@ -55,4 +57,6 @@ starred-boards =
     & (λ x told. told) & (λ x told. told) & (λ x told. told) & (λ x told. told) & (λ x told. told) & refl & refl
     & (λ x told. told) & (λ x told. told) & (λ x told. told) & (λ x told. told) & (λ x told. told)
     & (λ x told. told) & (λ x told. told) & (λ x told. told) & (λ v told. told) & (λ v told. told)
-    & (λ v told. told) & (λ v told. told) & (λ a k told. told) & refl & tt
+    & (λ v told. told) & (λ v told. told) & (λ a k told. told) & refl & (λ v told. told) & (λ v told. told)
+    & (λ v told. told) & (λ a told. told) & (λ v told. told) & (λ v told. told) & (λ v told. told)
+    & (λ v told. told) & (λ a k told. told) & (λ v told. told) & (λ v told. told) & (λ a told. told) & tt

@@ -1,11 +1,14 @@
 -- Demand 2, in the user's own words, and what states each sentence:
 --     "Relays move as the relay circuit model published by the Technical University of Denmark says."
 --         `paths`, `carrying`: the model's paths and its current are ours; `current`: what is called live or dead goes
---         exactly by it, within the allowance; `moves`: a relay is moved exactly by the model's guards
+--         exactly by it, within the allowance, of a winding that is not shunted; `shunted`: one that is shunted is
+--         called dead, whatever the model says (request A4: "here our rule decides"); `moves`: a relay is moved exactly
+--         by the model's guards, of current through a winding that is not shunted
 --     "A relay draws when a chain of conducting parts that meets no terminal twice runs from plus to minus through its
 --     winding, and drops when there is none."
---         `regular`, of the relay's `winding`; `sorts`: each relay is regular or steel-core; `wound`: it has the
---         windings of its sort; `changes`: a move changes that relay and nothing else
+--         `regular`, of the relay's `winding`, and if that is not shunted (request A4); `sorts`: each relay is regular
+--         or steel-core; `wound`: it has the windings of its sort; `changes`: a move changes that relay and nothing
+--         else
 --     "A steel-core relay moves only on its drawing or dropping winding."
 --         `steel`, of the two windings that `wound` gives it
 --     "Board files keep their meaning both ways: write then read gives the board, read then write gives the bytes
@@ -14,7 +17,7 @@
 --         board that was read is what stands in the file; `bytes-after`: what stands behind a board does not bear on
 --         it; `same`: which boards are the same; `number-written-read`, `number-read-written`: both ways for every
 --         number to 4,294,967,295; `files-kept`, `only-by-two`, `sessions-kept`: files and sessions of the days when
---         numbers had at most three bytes keep their meaning (request A1); `first-files-kept`, `only-by-four`,
+--         numbers had at most three bytes are read as they were (request A1); `first-files-kept`, `only-by-four`,
 --         `first-sessions-kept`: so do those of the first edition, which had no marks, and `markless-as-before`,
 --         `mark-turned-away`: its reader takes a file of today's without marks, and turns one with a mark away by 4
 --         (request A2); `lines-stand`: what became of any session's lines by either request
@@ -37,7 +40,7 @@ use Rattle.file_means.specs.FilesKept.{FilesKept, OnlyByTwo}
 use Rattle.file_means.specs.SecondEdition.{FirstFilesKept, OnlyByFour, MarklessAsBefore, MarkTurnedAway}
 use Rattle.judge.specs.Judging.{Judges}
 use Rattle.judge_means.specs.Circuits.{PathsAreChains, LiveIsCarrying}
-use Rattle.judge_means.specs.Exactness.{AsPublished}
+use Rattle.judge_means.specs.Exactness.{ShuntedDead, AsPublished}
 use Rattle.judge_means.specs.Eleven.{TheWinding, EveryRelayWound}
 use Rattle.moves_means.specs.SingleMoves.{MoveExactly}
 use Rattle.moves_means.specs.ByChains.{RegularByChains, SteelByChains}
@@ -50,18 +53,20 @@ use Rattle.session_means.specs.LinesDrawn.{LinesDrawn}
 use Rattle.session_means.specs.SessionsKept.{SessionsKept, FirstSessionsKept, LinesStand}
 
 pub record AsTheModelSays : Type 0 where
-  -- the chains to minus are the published model's paths, and a winding is live exactly if it is current carrying
+  -- the chains to minus are the published model's paths, and one shows a winding exactly if it is current carrying
   pub paths : PathsAreChains
   pub carrying : LiveIsCarrying
-  -- the winding judged is exactly the relay's; it is called live or dead exactly by that current, within the allowance
+  -- the winding judged is exactly the relay's; it is called live or dead exactly by that current, within the allowance,
+  -- unless it is shunted: then it is called dead, at every allowance
   pub winding : TheWinding
   pub current : AsPublished Judges
+  pub shunted : ShuntedDead Judges
   -- each relay is regular or steel-core and not both, and has the windings of its sort, so that the next two fields are
   -- all cases
   pub sorts : EveryRelaySort
   pub wound : EveryRelayWound
-  -- a relay draws, drops, rests exactly if the chains through its windings say so, which is exactly by the
-  -- published guards
+  -- a relay draws, drops, rests exactly by its windings, each live, by a chain and not shunted, or dead; which is
+  -- exactly by the published guards
   pub regular : RegularByChains
   pub steel : SteelByChains
   pub moves : MoveExactly

@@ -6,9 +6,10 @@
 --         `chains`; `numbers`: the effort of a winding is such a number
 --     "A winding is called live exactly when the first chain that shows it lies within the allowance, dead exactly when
 --     there is none and all chains lie within it, otherwise undecided."
---         `live`, `dead`, `undecided`, and what is shown and reported with each: `shown`, `counted`, `reported`. Rule
---         book: "a judge that says undecided always, or dead always", is shut out "by the "exactly" in demand 3":
---         `always`
+--         `live`, `dead`, `undecided`, and what is shown and reported with each: `shown`, `counted`, `reported`.
+--         Request A4: "live" means live and not shunted, and "a shunted winding is called dead at every allowance,
+--         however many chains there are": `shunted`. Rule book: "a judge that says undecided always, or dead always",
+--         is shut out "by the "exactly" in demand 3": `always`
 --     "So of two accepted runs from one board and state, the one with no shorter log and no less allowance per winding
 --     starts with every move of the other, and where the other ended idle or in conflict it ends with that word in that
 --     same state."
@@ -22,7 +23,7 @@ use mathlib.Core.Path.{_≡_}
 use Rattle.search.specs.declared.Finding.{Finding}
 use Rattle.judge.specs.Judging.{Judges}
 use Rattle.judge_means.specs.Exactness.{Judge, TheChains, EffortNumbers, LiveExactly, DeadExactly}
-use Rattle.judge_means.specs.Exactness.{UndecidedExactly, LiveShows, DeadCounts, UndecidedReports}
+use Rattle.judge_means.specs.Exactness.{UndecidedExactly, LiveShows, ShuntedDead, DeadCounts, UndecidedReports}
 use Rattle.judge_means.specs.Allowances.{LargerAllowance, TurnsAtEffort, EffortSome}
 use Rattle.runs_means.specs.LongerRuns.{LongerRun}
 
@@ -31,6 +32,8 @@ pub record JudgedExactly (J : Judge) : Type 0 where
   pub live : LiveExactly J
   pub dead : DeadExactly J
   pub undecided : UndecidedExactly J
+  -- a shunted winding is dead, with effort 0, at every allowance
+  pub shunted : ShuntedDead J
   -- and what is shown and reported with each
   pub shown : LiveShows J
   pub counted : DeadCounts J

@@ -9,7 +9,8 @@ use Prim.Native.Nat.{ℕ, _<_}
 use mathlib.Core.Path.{_≡_}
 use mathlib.Core.Bool.{Bool}
 use mathlib.Core.List.{List}
-use Rattle.bits.specs.Sets.{SetHas, SetWith, SetWithout, SetRemaining, SetLowestFrom, SetAllBelow, WideByte}
+use Rattle.bits.specs.Sets.{SetHas, SetWith, SetWithout, SetRemaining, SetTogether, SetLowestFrom, SetAllBelow}
+use Rattle.bits.specs.Sets.{WideByte}
 use Rattle.refusals.specs.declared.Against.{Against}
 use Rattle.refusals.specs.Order.{AsksNext}
 use Rattle.number.specs.Numbers.{ReadsNumber, NumberLength, WritesNumber}
@@ -31,6 +32,7 @@ use Rattle.board_writer.specs.Writing.{Writes}
 use Rattle.neighbours.specs.Conduction.{Conducts}
 use Rattle.neighbours.specs.declared.Sets.{Sets}
 use Rattle.neighbours.specs.Neighbours.{Neighbours}
+use Rattle.reach.specs.Floods.{Floods}
 use Rattle.search.specs.declared.Winding.{Winding}
 use Rattle.search.specs.Verdicts.{Searches}
 use Rattle.judge.specs.declared.Which.{Which}
@@ -66,6 +68,7 @@ pub record OneAnswer : Type 0 where
   pub bits-with : (s n : ℕ) → One (SetWith s n)
   pub bits-without : (s n : ℕ) → One (SetWithout s n)
   pub bits-remaining : (s t : ℕ) → One (SetRemaining s t)
+  pub bits-together : (s t : ℕ) → One (SetTogether s t)
   pub bits-lowest-from : (s n : ℕ) → One (SetLowestFrom s n)
   pub bits-all-below : (s n : ℕ) → One (SetAllBelow s n)
   pub bits-wide : (x : ℕ) → x < 256 → One (WideByte x)
@@ -102,6 +105,7 @@ pub record OneAnswer : Type 0 where
   pub board-writer-write : (b : Board) (out : List ℕ) → OneLent (Writes b out)
   pub neighbours-conducts : (k : Kind) (s : State) → One (Conducts k s)
   pub neighbours-neighbours : (b : Board) (s : State) → One (Neighbours b s)
+  pub reach-flood : (near : List ℕ) (from out : ℕ) → One (Floods near from out)
   pub search-search : (near : List ℕ) (t : ℕ) (v : Winding) (w : ℕ) → One (Searches near t v w)
   pub judge-find-windings : (b : Board) (r : ℕ) → One (FindsWindings b r)
   pub judge-judge-by : (k : Sets) (t : ℕ) (v : Winding) (w : ℕ) → One (JudgesBy k t v w)

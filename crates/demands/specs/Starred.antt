@@ -4,6 +4,9 @@
 --     mark r                        a mark of relay r, as it is read
 --     started n b                   the board b with the set n of relays for its start
 --     h0 .. h6, pair                the boards; `pair` is one of ours, on which two relays can move at once
+--     h4wound, h4woundWired         both H4 boards with the winding of a second relay for the wire 4-2: they show the
+--                                   slip that H4 showed before it was shunted
+--     byButton, overPlus, bridged   shunts by a button, over plus, and of a drawing winding
 --     takenOver                     a hut that was taken over in service: both relays were up, and one holds itself
 --     pushed0, pushedBoth           the states with button 0 pushed, and with buttons 0 and 1
 --     drawn0 s                      the state s with relay 0 drawn
@@ -26,7 +29,8 @@
 --     besides                       rows that it does not star, and H2, with rows of ours: two relays that can move
 --                                   at once, logs that are just long enough, the numbers of request A1
 --     marks                         rows on the marks of request A2: in files, on boards handed in, and in a session
---     Starred                       every row of the three holds
+--     shunts                        rows on the shunted windings of request A4, by which H4 and H6 are dead
+--     Starred                       every row of the four holds
 use Prim.Native.Nat.{ℕ}
 use mathlib.Core.Path.{_≡_}
 use mathlib.Core.List.{List, [], _∷_, _++_}
@@ -115,6 +119,16 @@ h4 = board 5 1 0 (part Wire 0 2 ∷ part Wire 2 3 ∷ part Wire 4 2 ∷ part (Re
 abbrev pub h4wired : Board
 h4wired = board 5 1 0 (part Wire 0 2 ∷ part Wire 2 3 ∷ part Wire 4 2 ∷ part (Regular 0) 3 4 ∷ part Wire 2 1 ∷ [])
 
+-- H4 with the winding of relay 1 for the wire 4-2
+abbrev pub h4wound : Board
+h4wound = board 5 2 0 (part Wire 0 2 ∷ part Wire 2 3 ∷ part (Regular 1) 4 2 ∷ part (Regular 0) 3 4 ∷ [])
+
+-- with a wire 2-1 more
+abbrev pub h4woundWired : Board
+h4woundWired =
+    board 5 2 0
+    (part Wire 0 2 ∷ part Wire 2 3 ∷ part (Regular 1) 4 2 ∷ part (Regular 0) 3 4 ∷ part Wire 2 1 ∷ [])
+
 -- T 4, buttons 0 on 0-2 and 1 on 0-3, drawing winding 2-1, dropping winding 3-1
 abbrev pub h5 : Board
 h5 = board 4 1 2 (part (Button 0) 0 2 ∷ part (Button 1) 0 3 ∷ part (Drawing 0) 2 1 ∷ part (Dropping 0) 3 1 ∷ [])
@@ -122,6 +136,22 @@ h5 = board 4 1 2 (part (Button 0) 0 2 ∷ part (Button 1) 0 3 ∷ part (Drawing 
 -- T 3, wires 0-2 and 2-1, winding 2-1
 abbrev pub h6 : Board
 h6 = board 3 1 0 (part Wire 0 2 ∷ part Wire 2 1 ∷ part (Regular 0) 2 1 ∷ [])
+
+-- T 3, relay 1's winding on 0-2, relay 0's on 2-1, and button 0 across that
+abbrev pub byButton : Board
+byButton = board 3 2 1 (part (Regular 1) 0 2 ∷ part (Regular 0) 2 1 ∷ part (Button 0) 2 1 ∷ [])
+
+-- T 4, wires 0-2 and 0-3, relay 1's winding on 2-3, shunted over plus, relay 0's on 3-1
+abbrev pub overPlus : Board
+overPlus = board 4 2 0 (part Wire 0 2 ∷ part Wire 0 3 ∷ part (Regular 1) 2 3 ∷ part (Regular 0) 3 1 ∷ [])
+
+-- T 5, buttons 0 on 0-2 and 1 on 0-4, drawing winding 2-3 with a wire across it, relay 1's winding on 3-1, dropping
+-- winding 4-1
+abbrev pub bridged : Board
+bridged =
+    board 5 2 2
+    (part (Button 0) 0 2 ∷ part (Button 1) 0 4 ∷ part (Drawing 0) 2 3 ∷ part Wire 2 3 ∷ part (Regular 1) 3 1
+    ∷ part (Dropping 0) 4 1 ∷ [])
 
 -- T 3, wire 0-2, windings of relays 1 and 0 on 2-1
 abbrev pub pair : Board
@@ -173,7 +203,7 @@ RowHolds (runs b s log w e m t r l) =
     → toldRan a k ≡ record { word = given e; moves = m; state = t; relay = r; log = l }
 RowHolds (prints s x) = sessionText currentEdition s ≡ x
 
--- H0 .. H6 and the number `80 00`, in the rule book's order
+-- H0 .. H6 and the number `80 00`, in the rule book's order; of both H4 boards and H6 as request A4 has them
 abbrev pub starred : List Row
 starred =
     reads h0File h0 (given 4)
@@ -183,15 +213,15 @@ starred =
     ∷ judges h1 pushed0 First 2 (unsettled 2)
     ∷ runs h3 emptyState (lent 5) 100 spent 5 (drawn0 emptyState) 0 (128 ∷ 0 ∷ 128 ∷ 0 ∷ 128 ∷ [])
     ∷ runs h3 emptyState [] 100 spent 0 emptyState 0 []
-    ∷ judges h4 emptyState First 100 (deadWith 6)
-    ∷ judges h4 emptyState First 5 (unsettled 5)
-    ∷ judges h4wired emptyState First 100 (deadWith 7)
+    ∷ judges h4 emptyState First 100 (deadWith 0)
+    ∷ judges h4 emptyState First 5 (deadWith 0)
+    ∷ judges h4wired emptyState First 100 (deadWith 0)
     ∷ judges h5 pushedBoth First 100 (liveWith 3 (0 ∷ 2 ∷ 1 ∷ []))
     ∷ judges h5 pushedBoth Second 100 (liveWith 5 (0 ∷ 3 ∷ 1 ∷ []))
     ∷ moves h5 pushedBoth 100 pushedBoth step.conflict
     ∷ moves h5 pushed0 100 (drawn0 pushed0) step.drew
     ∷ moves h5 (drawn0 emptyState) 100 (drawn0 emptyState) step.rests
-    ∷ judges h6 emptyState First 100 (liveWith 3 (0 ∷ 2 ∷ 1 ∷ []))
+    ∷ judges h6 emptyState First 100 (deadWith 0)
     ∷ reads (128 ∷ 0 ∷ []) emptyBoard (refused badForm 0)
     ∷ []
 
@@ -245,5 +275,21 @@ marks =
     ∷ prints (takenOverFile ++ (100 ∷ [])) (48 ∷ 32 ∷ 105 ∷ 100 ∷ 108 ∷ 101 ∷ 32 ∷ 49 ∷ 32 ∷ 49 ∷ 10 ∷ [])
     ∷ []
 
+abbrev pub shunts : List Row
+shunts =
+    judges h4 emptyState First 0 (deadWith 0)
+    ∷ judges h4wired emptyState First 0 (deadWith 0)
+    ∷ judges h6 emptyState First 0 (deadWith 0)
+    ∷ moves h6 (drawn0 emptyState) 0 emptyState step.dropped
+    ∷ judges h4wound emptyState First 100 (deadWith 6)
+    ∷ judges h4wound emptyState First 5 (unsettled 5)
+    ∷ judges h4woundWired emptyState First 100 (deadWith 7)
+    ∷ judges byButton emptyState First 100 (liveWith 3 (0 ∷ 2 ∷ 1 ∷ []))
+    ∷ runs byButton (withDrawn (drawn0 pushed0) 1) (lent 2) 100 idle 1 (withDrawn pushed0 1) noRelay (0 ∷ 7 ∷ [])
+    ∷ judges overPlus emptyState First 100 (liveWith 4 (0 ∷ 2 ∷ 3 ∷ 1 ∷ []))
+    ∷ judges bridged pushedBoth First 100 (deadWith 0)
+    ∷ moves bridged (drawn0 pushedBoth) 100 pushedBoth step.dropped
+    ∷ []
+
 abbrev pub Starred : Type 0
-Starred = All RowHolds (starred ++ besides ++ marks)
+Starred = All RowHolds (starred ++ besides ++ marks ++ shunts)

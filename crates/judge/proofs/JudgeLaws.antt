@@ -1,10 +1,15 @@
--- Laws of judging as a call: refused by 15, 14 or 11, in that order, or judged.
+-- Laws of judging by the sets: the winding is dead if it is shunted, else it goes by the chains; and of judging as a
+-- call: refused by 15, 14 or 11, in that order, or judged.
 use Prim.Native.Nat.{ℕ, _≤_}
 use native.Mathlib.Omega.{arith}
-use mathlib.Core.Path.{_≡_, refl, sym, ap, _∙_}
-use mathlib.Core.Bool.{true}
-use mathlib.Core.List.{[], _∷_}
+use mathlib.Core.Path.{_≡_, refl, sym, ap, ap₂, _∙_}
+use mathlib.Core.Logic.{_⊎_, inr}
+use mathlib.Core.Bool.{Bool, true, false, cond}
+use mathlib.Core.List.{List, [], _∷_}
 use mathlib.Core.Option.{Option, none, some}
+use borrow.Author.Tests.{le-leb}
+use Rattle.bits.specs.Sets.{member, including}
+use Rattle.bits.proofs.BoolLaws.{by-test}
 use Rattle.refusals.specs.declared.Against.{Against}
 use Rattle.refusals.specs.declared.Against.the-variants as stands
 use Rattle.refusals.specs.declared.Refusal.{Refusal}
@@ -20,23 +25,83 @@ use Rattle.state.specs.declared.State.{State}
 use Rattle.state.specs.States.{stateFine, usable}
 use Rattle.state.proofs.StateLaws.{usable-fine, usable-given, usable-lines, usable-next}
 use Rattle.neighbours.specs.declared.Sets.{Sets}
-use Rattle.neighbours.specs.Neighbours.{neighbours, setsOf}
+use Rattle.neighbours.specs.Neighbours.{joined, setsOf}
+use Rattle.chains.specs.ChainList.{chains, shows}
+use Rattle.reach.specs.Floods.{flooded}
 use Rattle.search.specs.declared.Winding.{Winding}
-use Rattle.search.specs.Verdicts.{verdictBy}
-use Rattle.search.proofs.VerdictLaws.{in-sets-all}
+use Rattle.search.specs.Verdicts.{undecided, Verdict, firstShown, effort, settled, weighed, verdictBy, inSets}
+use Rattle.search.proofs.VerdictLaws.{verdict-by-larger, in-sets-all}
 use Rattle.judge.specs.declared.Which.{Which}
 use Rattle.judge.specs.RelayWindings.{OfRelay, windingOf, windingsAt, windingNamed, isThere, orNoSuchWinding}
-use Rattle.judge.specs.Judging.{judgedBy, windingFor, verdictOn, judging}
+use Rattle.judge.specs.Judging.{shunted, judgedBy, windingFor, verdictOn, judging}
 use Rattle.judge.proofs.ScannedLaws.{asked-given, asked-refused}
 use Rattle.judge.proofs.WoundLaws.{windings-named}
 
 -- ---- judging by the sets
 
--- terminals that the sets have are all looked at
-pub judged-all : (k : Sets) (t : ℕ) (v : Winding) (w : ℕ) → t ≤ mostTerminals
-    → judgedBy k t v w ≡ verdictBy (k .near) t v w
-unfolding judgedBy
-judged-all k t v w few = sym (in-sets-all (k .near) t v w few)
+-- the way through `is_shunted`
+pub shunted-by : (k : Sets) (v : Winding) (a b end reached : ℕ) (r : Bool) → a ≡ v .a → end ≡ including 0 a
+    → reached ≡ flooded (k .bare) end 0 → b ≡ v .b → r ≡ member reached b → r ≡ shunted k v
+unfolding shunted
+shunted-by k v a b end reached r at-a from flood at-b is =
+    is ∙ ap₂ member (flood ∙ ap (λ (n : ℕ). flooded (k .bare) n 0) (from ∙ ap (including 0) at-a)) at-b
+
+module _ (k : Sets) (t : ℕ) (v : Winding) (w : ℕ) where
+  pub judged-shunted : shunted k v ≡ true → settled 0 none ≡ judgedBy k t v w
+  unfolding judgedBy
+  judged-shunted is = rw is refl
+
+  pub judged-else : shunted k v ≡ false → verdictBy (k .near) (inSets t) v w ≡ judgedBy k t v w
+  unfolding judgedBy
+  judged-else off = rw off refl
+
+-- the chains that are gone through for winding v: none, if it is shunted
+unfoldable pub chainsFor : Sets → ℕ → Winding → List (List ℕ)
+chainsFor k t v = cond (shunted k v) [] (chains (joined (k .near)) t)
+
+pub chains-none : (k : Sets) (t : ℕ) (v : Winding) → shunted k v ≡ true → chainsFor k t v ≡ []
+unfolding chainsFor
+chains-none k t v is = rw is refl
+
+pub chains-all : (k : Sets) (t : ℕ) (v : Winding) → shunted k v ≡ false → chainsFor k t v ≡ chains (joined (k .near)) t
+unfolding chainsFor
+chains-all k t v off = rw off refl
+
+-- so the verdict always goes by the chains that are gone through
+pub effort-nothing : (s : List ℕ → Bool) → effort s [] ≡ 0
+unfolding effort
+effort-nothing s = refl
+
+weighed-none : (s : List ℕ → Bool) (w : ℕ) → weighed s [] w ≡ settled 0 none
+unfolding weighed effort firstShown
+weighed-none s w = rw (le-leb 0 w (omega arith)) refl
+
+module _ (k : Sets) (t : ℕ) (v : Winding) (w : ℕ) where
+  -- of n terminals, where as many are looked at
+  judged-of : (n : ℕ) → verdictBy (k .near) n v w ≡ verdictBy (k .near) (inSets t) v w
+      → judgedBy k t v w ≡ weighed (shows (v .a) (v .b)) (chainsFor k n v) w
+  unfolding verdictBy
+  judged-of n same =
+      let by : List (List ℕ) → Verdict = λ cs. weighed (shows (v .a) (v .b)) cs w in
+      by-test (shunted k v)
+      (λ is. sym (ap by (chains-none k n v is) ∙ weighed-none _ w ∙ judged-shunted k t v w is))
+      (λ off. sym (ap by (chains-all k n v off) ∙ same ∙ judged-else k t v w off))
+
+  pub judged-weighed : judgedBy k t v w ≡ weighed (shows (v .a) (v .b)) (chainsFor k (inSets t) v) w
+  judged-weighed = judged-of (inSets t) refl
+
+  -- terminals that the sets have are all looked at
+  pub judged-all : t ≤ mostTerminals → judgedBy k t v w ≡ weighed (shows (v .a) (v .b)) (chainsFor k t v) w
+  judged-all few = judged-of t (in-sets-all (k .near) t v w few)
+
+-- what an allowance w settles, every larger one x settles the same way
+pub judged-larger : (k : Sets) (t : ℕ) (v : Winding) (w x : ℕ) → w ≤ x
+    → (judgedBy k t v w .finding ≡ given undecided) ⊎ (judgedBy k t v x ≡ judgedBy k t v w)
+judged-larger k t v w x more =
+    by-test (shunted k v)
+    (λ is. inr (sym (judged-shunted k t v x is) ∙ judged-shunted k t v w is))
+    (λ off. rw (← judged-else k t v w off, ← judged-else k t v x off)
+    (verdict-by-larger (k .near) (inSets t) v w x more))
 
 -- ---- the winding that is judged
 
@@ -113,9 +178,9 @@ module _ (b : Board) (s : State) (r : ℕ) (n : Which) where
       ap (λ (q : Sets). judgedBy q (b .counts .terminals) v w) same ∙ judging-by w (given v) taken
 
   -- all the board's terminals are looked at
-  pub judging-verdict : (w : ℕ) (v : Winding) → windingFor b s r n ≡ given v
-      → verdictBy (neighbours b s) (b .counts .terminals) v w ≡ judging b s r n w
-  judging-verdict w v taken =
-      sym (judged-all (setsOf b s) (b .counts .terminals) v w
-      (fine-range b (winding-for-given v taken .0) .most-terminals))
-      ∙ judging-by w (given v) taken
+  pub judging-weighed : (w : ℕ) (v : Winding) → windingFor b s r n ≡ given v
+      → judging b s r n w ≡ weighed (shows (v .a) (v .b)) (chainsFor (setsOf b s) (b .counts .terminals) v) w
+  judging-weighed w v taken =
+      sym (judging-by w (given v) taken)
+      ∙ judged-all (setsOf b s) (b .counts .terminals) v w
+      (fine-range b (winding-for-given v taken .0) .most-terminals)

@@ -1,7 +1,10 @@
 -- Judging. Rule book, calls: "15, 14, 13, 11, 7, 12, 16, those that apply"; "a refused judgement no verdict, effort 0
--- and length 0".
---     judgedBy k t v w      the verdict on winding v within the allowance w, by the sets k of t terminals: the one way
---                           to judge, which the call, a single move and a run go by
+-- and length 0". Request A4: "a winding is shunted if its two ends are linked through conducting parts none of which is
+-- a winding, over any terminals. A shunted winding is dead with effort 0, so any allowance settles it".
+--     shunted k v           by the sets k, one end of winding v reaches the other over parts that are no winding
+--     judgedBy k t v w      the verdict on winding v within the allowance w, by the sets k: dead with effort 0 if it is
+--                           shunted, else by the chains of t terminals. It is the one way to judge, which the call, a
+--                           single move and a run go by
 --     judgeLines b s r n    the lines of judging winding n of relay r of board b in state s: 15, 14, 11
 --     windingFor b s r n    the winding that is judged, after these
 --     verdictOn b s o w     the verdict on it within the allowance w, or the refusal
@@ -10,9 +13,15 @@
 --                           answers r
 --     Judges b s r n w v    promise: `judge` of winding n of relay r of board b in state s, within the allowance w,
 --                           answers v
+-- What the functions of this crate promise each other:
+--     atOnce f              the finding f without effort, and no chain shown
+-- `judge_means` shows that `shunted` says what the request says, of a board whose counts and parts fit.
 use Prim.Native.Nat.{ℕ}
 use mathlib.Core.Path.{_≡_}
+use mathlib.Core.Bool.{Bool, cond}
 use mathlib.Core.List.{[], _∷_, _++_}
+use mathlib.Core.Option.{none}
+use Rattle.bits.specs.Sets.{member, including}
 use Rattle.refusals.specs.Outcomes.{Outcome, given, refused, _>>_}
 use Rattle.refusals.specs.Refusals.{noSuchWinding}
 use Rattle.refusals.specs.Order.{Order, firstNo}
@@ -22,14 +31,18 @@ use Rattle.state.specs.declared.State.{State}
 use Rattle.state.specs.States.{usableLines}
 use Rattle.neighbours.specs.declared.Sets.{Sets}
 use Rattle.neighbours.specs.Neighbours.{setsOf}
+use Rattle.reach.specs.Floods.{flooded}
 use Rattle.search.specs.declared.Winding.{Winding}
 use Rattle.search.specs.declared.Verdict as code-verdict
-use Rattle.search.specs.Verdicts.{Verdict, verdictBy, inSets, unanswered, toldVerdict}
+use Rattle.search.specs.Verdicts.{Finding, Verdict, settled, verdictBy, places, inSets, unanswered, toldVerdict}
 use Rattle.judge.specs.declared.Which.{Which}
 use Rattle.judge.specs.RelayWindings.{windingOf, isThere, orNoSuchWinding}
 
+unfoldable pub shunted : Sets → Winding → Bool
+shunted k v = member (flooded (k .bare) (including 0 (v .a)) 0) (v .b)
+
 unfoldable pub judgedBy : Sets → ℕ → Winding → ℕ → Verdict
-judgedBy k t v w = verdictBy (k .near) (inSets t) v w
+judgedBy k t v w = cond (shunted k v) (settled 0 none) (verdictBy (k .near) (inSets t) v w)
 
 abbrev pub judgeLines : Board → State → ℕ → Which → Order
 judgeLines b s r n = usableLines b s ++ ((isThere (windingOf n r (partsOf b)), noSuchWinding) ∷ [])
@@ -49,3 +62,6 @@ JudgesBy k t v w r = toldVerdict r ≡ judgedBy k t v w
 
 abbrev pub Judges : Board → State → ℕ → Which → ℕ → code-verdict.Verdict → Type 0
 Judges b s r n w v = toldVerdict v ≡ judging b s r n w
+
+abbrev pub atOnce : Outcome Finding → Verdict
+atOnce f = record { finding = f; effort = 0; length = 0; places = places [] }

@@ -1,11 +1,11 @@
-// A relay's windings, found in one scan of the parts, and judging: a winding by the sets of neighbours, and as a call
-// on any board and state handed in, with refusals 15, 14 and 11.
+// A relay's windings, found in one scan of the parts, and judging: a winding by the sets of neighbours, shunted or by
+// the chains, and as a call on any board and state handed in, with refusals 15, 14 and 11.
 ghost use mathlib.Core.Path.{_≡_};
 ghost use Rattle.board.specs.Sorts.{carries};
-ghost use Rattle.search.specs.Verdicts.{unanswered, toldVerdict};
+ghost use Rattle.search.specs.Verdicts.{toldFinding, toldVerdict};
 ghost use Rattle.judge.specs.RelayWindings.{isFirst, ofRelay, windingNamed, orNoSuchWinding, toldWindings};
 ghost use Rattle.judge.specs.RelayWindings.{toldSeen, seenWith, toldAsked, FindsWindings};
-ghost use Rattle.judge.specs.Judging.{windingFor, JudgesBy, Judges};
+ghost use Rattle.judge.specs.Judging.{shunted, atOnce, windingFor, JudgesBy, Judges};
 use board::Board;
 use board::MOST_PARTS;
 use board::Part;
@@ -159,24 +159,37 @@ fn winding_for(board: Board, state: State, relay: u32, which: Which) -> Asked
     }
 }
 
-// Judges a winding by the sets of neighbours of so many terminals, within the allowance.
-pub fn judge_by(sets: Sets, terminals: u8, winding: Winding, allowance: u32) -> Verdict
-    ensures { λ r. ⌜ JudgesBy sets terminals winding allowance r ⌝ }
+// Whether a winding is shunted: over conducting parts that are no winding, one of its ends reaches the other.
+fn is_shunted(sets: Sets, winding: Winding) -> bool
+    ensures { λ r. ⌜ r ≡ shunted sets winding ⌝ }
 {
-    search::search(&sets.near, terminals, winding, allowance)
+    let end = bits::with(0, bits::wide(winding.a));
+    let reached = reach::flood(&sets.bare, end, 0);
+    bits::has(reached, bits::wide(winding.b))
 }
 
-// A refused judgement: no verdict, effort 0 and length 0.
-fn refuse(refusal: Refusal) -> Verdict
-    ensures { λ r. ⌜ toldVerdict r ≡ unanswered (refusal .number) (refusal .place) ⌝ }
+// A judgement without effort, which shows no chain: that of a shunted winding, and a refused one.
+fn at_once(finding: Finding) -> Verdict
+    ensures { λ r. ⌜ toldVerdict r ≡ atOnce (toldFinding finding) ⌝ }
 {
     let terminals = [0u8; 64];
-    let finding = Finding::Refused(refusal);
     Verdict {
         finding,
         effort: 0,
         length: 0,
         terminals,
+    }
+}
+
+// Judges a winding by the sets of neighbours of so many terminals, within the allowance. A shunted one is dead at every
+// allowance.
+pub fn judge_by(sets: Sets, terminals: u8, winding: Winding, allowance: u32) -> Verdict
+    ensures { λ r. ⌜ JudgesBy sets terminals winding allowance r ⌝ }
+{
+    if is_shunted(sets, winding) {
+        at_once(Finding::Dead)
+    } else {
+        search::search(&sets.near, terminals, winding, allowance)
     }
 }
 
@@ -190,6 +203,6 @@ pub fn judge(board: Board, state: State, relay: u32, which: Which, allowance: u3
             let sets = neighbours::neighbours(board, state);
             judge_by(sets, board.counts.terminals, winding, allowance)
         }
-        Asked::Refused(refusal) => refuse(refusal),
+        Asked::Refused(refusal) => at_once(Finding::Refused(refusal)),
     }
 }

@@ -10,6 +10,8 @@ use mathlib.Core.Option.{none, some, Option·none-ne-some, Option·some-injectiv
 use Rattle.refusals.specs.Outcomes.{Outcome, given, refused}
 use Rattle.refusals.proofs.OutcomeLaws.{refused-never}
 use Rattle.board.specs.declared.Board.{Board}
+use Rattle.board.specs.BreaksNoRule.{BoardFits}
+use Rattle.board.proofs.BreaksNoRule.{fine-fits}
 use Rattle.state.specs.declared.State.{State}
 use Rattle.chains.specs.ChainList.{chains, shows}
 use Rattle.search.specs.declared.Winding.{Winding}
@@ -21,11 +23,13 @@ use Rattle.search.specs.Verdicts.{firstShown, effort}
 use Rattle.search.proofs.VerdictLaws.{effort-some}
 use Rattle.judge.specs.declared.Which.{Which}
 use Rattle.judge.specs.Judging.{windingFor, Judges}
-use Rattle.judge.proofs.JudgeLaws.{judging-by}
+use Rattle.judge.proofs.JudgeLaws.{winding-for-given, judging-by}
+use Rattle.judge_means.specs.Shunts.{Shunted, OnBoard}
 use Rattle.judge_means.specs.Exactness.{Judge, Keeps, effortOf}
 use Rattle.judge_means.specs.Allowances.{Settled, LargerAllowance, TurnsAtEffort, EffortSome}
 use Rattle.judge_means.proofs.Exactness.{liveVerdict, deadVerdict, FindingBy, live-by, dead-by, undecided-by}
-use Rattle.judge_means.proofs.Exactness.{verdict-finding}
+use Rattle.judge_means.proofs.Exactness.{effort-on, effort-of-all, verdict-finding}
+use Rattle.judge_means.proofs.Shunts.{found-on-board}
 
 -- ---- by a list of chains
 
@@ -91,9 +95,11 @@ settled-effort t cs w v this =
     dead-effort (dead-by within first is) = sym (ap (λ (q : Verdict). q .effort) is)
 
 -- plus alone is a chain
-winding-effort-some : (b : Board) (s : State) (e : Winding) → 1 ≤ effortOf b s e
+winding-effort-some : (b : Board) (s : State) (e : Winding) → BoardFits b → OnBoard b e → ¬ (Shunted b s e)
+    → 1 ≤ effortOf b s e
 unfolding chains
-winding-effort-some b s e = effort-some (shows (e .a) (e .b)) _ _
+winding-effort-some b s e fits inside apart =
+    subst (λ (k : ℕ). 1 ≤ k) (sym (effort-of-all b s e fits inside apart)) (effort-some (shows (e .a) (e .b)) _ _)
 
 -- ---- over the call
 
@@ -133,7 +139,10 @@ module _ (J : Judge) (keeps : Keeps J) where
   pub effort-some-always : EffortSome J
   effort-some-always = (
     winding-effort-some,
-    λ b s r n w e v told taken settled.
+    λ b s r n w e v told taken settled apart.
+        let fit = winding-for-given b s r n e taken in
+        let fits = fine-fits b (fit .0) in
         let comes = verdict-finding b s r n w e v (keeps b s r n w v told) taken in
-        subst (λ (k : ℕ). 1 ≤ k) (settled-effort _ _ w v comes settled) (winding-effort-some b s e),
+        subst (λ (k : ℕ). 1 ≤ k) (sym (effort-on b s e) ∙ settled-effort _ _ w v comes settled)
+        (winding-effort-some b s e fits (found-on-board b r n e fits (fit .2)) apart),
   )

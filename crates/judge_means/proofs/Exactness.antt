@@ -6,7 +6,7 @@ use mathlib.Core.Path.{_≡_, refl, sym, ap, subst, _∙_}
 use mathlib.Core.Logic.{_⊎_, _↔_, inl, inr}
 use mathlib.Core.Bool.{Bool, false, false≢true}
 use mathlib.Core.List.{List, [], _∷_, _++_}
-use mathlib.Core.Option.{Option, none, some}
+use mathlib.Core.Option.{Option, none, some, Option·none-ne-some}
 use lib.Dec.{leb}
 use lib.ListN.{length}
 use borrow.Author.Tests.{leb-true, leb-false}
@@ -17,7 +17,7 @@ use Rattle.board.specs.declared.Board.{Board}
 use Rattle.board.specs.BreaksNoRule.{BoardFits}
 use Rattle.board.proofs.BreaksNoRule.{fine-fits}
 use Rattle.state.specs.declared.State.{State}
-use Rattle.neighbours.specs.Neighbours.{Joined, joined, neighbours}
+use Rattle.neighbours.specs.Neighbours.{Joined, joined, neighbours, setsOf}
 use Rattle.neighbours.proofs.JoinedLaws.{joined-part, part-joined}
 use Rattle.chains.specs.Chains.{Before, Sorted, Shows}
 use Rattle.chains.specs.ChainList.{Tested, shows}
@@ -26,22 +26,25 @@ use Rattle.chains.proofs.ChainsCorrect.{chains-correct}
 use Rattle.chains.proofs.ChainsComplete.{chains-complete}
 use Rattle.chains.proofs.ChainsSorted.{chains-sorted, chains-once}
 use Rattle.chains.proofs.ShowsLaws.{shows-true, true-shows}
-use Rattle.judge_means.proofs.Circuits.{live-is-carrying}
 use Rattle.search.specs.declared.Winding.{Winding}
 use Rattle.search.specs.declared.Verdict.{Verdict}
 use Rattle.search.specs.declared.Finding.{Finding}
 use Rattle.search.specs.declared.Finding.the-variants as said
-use Rattle.search.specs.Verdicts.{firstShown, effort, places, settled, weighed, verdictBy, toldVerdict}
+use Rattle.search.specs.Verdicts.{firstShown, effort, places, settled, weighed, toldVerdict}
 use Rattle.search.proofs.VerdictLaws.{weighed-within, weighed-short, FirstAt, first-shown-at, first-shown-some}
 use Rattle.search.proofs.VerdictLaws.{first-shown-none, effort-none, told-verdict-injective}
 use Rattle.judge.specs.declared.Which.{Which}
-use Rattle.judge.specs.Judging.{Judges}
-use Rattle.judge.proofs.JudgeLaws.{winding-for-given, judging-verdict}
+use Rattle.judge.specs.Judging.{shunted, Judges}
+use Rattle.judge.proofs.JudgeLaws.{chainsFor, chains-none, chains-all, effort-nothing, winding-for-given}
+use Rattle.judge.proofs.JudgeLaws.{judging-weighed}
 use Rattle.judge_means.specs.Circuits.{WindingCarries}
-use Rattle.judge_means.specs.Exactness.{Judge, Keeps, AcceptedWinding, chainsOf, ChainOf, IsLive}
+use Rattle.judge_means.specs.Shunts.{Shunted, OnBoard}
+use Rattle.judge_means.specs.Exactness.{Judge, Keeps, AcceptedWinding, chainsOf, ChainOf, IsShown, IsLive}
 use Rattle.judge_means.specs.Exactness.{effortOf, TheChains, FirstShowing, EffortNumbers, OfEveryVerdict}
 use Rattle.judge_means.specs.Exactness.{LiveExactly, DeadExactly, UndecidedExactly, FirstChain, LiveShows}
-use Rattle.judge_means.specs.Exactness.{ShowsNone, DeadCounts, UndecidedReports, AsPublished}
+use Rattle.judge_means.specs.Exactness.{ShowsNone, ShuntedDead, DeadCounts, UndecidedReports, AsPublished}
+use Rattle.judge_means.proofs.Circuits.{live-is-carrying}
+use Rattle.judge_means.proofs.Shunts.{found-on-board, shunted-exactly}
 
 -- ---- the list holds exactly the chains
 
@@ -106,34 +109,84 @@ weighed-finding t cs w v told =
         by-verdict (deadVerdict (effort t cs))
         (told ∙ weighed-within t cs w within ∙ ap (settled (effort t cs)) e) (dead-by within e)
 
+-- ---- over the chains that are gone through for a winding: none, if it is shunted
+
+abbrev pub chainsOn : Board → State → Winding → List (List ℕ)
+chainsOn b s e = chainsFor (setsOf b s) (b .counts .terminals) e
+
+-- the effort is theirs
+pub effort-on : (b : Board) (s : State) (e : Winding)
+    → effort (shows (e .a) (e .b)) (chainsOn b s e) ≡ effortOf b s e
+unfolding effortOf chainsFor
+effort-on b s e =
+    by-test (shunted (setsOf b s) e) (λ is. rw is (effort-nothing (shows (e .a) (e .b)))) (λ off. rw off refl)
+
 pub verdict-finding : (b : Board) (s : State) (r : ℕ) (n : Which) (w : ℕ) (e : Winding) (v : Verdict)
     → Judges b s r n w v → AcceptedWinding b s r n e
-    → FindingBy (shows (e .a) (e .b)) (chainsOf b s) w v (v .finding)
-unfolding verdictBy
-verdict-finding b s r n w e v told taken = weighed-finding _ _ w v (told ∙ sym (judging-verdict b s r n w e taken))
+    → FindingBy (shows (e .a) (e .b)) (chainsOn b s e) w v (v .finding)
+verdict-finding b s r n w e v told taken = weighed-finding _ _ w v (told ∙ judging-weighed b s r n w e taken)
 
 -- ---- live and listed are one, and the effort is a number in the list
 
-module _ (b : Board) (s : State) (e : Winding) (fits : BoardFits b) where
+module _ (b : Board) (s : State) (e : Winding) (fits : BoardFits b) (inside : OnBoard b e) where
   abbrev test : List ℕ → Bool
   test = shows (e .a) (e .b)
 
-  pub listed-live : (c : List ℕ) → firstShown test (chainsOf b s) ≡ some c → IsLive b s e
+  shunted-none : Shunted b s e → chainsOn b s e ≡ []
+  shunted-none is = chains-none (setsOf b s) (b .counts .terminals) e (shunted-exactly b s e fits inside .1 is)
+
+  unshunted-all : ¬ (Shunted b s e) → chainsOn b s e ≡ chainsOf b s
+  unshunted-all apart =
+      by-test (shunted (setsOf b s) e)
+      (λ is. absurd (apart (shunted-exactly b s e fits inside .0 is)))
+      (chains-all (setsOf b s) (b .counts .terminals) e)
+
+  -- a winding is shunted or not
+  by-shunted : {A : Type 0} → (Shunted b s e → A) → (¬ (Shunted b s e) → A) → A
+  by-shunted on off =
+      by-test (shunted (setsOf b s) e)
+      (λ is. on (shunted-exactly b s e fits inside .0 is))
+      (λ apart. off (λ is. false≢true (sym apart ∙ shunted-exactly b s e fits inside .1 is)))
+
+  -- where a chain is shown, the winding is not shunted
+  shown-unshunted : (c : List ℕ) → firstShown test (chainsOn b s e) ≡ some c → ¬ (Shunted b s e)
+  unfolding firstShown
+  shown-unshunted c first is =
+      Option·none-ne-some c (sym (ap (firstShown test) (shunted-none is)) ∙ first)
+
+  first-of-all : (o : Option (List ℕ)) → ¬ (Shunted b s e) → firstShown test (chainsOn b s e) ≡ o
+      → firstShown test (chainsOf b s) ≡ o
+  first-of-all o apart first = sym (ap (firstShown test) (unshunted-all apart)) ∙ first
+
+  pub effort-of-all : ¬ (Shunted b s e) → effortOf b s e ≡ effort test (chainsOf b s)
+  effort-of-all apart = sym (effort-on b s e) ∙ ap (effort test) (unshunted-all apart)
+
+  effort-shunted : Shunted b s e → effortOf b s e ≡ 0
+  effort-shunted is = sym (effort-on b s e) ∙ ap (effort test) (shunted-none is) ∙ effort-nothing test
+
+  pub listed-live : (c : List ℕ) → firstShown test (chainsOn b s e) ≡ some c → IsLive b s e
   listed-live c first =
-      let shown = first-shown-some test (chainsOf b s) c first in
-      record {
-        chain = c;
-        is-chain = listed-chain b s c fits (shown .0);
-        showing = shows-true (e .a) (e .b) c (shown .1);
-      }
+      let apart = shown-unshunted c first in
+      let shown = first-shown-some test (chainsOf b s) c (first-of-all (some c) apart first) in (
+        record {
+          chain = c;
+          is-chain = listed-chain b s c fits (shown .0);
+          showing = shows-true (e .a) (e .b) c (shown .1);
+        },
+        apart,
+      )
 
-  pub unlisted-dead : firstShown test (chainsOf b s) ≡ none → ¬ (IsLive b s e)
-  unlisted-dead first live =
+  unlisted-unshown : firstShown test (chainsOf b s) ≡ none → ¬ (IsShown b s e)
+  unlisted-unshown first shown =
       false≢true
-      (sym (first-shown-none test (chainsOf b s) first (live .chain) (chain-listed b s (live .chain) fits
-      (live .is-chain))) ∙ true-shows (e .a) (e .b) (live .chain) (live .showing))
+      (sym (first-shown-none test (chainsOf b s) first (shown .chain) (chain-listed b s (shown .chain) fits
+      (shown .is-chain))) ∙ true-shows (e .a) (e .b) (shown .chain) (shown .showing))
 
-  first-numbered : (c : List ℕ) (k : ℕ) → k ≡ effortOf b s e → FirstAt test (chainsOf b s) c → FirstShowing b s e k
+  pub unlisted-dead : firstShown test (chainsOn b s e) ≡ none → ¬ (IsLive b s e)
+  unlisted-dead first live = unlisted-unshown (first-of-all none (live .1) first) (live .0)
+
+  first-numbered : (c : List ℕ) (k : ℕ) → k ≡ effort test (chainsOf b s) → FirstAt test (chainsOf b s) c
+      → FirstShowing b s e k
   first-numbered c k is at =
       record {
         early = at .early;
@@ -149,16 +202,20 @@ module _ (b : Board) (s : State) (e : Winding) (fits : BoardFits b) where
   -- by the first chain shown, if one is
   effort-numbered : (o : Option (List ℕ)) → firstShown test (chainsOf b s) ≡ o
       → (IsLive b s e → FirstShowing b s e (effortOf b s e))
-      × (¬ (IsLive b s e) → effortOf b s e ≡ length (chainsOf b s))
+      × (¬ (Shunted b s e) → ¬ (IsShown b s e) → effortOf b s e ≡ length (chainsOf b s))
   effort-numbered (some c) first = (
-    λ live. first-numbered c (effortOf b s e) refl (first-shown-at test (chainsOf b s) c first),
-    λ dead. absurd (dead (listed-live c first)),
+    λ live. first-numbered c (effortOf b s e) (effort-of-all (live .1)) (first-shown-at test (chainsOf b s) c first),
+    λ apart unshown. absurd (unshown (listed-live c (ap (firstShown test) (unshunted-all apart) ∙ first) .0)),
   )
-  effort-numbered none first =
-      (λ live. absurd (unlisted-dead first live), λ dead. effort-none test (chainsOf b s) first)
+  effort-numbered none first = (
+    λ live. absurd (unlisted-unshown first (live .0)),
+    λ apart unshown. effort-of-all apart ∙ effort-none test (chainsOf b s) first,
+  )
 
 pub effort-numbers : EffortNumbers
-effort-numbers b s e fits = effort-numbered b s e fits (firstShown _ _) refl
+effort-numbers b s e fits inside =
+    let numbered = effort-numbered b s e fits inside (firstShown _ _) refl in
+    (effort-shunted b s e fits inside, numbered .0, numbered .1)
 
 -- ---- what stands after a chain in the list comes after it
 
@@ -173,8 +230,11 @@ module _ (b : Board) (s : State) (r : ℕ) (n : Which) (w : ℕ) (e : Winding) (
   fits : BoardFits b
   fits = fine-fits b (winding-for-given b s r n e taken .0)
 
+  inside : OnBoard b e
+  inside = found-on-board b r n e fits (winding-for-given b s r n e taken .2)
+
   abbrev ComesTo : Finding → Type 0
-  ComesTo f = FindingBy (shows (e .a) (e .b)) (chainsOf b s) w v f
+  ComesTo f = FindingBy (shows (e .a) (e .b)) (chainsOn b s e) w v f
 
   comes-to : ComesTo (v .finding)
   comes-to = verdict-finding b s r n w e v told taken
@@ -182,37 +242,66 @@ module _ (b : Board) (s : State) (r : ℕ) (n : Which) (w : ℕ) (e : Winding) (
   comes-to-this : (f : Finding) → v .finding ≡ f → ComesTo f
   comes-to-this f h = subst ComesTo h comes-to
 
+  -- the effort that is weighed
+  weighs : effort (shows (e .a) (e .b)) (chainsOn b s e) ≡ effortOf b s e
+  weighs = effort-on b s e
+
   its-live : v .finding ≡ said.Live ↔ IsLive b s e × (effortOf b s e ≤ w)
   its-live = (λ h. there (comes-to-this said.Live h), back (v .finding) comes-to)
     where
       there : ComesTo said.Live → IsLive b s e × (effortOf b s e ≤ w)
-      there (live-by c within first is) = (listed-live b s e fits c first, within)
+      there (live-by c within first is) = (listed-live b s e fits inside c first, omega (arith, weighs, within))
 
       back : (f : Finding) → ComesTo f → IsLive b s e × (effortOf b s e ≤ w) → f ≡ said.Live
       back said.Live (live-by c within first is) h = refl
-      back said.Dead (dead-by within first is) h = absurd (unlisted-dead b s e fits first (h .0))
-      back said.Undecided (undecided-by short is) h = absurd (omega (arith, short, h .1))
+      back said.Dead (dead-by within first is) h = absurd (unlisted-dead b s e fits inside first (h .0))
+      back said.Undecided (undecided-by short is) h = absurd (omega (arith, weighs, short, h .1))
 
-  its-dead : v .finding ≡ said.Dead ↔ ¬ (IsLive b s e) × (effortOf b s e ≤ w)
-  its-dead = (λ h. there (comes-to-this said.Dead h), back (v .finding) comes-to)
+  -- within the allowance what is not live is dead
+  its-not-live : v .finding ≡ said.Dead ↔ ¬ (IsLive b s e) × (effortOf b s e ≤ w)
+  its-not-live = (λ h. there (comes-to-this said.Dead h), back (v .finding) comes-to)
     where
       there : ComesTo said.Dead → ¬ (IsLive b s e) × (effortOf b s e ≤ w)
-      there (dead-by within first is) = (unlisted-dead b s e fits first, within)
+      there (dead-by within first is) = (unlisted-dead b s e fits inside first, omega (arith, weighs, within))
 
       back : (f : Finding) → ComesTo f → ¬ (IsLive b s e) × (effortOf b s e ≤ w) → f ≡ said.Dead
-      back said.Live (live-by c within first is) h = absurd (h .0 (listed-live b s e fits c first))
+      back said.Live (live-by c within first is) h = absurd (h .0 (listed-live b s e fits inside c first))
       back said.Dead (dead-by within first is) h = refl
-      back said.Undecided (undecided-by short is) h = absurd (omega (arith, short, h .1))
+      back said.Undecided (undecided-by short is) h = absurd (omega (arith, weighs, short, h .1))
+
+  its-shunted : Shunted b s e → v .finding ≡ said.Dead
+  its-shunted is =
+      its-not-live .1 (λ live. live .1 is, omega (arith, effort-shunted b s e fits inside is))
+
+  its-dead : v .finding ≡ said.Dead ↔ Shunted b s e ⊎ (¬ (IsShown b s e) × (length (chainsOf b s) ≤ w))
+  its-dead = (there, back)
+    where
+      all-counted : ¬ (Shunted b s e) → ¬ (IsShown b s e) → effortOf b s e ≡ length (chainsOf b s)
+      all-counted = effort-numbers b s e fits inside .2
+
+      there : v .finding ≡ said.Dead → Shunted b s e ⊎ (¬ (IsShown b s e) × (length (chainsOf b s) ≤ w))
+      there h =
+          by-shunted b s e fits inside inl
+          (λ apart.
+          let so = its-not-live .0 h in
+          let unshown : ¬ (IsShown b s e) = λ shown. so .0 (shown, apart) in
+          inr (unshown, omega (arith, so .1, all-counted apart unshown)))
+
+      back : Shunted b s e ⊎ (¬ (IsShown b s e) × (length (chainsOf b s) ≤ w)) → v .finding ≡ said.Dead
+      back (inl is) = its-shunted is
+      back (inr (unshown, within)) =
+          by-shunted b s e fits inside its-shunted
+          (λ apart. its-not-live .1 (λ live. unshown (live .0), omega (arith, within, all-counted apart unshown)))
 
   its-undecided : v .finding ≡ said.Undecided ↔ w < effortOf b s e
   its-undecided = (λ h. there (comes-to-this said.Undecided h), back (v .finding) comes-to)
     where
       there : ComesTo said.Undecided → w < effortOf b s e
-      there (undecided-by short is) = short
+      there (undecided-by short is) = omega (arith, weighs, short)
 
       back : (f : Finding) → ComesTo f → w < effortOf b s e → f ≡ said.Undecided
-      back said.Live (live-by c within first is) short = absurd (omega (arith, short, within))
-      back said.Dead (dead-by within first is) short = absurd (omega (arith, short, within))
+      back said.Live (live-by c within first is) short = absurd (omega (arith, weighs, short, within))
+      back said.Dead (dead-by within first is) short = absurd (omega (arith, weighs, short, within))
       back said.Undecided (undecided-by under is) short = refl
 
   -- of a chain that shows the winding: it is the first shown, or stands after it in the list
@@ -242,24 +331,39 @@ module _ (b : Board) (s : State) (r : ℕ) (n : Which) (w : ℕ) (e : Winding) (
     where
       shown-by : ComesTo said.Live → FirstChain b s e v
       shown-by (live-by c within first is) =
-          let at = first-shown-at (shows (e .a) (e .b)) (chainsOf b s) c first in
+          let apart = listed-live b s e fits inside c first .1 in
+          let of-all = first-of-all b s e fits inside (some c) apart first in
+          let at = first-shown-at (shows (e .a) (e .b)) (chainsOf b s) c of-all in
           record {
-            numbered = first-numbered b s e fits c (v .effort) (ap (λ (u : Verdict). u .effort) is) at;
+            numbered = first-numbered b s e fits inside c (v .effort)
+                (ap (λ (u : Verdict). u .effort) is ∙ weighs ∙ effort-of-all b s e fits inside apart) at;
             its-length = ap (λ (u : Verdict). u .length) is;
             its-places = ap (λ (u : Verdict). u .terminals) is;
             is-chain =
-                listed-chain b s c fits (first-shown-some (shows (e .a) (e .b)) (chainsOf b s) c first .0);
+                listed-chain b s c fits (first-shown-some (shows (e .a) (e .b)) (chainsOf b s) c of-all .0);
             first = λ d chain shown. shown-later c d at chain shown;
           }
 
-  its-count : v .finding ≡ said.Dead → (v .effort ≡ length (chainsOf b s)) × ShowsNone v
-  its-count h = counted-by (comes-to-this said.Dead h)
+  -- dead reports the effort, and no chain
+  its-dead-report : v .finding ≡ said.Dead → (v .effort ≡ effortOf b s e) × ShowsNone v
+  its-dead-report h = counted-by (comes-to-this said.Dead h)
     where
-      counted-by : ComesTo said.Dead → (v .effort ≡ length (chainsOf b s)) × ShowsNone v
+      counted-by : ComesTo said.Dead → (v .effort ≡ effortOf b s e) × ShowsNone v
       counted-by (dead-by within first is) = (
-        ap (λ (u : Verdict). u .effort) is ∙ effort-none (shows (e .a) (e .b)) (chainsOf b s) first,
+        ap (λ (u : Verdict). u .effort) is ∙ weighs,
         (ap (λ (u : Verdict). u .length) is, ap (λ (u : Verdict). u .terminals) is),
       )
+
+  its-shunted-dead : Shunted b s e → (v .finding ≡ said.Dead) × (v .effort ≡ 0) × ShowsNone v
+  its-shunted-dead is =
+      let report = its-dead-report (its-shunted is) in
+      (its-shunted is, report .0 ∙ effort-shunted b s e fits inside is, report .1)
+
+  its-count : v .finding ≡ said.Dead → ¬ (Shunted b s e) → (v .effort ≡ length (chainsOf b s)) × ShowsNone v
+  its-count h apart =
+      let report = its-dead-report h in
+      let unshown : ¬ (IsShown b s e) = λ shown. its-not-live .0 h .0 (shown, apart) in
+      (report .0 ∙ effort-numbers b s e fits inside .2 apart unshown, report .1)
 
   its-report : v .finding ≡ said.Undecided → (v .effort ≡ w) × ShowsNone v
   its-report h = reported-by (comes-to-this said.Undecided h)
@@ -271,17 +375,18 @@ module _ (b : Board) (s : State) (r : ℕ) (n : Which) (w : ℕ) (e : Winding) (
       )
 
   -- live and dead by the published model's current
-  its-current : (v .finding ≡ said.Live ↔ WindingCarries b s (e .a) (e .b) × (effortOf b s e ≤ w))
+  its-current : ¬ (Shunted b s e)
+      → (v .finding ≡ said.Live ↔ WindingCarries b s (e .a) (e .b) × (effortOf b s e ≤ w))
       × (v .finding ≡ said.Dead ↔ ¬ (WindingCarries b s (e .a) (e .b)) × (effortOf b s e ≤ w))
-  its-current =
+  its-current apart =
       let agree = live-is-carrying b s (e .a) (e .b) fits in (
         (
-          λ live. let so = its-live .0 live in (agree .0 (so .0), so .1),
-          λ so. its-live .1 (agree .1 (so .0), so .1),
+          λ live. let so = its-live .0 live in (agree .0 (so .0 .0), so .1),
+          λ so. its-live .1 ((agree .1 (so .0), apart), so .1),
         ),
         (
-          λ dead. let so = its-dead .0 dead in (λ carries. so .0 (agree .1 carries), so .1),
-          λ so. its-dead .1 (λ live. so .0 (agree .0 live), so .1),
+          λ dead. let so = its-not-live .0 dead in (λ carries. so .0 (agree .1 carries, apart), so .1),
+          λ so. its-not-live .1 (λ live. so .0 (agree .0 (live .0)), so .1),
         ),
       )
 
@@ -306,6 +411,9 @@ module _ (J : Judge) (keeps : Keeps J) where
 
   pub live-shows : LiveShows J
   live-shows = kept _ its-first-chain
+
+  pub shunted-dead : ShuntedDead J
+  shunted-dead = kept _ its-shunted-dead
 
   pub dead-counts : DeadCounts J
   dead-counts = kept _ its-count

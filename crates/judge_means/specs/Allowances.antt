@@ -5,16 +5,19 @@
 --     LargerAllowance J    what an allowance settles, every larger one settles the same way, with the same effort and
 --                          the same chain
 --     TurnsAtEffort J      the verdict turns at the effort: settled the same way from it on, undecided below it
---     EffortSome J         "So effort is at least 1": that of every winding, and that reported with live and dead
+--     EffortSome J         "So effort is at least 1", of a winding that is not shunted: its own, and that reported with
+--                          live and dead
 use Prim.Native.Nat.{ℕ, _<_, _≤_}
 use mathlib.Core.Path.{_≡_}
 use mathlib.Core.Logic.{_⊎_}
 use Rattle.board.specs.declared.Board.{Board}
+use Rattle.board.specs.BreaksNoRule.{BoardFits}
 use Rattle.state.specs.declared.State.{State}
 use Rattle.search.specs.declared.Winding.{Winding}
 use Rattle.search.specs.declared.Verdict.{Verdict}
 use Rattle.search.specs.declared.Finding.the-variants as said
 use Rattle.judge.specs.declared.Which.{Which}
+use Rattle.judge_means.specs.Shunts.{Shunted, OnBoard}
 use Rattle.judge_means.specs.Exactness.{Judge, effortOf, OfEveryVerdict}
 
 abbrev pub Settled : Verdict → Type 0
@@ -39,5 +42,9 @@ TurnsAtEffort J =
 
 abbrev pub EffortSome : Judge → Type 0
 EffortSome J =
-    ((b : Board) (s : State) (e : Winding) → 1 ≤ effortOf b s e)
-    × (OfEveryVerdict J λ b s w e v. Settled v → 1 ≤ v .effort)
+    ((b : Board) (s : State) (e : Winding)
+    → BoardFits b
+    → OnBoard b e
+    → ¬ (Shunted b s e)
+    → 1 ≤ effortOf b s e)
+    × (OfEveryVerdict J λ b s w e v. Settled v → ¬ (Shunted b s e) → 1 ≤ v .effort)

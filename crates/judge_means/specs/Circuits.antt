@@ -16,7 +16,7 @@
 --     WindingCarries b s x y          one of the connections of a winding between x and y is current carrying
 -- Agreement, of a board whose counts and parts fit (`proofs/Circuits.antt`):
 --     PathsAreChains    the available paths from pos to neg are exactly our chains that end at 1
---     LiveIsCarrying    a winding is live, by our chains, exactly if one of its connections is current carrying
+--     LiveIsCarrying    some chain of ours shows a winding exactly if one of its connections is current carrying
 use Prim.Native.Nat.{ℕ, _+_, _-_, _<_, _≤_}
 use mathlib.Core.Path.{_≡_}
 use mathlib.Core.Logic.{_⊎_, _↔_}

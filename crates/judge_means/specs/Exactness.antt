@@ -1,8 +1,10 @@
 -- What live, dead and undecided mean, stated of any judge, and proved of each that keeps the promise of the call
 -- `judge::judge`. Demand 3: "Number the chains from plus in the order of our rule book. A winding is called live
 -- exactly when the first chain that shows it lies within the allowance, dead exactly when there is none and all chains
--- lie within it, otherwise undecided." Rule book: "Live, with the first such chain shown, exactly if the winding is
--- live and its effort is at most W. Dead exactly if it is dead and its effort is at most W. Undecided otherwise."
+-- lie within it, otherwise undecided." Request A4: "In demands 2 and 3 "live" means live and not shunted, effort may be
+-- 0, and a shunted winding is called dead at every allowance, however many chains there are." Rule book: "Live, with
+-- the first such chain shown, exactly if the winding is live and its effort is at most W. Dead exactly if it is dead
+-- and its effort is at most W. Undecided otherwise."
 --     Judge                        which verdicts a judge can answer on a board, a state, a winding of a relay and an
 --                                  allowance
 --     Keeps J                      the judge J answers nothing that the promise of `judge` does not allow
@@ -11,28 +13,33 @@
 --     ChainOf b s c                c is a chain of board b in state s
 --     AllChains b s                that list holds exactly the rule book's chains, in dictionary order, each once
 --     TheChains                    so it is of every board whose counts and parts fit
---     IsLive b s e                 "A winding between a and b is live if some chain ends at 1 and has a and b side by
---                                  side, in either order"
---     effortOf b s e               its effort
+--     IsShown b s e                "some chain ends at 1 and has a and b side by side, in either order": a chain shows
+--                                  winding e
+--     IsLive b s e                 a chain shows winding e, and it is not shunted
+--     effortOf b s e               its effort: 0 of a shunted one
 --     FirstShowing b s e k         number k, counted from 1, is that of the first chain that shows winding e
---     EffortNumbers                the effort in the demand's words: of a live winding the number of the first chain
---                                  that shows it, of any other the number of all chains
+--     EffortNumbers                the effort in the demand's words, of a winding on the board: of a shunted one 0, of
+--                                  a live one the number of the first chain that shows it, of any other the number of
+--                                  all chains
 --     OfEveryVerdict J P           P holds of every verdict v of J, within the allowance w, on a winding e that is
 --                                  judged
---     LiveExactly J                "Live .. exactly if"
---     DeadExactly J                "Dead exactly if"
---     UndecidedExactly J           "Undecided otherwise"
+--     LiveExactly J                live exactly if it is so and its effort is at most W
+--     DeadExactly J                dead exactly if it is shunted, or no chain shows it and all chains lie within W
+--     UndecidedExactly J           undecided exactly if its effort is larger than W
 --     FirstChain b s e v           v shows the first chain that shows winding e, before every other one in the rule
 --                                  book's order, and its effort is that chain's number
 --     LiveShows J                  so it is of a live verdict
 --     ShowsNone v                  v shows no chain
---     DeadCounts J                 dead reports the number of all chains, and no chain
+--     ShuntedDead J                a shunted winding is called dead with effort 0, whatever the allowance, the chains
+--                                  and document 000 say
+--     DeadCounts J                 of any other, dead reports the number of all chains, and no chain
 --     UndecidedReports J           undecided reports W, and no chain
---     AsPublished J                live is exactly what document 000 calls current carrying, dead exactly that it is
---                                  not, where the effort is within the allowance
+--     AsPublished J                of a winding that is not shunted, live is exactly what document 000 calls current
+--                                  carrying, dead exactly that it is not, where the effort is within the allowance
 use Prim.Native.Nat.{ℕ, _+_, _<_, _≤_}
 use mathlib.Core.Path.{_≡_}
 use mathlib.Core.Logic.{_⊎_, _↔_}
+use mathlib.Core.Bool.{cond}
 use mathlib.Core.List.{List, [], _∷_, _++_}
 use lib.ListN.{length}
 use Rattle.lists.specs.Members.{_∈_, All, Once}
@@ -40,16 +47,17 @@ use Rattle.refusals.specs.Outcomes.{given}
 use Rattle.board.specs.declared.Board.{Board}
 use Rattle.board.specs.BreaksNoRule.{BoardFits}
 use Rattle.state.specs.declared.State.{State}
-use Rattle.neighbours.specs.Neighbours.{Joined, joined, neighbours}
+use Rattle.neighbours.specs.Neighbours.{Joined, joined, neighbours, setsOf}
 use Rattle.chains.specs.Chains.{IsChain, Before, Sorted, Shows, Live}
 use Rattle.chains.specs.ChainList.{chains, shows}
-use Rattle.judge_means.specs.Circuits.{WindingCarries}
 use Rattle.search.specs.declared.Winding.{Winding}
 use Rattle.search.specs.declared.Verdict.{Verdict}
 use Rattle.search.specs.declared.Finding.the-variants as said
 use Rattle.search.specs.Verdicts.{effort, places}
 use Rattle.judge.specs.declared.Which.{Which}
-use Rattle.judge.specs.Judging.{windingFor, Judges}
+use Rattle.judge.specs.Judging.{shunted, windingFor, Judges}
+use Rattle.judge_means.specs.Circuits.{WindingCarries}
+use Rattle.judge_means.specs.Shunts.{Shunted, OnBoard}
 
 abbrev pub Judge : Type 1
 Judge = Board → State → ℕ → Which → ℕ → Verdict → Type 0
@@ -66,11 +74,14 @@ chainsOf b s = chains (joined (neighbours b s)) (b .counts .terminals)
 abbrev pub ChainOf : Board → State → List ℕ → Type 0
 ChainOf b s c = IsChain (Joined b s) (b .counts .terminals) c
 
-abbrev pub IsLive : Board → State → Winding → Type 0
-IsLive b s e = Live (Joined b s) (b .counts .terminals) (e .a) (e .b)
+abbrev pub IsShown : Board → State → Winding → Type 0
+IsShown b s e = Live (Joined b s) (b .counts .terminals) (e .a) (e .b)
 
-abbrev pub effortOf : Board → State → Winding → ℕ
-effortOf b s e = effort (shows (e .a) (e .b)) (chainsOf b s)
+abbrev pub IsLive : Board → State → Winding → Type 0
+IsLive b s e = IsShown b s e × ¬ (Shunted b s e)
+
+unfoldable pub effortOf : Board → State → Winding → ℕ
+effortOf b s e = cond (shunted (setsOf b s) e) 0 (effort (shows (e .a) (e .b)) (chainsOf b s))
 
 pub record AllChains (b : Board) (s : State) : Type 0 where
   pub exactly : (c : List ℕ) → c ∈ chainsOf b s ↔ ChainOf b s c
@@ -93,8 +104,10 @@ abbrev pub EffortNumbers : Type 0
 EffortNumbers =
     (b : Board) (s : State) (e : Winding)
     → BoardFits b
-    → (IsLive b s e → FirstShowing b s e (effortOf b s e))
-    × (¬ (IsLive b s e) → effortOf b s e ≡ length (chainsOf b s))
+    → OnBoard b e
+    → (Shunted b s e → effortOf b s e ≡ 0)
+    × (IsLive b s e → FirstShowing b s e (effortOf b s e))
+    × (¬ (Shunted b s e) → ¬ (IsShown b s e) → effortOf b s e ≡ length (chainsOf b s))
 
 abbrev pub OfEveryVerdict : Judge → (Board → State → ℕ → Winding → Verdict → Type 0) → Type 0
 OfEveryVerdict J P =
@@ -107,7 +120,9 @@ abbrev pub LiveExactly : Judge → Type 0
 LiveExactly J = OfEveryVerdict J λ b s w e v. v .finding ≡ said.Live ↔ IsLive b s e × (effortOf b s e ≤ w)
 
 abbrev pub DeadExactly : Judge → Type 0
-DeadExactly J = OfEveryVerdict J λ b s w e v. v .finding ≡ said.Dead ↔ ¬ (IsLive b s e) × (effortOf b s e ≤ w)
+DeadExactly J =
+    OfEveryVerdict J λ b s w e v.
+    v .finding ≡ said.Dead ↔ Shunted b s e ⊎ (¬ (IsShown b s e) × (length (chainsOf b s) ≤ w))
 
 abbrev pub UndecidedExactly : Judge → Type 0
 UndecidedExactly J = OfEveryVerdict J λ b s w e v. v .finding ≡ said.Undecided ↔ w < effortOf b s e
@@ -125,9 +140,15 @@ LiveShows J = OfEveryVerdict J λ b s w e v. v .finding ≡ said.Live → FirstC
 abbrev pub ShowsNone : Verdict → Type 0
 ShowsNone v = (v .length ≡ 0) × (v .terminals ≡ places [])
 
+abbrev pub ShuntedDead : Judge → Type 0
+ShuntedDead J =
+    OfEveryVerdict J λ b s w e v.
+    Shunted b s e → (v .finding ≡ said.Dead) × (v .effort ≡ 0) × ShowsNone v
+
 abbrev pub DeadCounts : Judge → Type 0
 DeadCounts J =
-    OfEveryVerdict J λ b s w e v. v .finding ≡ said.Dead → (v .effort ≡ length (chainsOf b s)) × ShowsNone v
+    OfEveryVerdict J λ b s w e v.
+    v .finding ≡ said.Dead → ¬ (Shunted b s e) → (v .effort ≡ length (chainsOf b s)) × ShowsNone v
 
 abbrev pub UndecidedReports : Judge → Type 0
 UndecidedReports J = OfEveryVerdict J λ b s w e v. v .finding ≡ said.Undecided → (v .effort ≡ w) × ShowsNone v
@@ -135,5 +156,6 @@ UndecidedReports J = OfEveryVerdict J λ b s w e v. v .finding ≡ said.Undecide
 abbrev pub AsPublished : Judge → Type 0
 AsPublished J =
     OfEveryVerdict J λ b s w e v.
-    (v .finding ≡ said.Live ↔ WindingCarries b s (e .a) (e .b) × (effortOf b s e ≤ w))
+    ¬ (Shunted b s e)
+    → (v .finding ≡ said.Live ↔ WindingCarries b s (e .a) (e .b) × (effortOf b s e ≤ w))
     × (v .finding ≡ said.Dead ↔ ¬ (WindingCarries b s (e .a) (e .b)) × (effortOf b s e ≤ w))

@@ -18,16 +18,15 @@ use Rattle.neighbours.specs.declared.Sets.{Sets}
 use Rattle.neighbours.specs.Neighbours.{setsOf}
 use Rattle.search.specs.declared.Winding.{Winding}
 use Rattle.search.specs.Verdicts as verdict
-use Rattle.search.proofs.VerdictLaws.{verdict-by-larger}
 use Rattle.judge.specs.declared.Which.{Which}
 use Rattle.judge.specs.declared.Which.the-variants.{First, Second}
 use Rattle.judge.specs.declared.Windings.{Windings}
 use Rattle.judge.specs.declared.Windings.the-variants as found
 use Rattle.judge.specs.RelayWindings.{OfRelay, regular, steel, absent, windingOf, windingsAt, windingNamed}
 use Rattle.judge.specs.RelayWindings.{toldWindings, FindsWindings}
-use Rattle.judge.specs.Judging.{judgedBy, judging}
+use Rattle.judge.specs.Judging.{judging}
 use Rattle.judge.proofs.WoundLaws.{windings-named}
-use Rattle.judge.proofs.JudgeLaws.{winding-for-sought, judging-given}
+use Rattle.judge.proofs.JudgeLaws.{judged-larger, winding-for-sought, judging-given}
 use Rattle.moves.specs.Steps.{Move, drew, dropped, rests, undecided, conflict, decide, findingsBy, findingOn}
 use Rattle.moves.specs.Steps.{findingsOn, stepBy, stepOf, made}
 use Rattle.moves.proofs.MoveLaws.{decide-larger}
@@ -110,10 +109,9 @@ module _ (b : Board) (w : ℕ) (s : State) (r : ℕ) (fine : boardFine b ≡ tru
 -- a larger allowance x changes no finding but undecided
 finding-larger : (k : Sets) (b : Board) (w x : ℕ) → w ≤ x → (v : Winding)
     → (findingOn k b w v ≡ given verdict.undecided) ⊎ (findingOn k b x v ≡ findingOn k b w v)
-unfolding judgedBy
 finding-larger k b w x more v =
     ⊎-elim inl (λ same. inr (ap (λ (j : verdict.Verdict). j .finding) same))
-    (verdict-by-larger (k .near) _ v w x more)
+    (judged-larger k (b .counts .terminals) v w x more)
 
 -- a step that is not undecided is the same at every larger allowance x
 pub step-larger : (b : Board) (w x : ℕ) (s : State) (r : ℕ) → w ≤ x → (stepOf b s r w ≡ undecided)

@@ -14,7 +14,6 @@ use Rattle.board.specs.BreaksNoRule.{BoardFits}
 use Rattle.board.proofs.BreaksNoRule.{fine-fits}
 use Rattle.state.specs.declared.State.{State}
 use Rattle.state.specs.States.{isDrawn}
-use Rattle.judge_means.proofs.Circuits.{live-is-carrying}
 use Rattle.search.specs.declared.Winding.{Winding}
 use Rattle.search.specs.Verdicts as verdict
 use Rattle.judge.specs.declared.Which.{Which}
@@ -28,7 +27,7 @@ use Rattle.moves_means.specs.Guards.{CurrentThrough}
 use Rattle.moves_means.specs.SingleMoves.{NeedsMore, Comes}
 use Rattle.moves_means.specs.ByChains.{Undecided, Decided, RegularComes, SteelComes, RegularByChains}
 use Rattle.moves_means.specs.ByChains.{SteelByChains}
-use Rattle.moves_means.proofs.CurrentLaws.{through-carries, carries-through}
+use Rattle.moves_means.proofs.CurrentLaws.{live-current}
 use Rattle.moves_means.proofs.ComesLaws.{regular-guard, steel-guard, regular-one, regular-drew, regular-dropped}
 use Rattle.moves_means.proofs.ComesLaws.{regular-held, regular-rested, steel-drew, steel-dropped, steel-held}
 use Rattle.moves_means.proofs.ComesLaws.{steel-rested}
@@ -39,13 +38,6 @@ module _ (b : Board) (w : ℕ) (s : State) (r : ℕ) (fits : BoardFits b) (below
   -- ---- winding n of relay r is e
 
   module _ (n : Which) (e : Winding) (its : ItsWinding b r n e) where
-    live-current : IsLive b s e ↔ CurrentThrough b s r n
-    live-current =
-        let agree = live-is-carrying b s (e .a) (e .b) fits in (
-          λ live. carries-through b s r n e its (agree .0 live),
-          λ current. agree .1 (through-carries b s r n e its current),
-        )
-
     undecided-needs : Undecided b s e w → NeedsMore b s r w
     undecided-needs more = record { which = n; winding = e; its-winding = its; more = more }
 
@@ -72,7 +64,7 @@ module _ (b : Board) (w : ℕ) (s : State) (r : ℕ) (fits : BoardFits b) (below
     regular-enough decided needs = omega (arith, decided, regular-undecided needs)
 
     through : IsLive b s e ↔ CurrentThrough b s r First
-    through = live-current First e first
+    through = live-current b s r First e first fits
 
     -- one that is decided and not without current is live
     decided-live : (x : verdict.Finding) → FindingSays b s r First x w → ¬ (NeedsMore b s r w)
@@ -133,10 +125,10 @@ module _ (b : Board) (w : ℕ) (s : State) (r : ℕ) (fits : BoardFits b) (below
         either (inr more) = omega (arith, dropping, more)
 
     draws : IsLive b s e ↔ CurrentThrough b s r First
-    draws = live-current First e first
+    draws = live-current b s r First e first fits
 
     drops : IsLive b s f ↔ CurrentThrough b s r Second
-    drops = live-current Second f second
+    drops = live-current b s r Second f second fits
 
     steel-chains : (m : Move) → Comes b s r m w → SteelComes b s r e f m w
     steel-chains undecided needs = steel-undecided needs

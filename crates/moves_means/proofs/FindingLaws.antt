@@ -4,7 +4,9 @@
 --     FindingSays b s r n x w    what the finding x says of it
 --     HasFinding b s r n w       the relay has that winding, the finding on it, and what it says is so
 use Prim.Native.Nat.{ℕ, _≤_}
+use native.Mathlib.Omega.{arith}
 use mathlib.Core.Path.{_≡_, refl, ap, subst, _∙_}
+use mathlib.Core.Bool.{Bool}
 use mathlib.Core.List.{List}
 use mathlib.Core.Option.{Option, none, some}
 use lib.Dec.{leb}
@@ -19,7 +21,7 @@ use Rattle.state.specs.declared.State.{State}
 use Rattle.neighbours.specs.Neighbours.{setsOf}
 use Rattle.chains.specs.ChainList.{shows}
 use Rattle.search.specs.declared.Winding.{Winding}
-use Rattle.search.specs.Verdicts.{Verdict, Finding, live, dead, undecided, firstShown, settled, weighed, verdictBy}
+use Rattle.search.specs.Verdicts.{Verdict, Finding, live, dead, undecided, firstShown, effort, settled, weighed}
 use Rattle.search.proofs.VerdictLaws.{weighed-within, weighed-short}
 use Rattle.judge.specs.declared.Which.{Which}
 use Rattle.judge.specs.declared.Which.the-variants.{First, Second}
@@ -27,15 +29,14 @@ use Rattle.judge.specs.RelayWindings as wound
 use Rattle.judge.specs.RelayWindings.{windingsAt}
 use Rattle.judge.proofs.WoundLaws.{regular-second, counted-missing}
 use Rattle.judge.proofs.JudgeLaws.{judged-all}
-use Rattle.judge_means.specs.Exactness.{chainsOf, effortOf}
+use Rattle.judge_means.specs.Exactness.{effortOf}
 use Rattle.judge_means.specs.Eleven.{ItsWinding}
-use Rattle.judge_means.proofs.Circuits.{live-is-carrying}
-use Rattle.judge_means.proofs.Exactness.{listed-live, unlisted-dead}
+use Rattle.judge_means.proofs.Exactness.{chainsOn, effort-on, listed-live, unlisted-dead}
 use Rattle.judge_means.proofs.Eleven.{its-found, its-winding-unique, regular-wound, steel-wound}
 use Rattle.moves.specs.Steps.{findingOn}
 use Rattle.moves_means.specs.Guards.{CurrentThrough}
 use Rattle.moves_means.specs.SingleMoves.{NeedsMore}
-use Rattle.moves_means.proofs.CurrentLaws.{through-carries, carries-through}
+use Rattle.moves_means.proofs.CurrentLaws.{live-current, its-on-board}
 
 abbrev pub Within : Board → State → ℕ → Which → ℕ → Type 0
 Within b s r n w = (e : Winding) → ItsWinding b r n e → effortOf b s e ≤ w
@@ -59,36 +60,39 @@ module _ (b : Board) (w : ℕ) (s : State) (r : ℕ) (n : Which) (e : Winding) (
   its-within enough f also =
       subst (λ (x : Winding). effortOf b s x ≤ w) (its-winding-unique b r n e f its also) enough
 
-  -- all chains of the board in the state are weighed
-  its-weighed : BoardFits b
-      → findingOn (setsOf b s) b w e ≡ weighed (shows (e .a) (e .b)) (chainsOf b s) w .finding
-  unfolding verdictBy
+  abbrev test : List ℕ → Bool
+  test = shows (e .a) (e .b)
+
+  -- the chains that are gone through for it are weighed
+  its-weighed : BoardFits b → findingOn (setsOf b s) b w e ≡ weighed test (chainsOn b s e) w .finding
   its-weighed fits =
       ap (λ (j : Verdict). j .finding)
       (judged-all (setsOf b s) (b .counts .terminals) e w (fits .counts .most-terminals))
 
   its-finding : BoardFits b → HasFinding b s r n w
   its-finding fits =
-      by-test (leb (effortOf b s e) w)
-      (λ enough. by-first (firstShown (shows (e .a) (e .b)) (chainsOf b s)) refl (leb-true (effortOf b s e) w enough))
-      (λ short. let more = leb-false (effortOf b s e) w short in record {
+      by-test (leb (effort test (chainsOn b s e)) w)
+      (λ enough. by-first (firstShown test (chainsOn b s e)) refl (leb-true _ w enough))
+      (λ short. let more = leb-false _ w short in record {
         winding = e;
         its = its;
         finding = undecided;
         found =
-            its-weighed fits ∙ ap (λ (j : Verdict). j .finding) (weighed-short (shows (e .a) (e .b)) (chainsOf b s) w
-            more);
-        says = record { which = n; winding = e; its-winding = its; more = more };
+            its-weighed fits ∙ ap (λ (j : Verdict). j .finding) (weighed-short test (chainsOn b s e) w more);
+        says = record { which = n; winding = e; its-winding = its; more = omega (arith, effort-on b s e, more) };
       })
     where
-      settles : (o : Option (List ℕ)) → firstShown (shows (e .a) (e .b)) (chainsOf b s) ≡ o → effortOf b s e ≤ w
-          → findingOn (setsOf b s) b w e ≡ settled (effortOf b s e) o .finding
+      settles : (o : Option (List ℕ)) → firstShown test (chainsOn b s e) ≡ o → effort test (chainsOn b s e) ≤ w
+          → findingOn (setsOf b s) b w e ≡ settled (effort test (chainsOn b s e)) o .finding
       settles o first enough =
           its-weighed fits
           ∙ ap (λ (j : Verdict). j .finding)
-          (weighed-within (shows (e .a) (e .b)) (chainsOf b s) w enough ∙ ap (settled (effortOf b s e)) first)
+          (weighed-within test (chainsOn b s e) w enough ∙ ap (settled (effort test (chainsOn b s e))) first)
 
-      by-first : (o : Option (List ℕ)) → firstShown (shows (e .a) (e .b)) (chainsOf b s) ≡ o → effortOf b s e ≤ w
+      its-enough : effort test (chainsOn b s e) ≤ w → Within b s r n w
+      its-enough enough = its-within (omega (arith, effort-on b s e, enough))
+
+      by-first : (o : Option (List ℕ)) → firstShown test (chainsOn b s e) ≡ o → effort test (chainsOn b s e) ≤ w
           → HasFinding b s r n w
       by-first (some c) first enough = record {
         winding = e;
@@ -96,9 +100,9 @@ module _ (b : Board) (w : ℕ) (s : State) (r : ℕ) (n : Which) (e : Winding) (
         finding = live;
         found = settles (some c) first enough;
         says = (
-          its-within enough,
-          carries-through b s r n e its
-              (live-is-carrying b s (e .a) (e .b) fits .0 (listed-live b s e fits c first)),
+          its-enough enough,
+          live-current b s r n e its fits .0
+              (listed-live b s e fits (its-on-board b s r n e its fits) c first),
         );
       }
       by-first none first enough = record {
@@ -107,9 +111,9 @@ module _ (b : Board) (w : ℕ) (s : State) (r : ℕ) (n : Which) (e : Winding) (
         finding = dead;
         found = settles none first enough;
         says = (
-          its-within enough,
-          λ current. unlisted-dead b s e fits first
-              (live-is-carrying b s (e .a) (e .b) fits .1 (through-carries b s r n e its current)),
+          its-enough enough,
+          λ current. unlisted-dead b s e fits (its-on-board b s r n e its fits) first
+              (live-current b s r n e its fits .1 current),
         );
       }
 

@@ -1,8 +1,8 @@
--- How a relay moves, by the chains and the efforts of its windings, over the call `moves::move_relay`, whatever it
--- answers under its promise. Rule book: "Regular: its winding is always judged, with W. Undecided: undecided. Otherwise
--- it draws if dropped and live, drops if drawn and dead, else rests. Steel: both windings are always judged, each with
--- W. Either undecided: undecided. Both live: conflict. Otherwise it draws if dropped and the drawing winding is live,
--- drops if drawn and the dropping winding is live, else rests."
+-- How a relay moves, by its windings, each of them live if a chain shows it and it is not shunted, and their efforts,
+-- over the call `moves::move_relay`, whatever it answers under its promise. Rule book: "Regular: its winding is always
+-- judged, with W. Undecided: undecided. Otherwise it draws if dropped and live, drops if drawn and dead, else rests.
+-- Steel: both windings are always judged, each with W. Either undecided: undecided. Both live: conflict. Otherwise it
+-- draws if dropped and the drawing winding is live, drops if drawn and the dropping winding is live, else rests."
 --     Undecided b s e w           winding e is undecided in state s: its effort is larger than the allowance w
 --     Decided b s e w             its effort is at most w
 --     RegularComes b s r e m w    what the word m says of a regular relay r with winding e: never conflict

@@ -3,9 +3,11 @@
 -- it is 000's current (`judge_means/specs/Circuits.antt`): through the first winding for 002's regular and drawing
 -- current, through the second for its dropping current. That a steel relay is two windings is the rule book's; 002's
 -- "no current can propagate from input to input through the relay" is not a rule of our boards. Neither paper's guards
--- go by an allowance.
+-- go by an allowance. Neither has shunts: that a shunted winding has no current of its own is request A4's, "here our
+-- rule decides".
 --     CurrentThrough b s r k    "∃ cn : Connection • cn ∈ actualConnections(r) ∧ currentCarrying(cn, n)", of winding k
---                               of relay r: its first winding, regular or drawing, or its second, the dropping one
+--                               of relay r, its first winding, regular or drawing, or its second, the dropping one;
+--                               and that winding is not shunted
 --     CanDrawRegular b s r      000: can_draw, "~ drawn(r) ∧ (∃ cn : Connection • …)"; 002: canDrawRegularRelay,
 --                               "T.neg(T.literal(id)), currentThroughRegularRelay(id, d)"
 --     CanDropRegular b s r      000: can_drop, "drawn(r) ∧ ~ (∃ cn : Connection • …)"; 002: canDropRegularRelay,
@@ -28,10 +30,11 @@ use Rattle.board.specs.Parts.{partsOf}
 use Rattle.board.specs.Sorts.{isRegular, isSteel}
 use Rattle.state.specs.declared.State.{State}
 use Rattle.state.specs.States.{isDrawn}
-use Rattle.judge_means.specs.Circuits.{actualConnections, CurrentCarrying}
 use Rattle.judge.specs.declared.Which.{Which}
 use Rattle.judge.specs.declared.Which.the-variants.{First, Second}
-use Rattle.judge.specs.RelayWindings.{isWinding}
+use Rattle.judge.specs.RelayWindings.{isWinding, endsOf}
+use Rattle.judge_means.specs.Circuits.{actualConnections, CurrentCarrying}
+use Rattle.judge_means.specs.Shunts.{Shunted}
 
 pub record CurrentThrough (b : Board) (s : State) (r : ℕ) (k : Which) : Type 0 where
   pub winding : Part
@@ -41,6 +44,7 @@ pub record CurrentThrough (b : Board) (s : State) (r : ℕ) (k : Which) : Type 0
   pub to : ℕ
   pub actual : (from, to) ∈ actualConnections s winding
   pub carrying : CurrentCarrying b s from to
+  pub unshunted : ¬ (Shunted b s (endsOf winding))
 
 abbrev pub CanDrawRegular : Board → State → ℕ → Type 0
 CanDrawRegular b s r = (isDrawn s r ≡ false) × CurrentThrough b s r First

@@ -1,19 +1,19 @@
 -- The laws of which terminals are joined, which every crate above cites: in the sets of a board whose counts and parts
--- fit, y is in the set of x exactly if a conducting part has x and y as its ends. So being joined goes both ways, and
--- holds of terminals of the board.
+-- fit, y is in the set of x exactly if a conducting part has x and y as its ends, and in its set without windings
+-- exactly if one does that is no winding. So being joined goes both ways, and holds of terminals of the board.
 use Prim.Native.Nat.{ℕ, _≤_, _<_}
 use native.Mathlib.Omega.{arith}
 use mathlib.Core.Path.{_≡_, refl, sym, subst, ap, _∙_}
 use mathlib.Core.Logic.{inl, inr}
-use mathlib.Core.Bool.{true, false, false≢true}
+use mathlib.Core.Bool.{Bool, true, false, not, false≢true}
 use mathlib.Core.List.{List, [], _∷_}
 use lib.Dec.{eqb, ltb}
-use borrow.Author.Tests.{eqb-true, eqb-false, ltb-true, ltb-false}
+use borrow.Author.Tests.{eqb-true, eqb-false, ltb-true, ltb-false, not-true}
 use Rattle.lists.specs.Members.{_∈_}
 use Rattle.lists.proofs.MemberLaws.{all-member}
-use Rattle.bits.specs.Sets.{member, including}
-use Rattle.bits.proofs.BoolLaws.{by-test, both-ways}
-use Rattle.bits.proofs.SetLaws.{member-none, including-beyond, member-including-same, member-including-other}
+use Rattle.bits.specs.Sets.{member}
+use Rattle.bits.proofs.BoolLaws.{both-true, by-test, both-ways}
+use Rattle.bits.proofs.SetLaws.{member-none, including-kept, member-including-same, member-including-other}
 use Rattle.kinds.specs.declared.Kind.{Kind}
 use Rattle.kinds.specs.declared.Kind.the-variants.{Wire, Upper, Lower, Button, Regular, Drawing, Dropping, Mark}
 use Rattle.kinds.specs.Kinds.{kindNumber, markKind}
@@ -23,10 +23,12 @@ use Rattle.board.specs.Parts.{partsOf}
 use Rattle.board.specs.Rules.{mostTerminals}
 use Rattle.board.specs.BreaksNoRule.{Fits, BoardFits}
 use Rattle.state.specs.declared.State.{State}
-use Rattle.neighbours.specs.Conduction.{conducts}
-use Rattle.neighbours.specs.Neighbours.{EndsAt, Joined, joined, withOther, withPart, setAt, neighbours}
-use Rattle.neighbours.proofs.SetAtLaws.{with-other-here, with-other-else, with-part-conducting, with-part-open}
+use Rattle.neighbours.specs.Conduction.{conducts, winds, conductsBare}
+use Rattle.neighbours.specs.Neighbours.{EndsAt, Joined, JoinedBare, joined, withOther, withPart, setAt, setsAt}
+use Rattle.neighbours.specs.Neighbours.{neighbours, bareNeighbours}
+use Rattle.neighbours.proofs.SetAtLaws.{with-other-here, with-other-else, with-part-joining, with-part-open}
 use Rattle.neighbours.proofs.SetAtLaws.{set-at-none, set-at-next, sets-at, sets-beyond, neighbours-sets}
+use Rattle.neighbours.proofs.SetAtLaws.{bare-sets}
 
 -- ---- a part's two ends, in either order
 
@@ -40,14 +42,6 @@ ends-either p P on turned x y (inl e) = subst (λ (z : ℕ). P z y) (e .0) (subs
 ends-either p P on turned x y (inr e) = subst (λ (z : ℕ). P z y) (e .1) (subst (P (p .b)) (e .0) turned)
 
 -- ---- the set of one terminal, with one end of a part besides
-
-including-kept : (s n m : ℕ) → member s m ≡ true → member (including s n) m ≡ true
-including-kept s n m is =
-    by-test (ltb n 64)
-    (λ fits. by-test (eqb m n)
-    (λ same. rw (eqb-true m n same) (member-including-same s n (ltb-true n 64 fits)))
-    (λ differ. member-including-other s n m (eqb-false m n differ) ∙ is))
-    (λ beyond. ap (λ (k : ℕ). member k m) (including-beyond s n (ltb-false n 64 beyond)) ∙ is)
 
 module _ (u v x k : ℕ) where
   other-kept : (y : ℕ) → member k y ≡ true → member (withOther u v x k) y ≡ true
@@ -73,63 +67,64 @@ module _ (u v x k : ℕ) where
 
 -- ---- with both ends of a part
 
-module _ (s : State) (p : Part) (x k : ℕ) where
-  part-on : (y : ℕ) → conducts s (p .kind) ≡ true
-      → member (withPart s p x k) y ≡ member (withOther (p .b) (p .a) x (withOther (p .a) (p .b) x k)) y
-  part-on y on = ap (λ (j : ℕ). member j y) (with-part-conducting s p x k on)
+module _ (t : Bool) (p : Part) (x k : ℕ) where
+  part-on : (y : ℕ) → t ≡ true
+      → member (withPart t p x k) y ≡ member (withOther (p .b) (p .a) x (withOther (p .a) (p .b) x k)) y
+  part-on y on = ap (λ (j : ℕ). member j y) (with-part-joining t p x k on)
 
-  part-off : (y : ℕ) → conducts s (p .kind) ≡ false → member (withPart s p x k) y ≡ member k y
-  part-off y off = ap (λ (j : ℕ). member j y) (with-part-open s p x k off)
+  part-off : (y : ℕ) → t ≡ false → member (withPart t p x k) y ≡ member k y
+  part-off y off = ap (λ (j : ℕ). member j y) (with-part-open t p x k off)
 
-  part-kept : (y : ℕ) → member k y ≡ true → member (withPart s p x k) y ≡ true
+  part-kept : (y : ℕ) → member k y ≡ true → member (withPart t p x k) y ≡ true
   part-kept y is =
-      by-test (conducts s (p .kind))
+      by-test t
       (λ on. part-on y on ∙ other-kept (p .b) (p .a) x (withOther (p .a) (p .b) x k) y
       (other-kept (p .a) (p .b) x k y is))
       (λ off. part-off y off ∙ is)
 
-  part-new : (y : ℕ) {C : Type 0} → (conducts s (p .kind) ≡ true → EndsAt p x y → C) → (member k y ≡ true → C)
-      → member (withPart s p x k) y ≡ true → C
+  part-new : (y : ℕ) {C : Type 0} → (t ≡ true → EndsAt p x y → C) → (member k y ≡ true → C)
+      → member (withPart t p x k) y ≡ true → C
   part-new y new old is =
-      by-test (conducts s (p .kind))
+      by-test t
       (λ on. other-new (p .b) (p .a) x (withOther (p .a) (p .b) x k) y
       (λ bx ay. new on (inr (ay, bx)))
       (other-new (p .a) (p .b) x k y (λ ax by. new on (inl (ax, by))) old)
       (sym (part-on y on) ∙ is))
       (λ off. old (sym (part-off y off) ∙ is))
 
-part-adds : (s : State) (p : Part) (k x y : ℕ) → conducts s (p .kind) ≡ true → EndsAt p x y → y < mostTerminals
-    → member (withPart s p x k) y ≡ true
-part-adds s p k x y on =
-    ends-either p (λ u v. v < mostTerminals → member (withPart s p u k) v ≡ true)
-    (λ b. part-on s p (p .a) k (p .b) on ∙ other-kept (p .b) (p .a) (p .a) (withOther (p .a) (p .b) (p .a) k) (p .b)
+part-adds : (t : Bool) (p : Part) (k x y : ℕ) → t ≡ true → EndsAt p x y → y < mostTerminals
+    → member (withPart t p x k) y ≡ true
+part-adds t p k x y on =
+    ends-either p (λ u v. v < mostTerminals → member (withPart t p u k) v ≡ true)
+    (λ b. part-on t p (p .a) k (p .b) on ∙ other-kept (p .b) (p .a) (p .a) (withOther (p .a) (p .b) (p .a) k) (p .b)
     (other-joins (p .a) (p .b) (p .a) k refl b))
-    (λ a. part-on s p (p .b) k (p .a) on ∙ other-joins (p .b) (p .a) (p .b) (withOther (p .a) (p .b) (p .b) k) refl a)
+    (λ a. part-on t p (p .b) k (p .a) on ∙ other-joins (p .b) (p .a) (p .b) (withOther (p .a) (p .b) (p .b) k) refl a)
     x y
 
--- ---- by all the parts
+-- ---- by all the parts of the kinds that pass a test
 
-module _ (s : State) (x y : ℕ) where
-  set-at-step : (p : Part) (ps : List Part) → member (setAt s x (p ∷ ps)) y ≡ member (withPart s p x (setAt s x ps)) y
-  set-at-step p ps = ap (λ (k : ℕ). member k y) (set-at-next s x p ps)
+module _ (f : Kind → Bool) (x y : ℕ) where
+  set-at-step : (p : Part) (ps : List Part)
+      → member (setAt f x (p ∷ ps)) y ≡ member (withPart (f (p .kind)) p x (setAt f x ps)) y
+  set-at-step p ps = ap (λ (k : ℕ). member k y) (set-at-next f x p ps)
 
-  set-at-adds : (ps : List Part) (p : Part) → p ∈ ps → conducts s (p .kind) ≡ true → EndsAt p x y → y < mostTerminals
-      → member (setAt s x ps) y ≡ true
+  set-at-adds : (ps : List Part) (p : Part) → p ∈ ps → f (p .kind) ≡ true → EndsAt p x y → y < mostTerminals
+      → member (setAt f x ps) y ≡ true
   set-at-adds [] p among on ends fits = absurd among
   set-at-adds (q ∷ ps) p (inl same) on ends fits =
       set-at-step q ps
-      ∙ subst (λ (r : Part). member (withPart s r x (setAt s x ps)) y ≡ true) same
-      (part-adds s p (setAt s x ps) x y on ends fits)
+      ∙ subst (λ (r : Part). member (withPart (f (r .kind)) r x (setAt f x ps)) y ≡ true) same
+      (part-adds (f (p .kind)) p (setAt f x ps) x y on ends fits)
   set-at-adds (q ∷ ps) p (inr among) on ends fits =
-      set-at-step q ps ∙ part-kept s q x (setAt s x ps) y (set-at-adds ps p among on ends fits)
+      set-at-step q ps ∙ part-kept (f (q .kind)) q x (setAt f x ps) y (set-at-adds ps p among on ends fits)
 
   -- y is in the set of x by some part: what follows from such a part holds
   set-at-by : {C : Type 0} (ps : List Part)
-      → ((p : Part) → p ∈ ps → conducts s (p .kind) ≡ true → EndsAt p x y → C) → member (setAt s x ps) y ≡ true → C
+      → ((p : Part) → p ∈ ps → f (p .kind) ≡ true → EndsAt p x y → C) → member (setAt f x ps) y ≡ true → C
   set-at-by [] use-part is =
-      absurd (false≢true (sym (ap (λ (k : ℕ). member k y) (set-at-none s x) ∙ member-none y) ∙ is))
+      absurd (false≢true (sym (ap (λ (k : ℕ). member k y) (set-at-none f x) ∙ member-none y) ∙ is))
   set-at-by (p ∷ ps) use-part is =
-      part-new s p x (setAt s x ps) y (λ on ends. use-part p (inl refl) on ends)
+      part-new (f (p .kind)) p x (setAt f x ps) y (λ on ends. use-part p (inl refl) on ends)
       (set-at-by ps (λ q among on ends. use-part q (inr among) on ends)) (sym (set-at-step p ps) ∙ is)
 
 -- ---- the sets of a board
@@ -154,49 +149,97 @@ ends-inside b s p x y fits among on =
     ends-either p (λ u v. (u < b .counts .terminals) × (v < b .counts .terminals)) (fit .a-below, fit .b-below)
     (fit .b-below, fit .a-below) x y
 
-module _ (b : Board) (s : State) (x y : ℕ) where
-  joined-inside-sets : x < mostTerminals → joined (neighbours b s) x y ≡ member (setAt s x (partsOf b)) y
-  joined-inside-sets below =
-      ap (λ (k : List ℕ). joined k x y) (neighbours-sets b s)
-      ∙ ap (λ (k : ℕ). member k y) (sets-at s (partsOf b) x below)
+module _ (f : Kind → Bool) (b : Board) (x y : ℕ) where
+  joined-inside-sets : x < mostTerminals → joined (setsAt f (partsOf b)) x y ≡ member (setAt f x (partsOf b)) y
+  joined-inside-sets below = ap (λ (k : ℕ). member k y) (sets-at f (partsOf b) x below)
 
-  joined-beyond-sets : mostTerminals ≤ x → joined (neighbours b s) x y ≡ false
-  joined-beyond-sets past =
-      ap (λ (k : List ℕ). joined k x y) (neighbours-sets b s)
-      ∙ ap (λ (k : ℕ). member k y) (sets-beyond s (partsOf b) x past) ∙ member-none y
+  joined-beyond-sets : mostTerminals ≤ x → joined (setsAt f (partsOf b)) x y ≡ false
+  joined-beyond-sets past = ap (λ (k : ℕ). member k y) (sets-beyond f (partsOf b) x past) ∙ member-none y
 
-  -- x and y are joined by a conducting part: what follows from such a part holds
-  joined-by : {C : Type 0} → ((p : Part) → p ∈ partsOf b → conducts s (p .kind) ≡ true → EndsAt p x y → C)
-      → joined (neighbours b s) x y ≡ true → C
+  -- x and y are joined by a part of a kind that passes the test: what follows from such a part holds
+  joined-by : {C : Type 0} → ((p : Part) → p ∈ partsOf b → f (p .kind) ≡ true → EndsAt p x y → C)
+      → joined (setsAt f (partsOf b)) x y ≡ true → C
   joined-by use-part is =
       by-test (ltb x mostTerminals)
-      (λ below. set-at-by s x y (partsOf b) use-part
+      (λ below. set-at-by f x y (partsOf b) use-part
       (sym (joined-inside-sets (ltb-true x mostTerminals below)) ∙ is))
       (λ past. absurd (false≢true (sym (joined-beyond-sets (ltb-false x mostTerminals past)) ∙ is)))
 
-  pub joined-part : joined (neighbours b s) x y ≡ true → Joined b s x y
-  joined-part = joined-by (λ p among on ends. record { part = p; on-board = among; conducting = on; ends = ends })
-
-  part-joins : (p : Part) → BoardFits b → p ∈ partsOf b → conducts s (p .kind) ≡ true → EndsAt p x y
-      → joined (neighbours b s) x y ≡ true
-  part-joins p fits among on ends =
+  -- and such a part, if it conducts, joins them
+  part-joins : (s : State) (p : Part) → BoardFits b → p ∈ partsOf b → conducts s (p .kind) ≡ true
+      → f (p .kind) ≡ true → EndsAt p x y → joined (setsAt f (partsOf b)) x y ≡ true
+  part-joins s p fits among conducting on ends =
       let most = fits .counts .most-terminals in
-      let inside = ends-inside b s p x y fits among on ends in
+      let inside = ends-inside b s p x y fits among conducting ends in
       joined-inside-sets (omega (arith, most, inside .0))
-      ∙ set-at-adds s x y (partsOf b) p among on ends (omega (arith, most, inside .1))
+      ∙ set-at-adds f x y (partsOf b) p among on ends (omega (arith, most, inside .1))
+
+-- ---- the sets by all parts that conduct
+
+module _ (b : Board) (s : State) (x y : ℕ) where
+  by-conducting : joined (neighbours b s) x y ≡ joined (setsAt (conducts s) (partsOf b)) x y
+  by-conducting = ap (λ (k : List ℕ). joined k x y) (neighbours-sets b s)
+
+  pub joined-part : joined (neighbours b s) x y ≡ true → Joined b s x y
+  joined-part is =
+      joined-by (conducts s) b x y
+      (λ p among on ends. record { part = p; on-board = among; conducting = on; ends = ends }) (sym by-conducting ∙ is)
 
   pub part-joined : BoardFits b → Joined b s x y → joined (neighbours b s) x y ≡ true
-  part-joined fits j = part-joins (j .part) fits (j .on-board) (j .conducting) (j .ends)
+  part-joined fits j =
+      by-conducting
+      ∙ part-joins (conducts s) b x y s (j .part) fits (j .on-board) (j .conducting) (j .conducting) (j .ends)
+
+  pub joined-terminals : BoardFits b → Joined b s x y → (x < b .counts .terminals) × (y < b .counts .terminals)
+  joined-terminals fits j = ends-inside b s (j .part) x y fits (j .on-board) (j .conducting) (j .ends)
 
   pub joined-inside : BoardFits b → joined (neighbours b s) x y ≡ true → (x < b .counts .terminals)
       × (y < b .counts .terminals)
-  joined-inside fits = joined-by (λ p among on ends. ends-inside b s p x y fits among on ends)
+  joined-inside fits is = joined-terminals fits (joined-part is)
 
-joined-turned : (b : Board) (s : State) (x y : ℕ) → BoardFits b → joined (neighbours b s) x y ≡ true
-    → joined (neighbours b s) y x ≡ true
-joined-turned b s x y fits =
-    joined-by b s x y (λ p among on ends. part-joins b s y x p fits among on (ends-turned p x y ends))
+joined-turned : (b : Board) (s : State) (x y : ℕ) → Joined b s x y → Joined b s y x
+joined-turned b s x y j =
+    record {
+      part = j .part;
+      on-board = j .on-board;
+      conducting = j .conducting;
+      ends = ends-turned (j .part) x y (j .ends);
+    }
 
 pub joined-symmetric : (b : Board) (s : State) (x y : ℕ) → BoardFits b → joined (neighbours b s) x y ≡ joined
     (neighbours b s) y x
-joined-symmetric b s x y fits = both-ways _ _ (joined-turned b s x y fits) (joined-turned b s y x fits)
+joined-symmetric b s x y fits = both-ways _ _ (turned x y) (turned y x)
+  where
+    turned : (u v : ℕ) → joined (neighbours b s) u v ≡ true → joined (neighbours b s) v u ≡ true
+    turned u v is = part-joined b s v u fits (joined-turned b s u v (joined-part b s u v is))
+
+-- ---- the sets by those of them that are no winding
+
+bare-parts : (s : State) (k : Kind) → conductsBare s k ≡ true → (winds k ≡ false) × (conducts s k ≡ true)
+bare-parts s k on =
+    let both = both-true (not (winds k)) (conducts s k) on in (not-true (winds k) (both .0), both .1)
+
+parts-bare : (s : State) (k : Kind) → winds k ≡ false → conducts s k ≡ true → conductsBare s k ≡ true
+parts-bare s k apart on = rw (apart, on) refl
+
+module _ (b : Board) (s : State) (x y : ℕ) where
+  by-bare : joined (bareNeighbours b s) x y ≡ joined (setsAt (conductsBare s) (partsOf b)) x y
+  by-bare = ap (λ (k : List ℕ). joined k x y) (bare-sets b s)
+
+  pub bare-part : joined (bareNeighbours b s) x y ≡ true → JoinedBare b s x y
+  bare-part is =
+      joined-by (conductsBare s) b x y
+      (λ p among on ends.
+      let both = bare-parts s (p .kind) on in
+      record {
+        joined = record { part = p; on-board = among; conducting = both .1; ends = ends };
+        no-winding = both .0;
+      })
+      (sym by-bare ∙ is)
+
+  pub part-bare : BoardFits b → JoinedBare b s x y → joined (bareNeighbours b s) x y ≡ true
+  part-bare fits j =
+      let by-part = j .joined in
+      by-bare
+      ∙ part-joins (conductsBare s) b x y s (by-part .part) fits (by-part .on-board) (by-part .conducting)
+      (parts-bare s (by-part .part .kind) (j .no-winding) (by-part .conducting)) (by-part .ends)

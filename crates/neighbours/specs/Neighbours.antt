@@ -1,36 +1,41 @@
--- Which terminals are joined. Rule book: "neighbours are each joined by a conducting part".
---     EndsAt p x y         x and y are the ends of part p, in either order
---     Joined b s x y       some conducting part of board b in state s has x and y as its ends, in either order
---     joined near x y      in the sets `near`, y is in the set of x
---     withOther u v x k    the set k of terminal x, with v besides if x is u
---     withPart s p x k     the set k of terminal x, with the other end of part p besides, if p conducts in state s and
---                          has x as an end
---     setAt s x ps         the set of the terminals that the parts ps join to terminal x in state s
---     tableFrom f k n      f n, f (n + 1), … (k numbers)
---     setsAt s ps          the set at each of 64 terminals, by the parts ps in state s
---     neighbours b s       the sets of board b in state s
---     setsOf b s           the same as the struct that is handed through judging, steps and runs
---     Neighbours b s r     promise: `neighbours` of board b in state s answers r
+-- Which terminals are joined. Rule book: "neighbours are each joined by a conducting part". Request A4: "conducting
+-- parts none of which is a winding".
+--     EndsAt p x y           x and y are the ends of part p, in either order
+--     Joined b s x y         some conducting part of board b in state s has x and y as its ends, in either order
+--     JoinedBare b s x y     such a part that is no winding does
+--     joined near x y        in the sets `near`, y is in the set of x
+--     withOther u v x k      the set k of terminal x, with v besides if x is u
+--     withPart t p x k       the set k of terminal x, with the other end of part p besides, if t and p has x as an end
+--     setAt f x ps           the set of the terminals that the parts ps join to terminal x, of them those of the kinds
+--                            that pass the test f
+--     tableFrom f k n        f n, f (n + 1), … (k numbers)
+--     setsAt f ps            the set at each of 64 terminals, by the parts ps, likewise
+--     neighbours b s         the sets of board b in state s, by all parts that conduct
+--     bareNeighbours b s     the same, by those of them that are no winding
+--     setsOf b s             both, as the struct that is handed through judging, steps and runs
+--     Neighbours b s r       promise: `neighbours` of board b in state s answers r
 -- What the functions of this crate promise each other:
---     EachSet near r f     the sets r are as many as `near`, each what f makes of the one there at its terminal
+--     EachSet near r f       the sets r are as many as `near`, each what f makes of the one there at its terminal
 -- `proofs/SetAtLaws.antt` shows that a part which does not end at x leaves the set of x alone, and
--- `proofs/JoinedLaws.antt` of a board whose counts and parts fit: y is in the set of x exactly if `Joined` says so.
+-- `proofs/JoinedLaws.antt` of a board whose counts and parts fit: y is in the set of x exactly if `Joined` says so, and
+-- in its set without windings exactly if `JoinedBare` does.
 use Prim.Native.Nat.{ℕ, zero, suc, _<_}
 use mathlib.Core.Path.{_≡_}
 use mathlib.Core.Logic.{_⊎_}
-use mathlib.Core.Bool.{Bool, true, cond}
+use mathlib.Core.Bool.{Bool, true, false, cond}
 use mathlib.Core.List.{List, [], _∷_}
 use lib.Dec.{eqb}
 use lib.ListN.{length, getD}
 use Rattle.lists.specs.Members.{_∈_}
 use Rattle.bits.specs.Sets.{member, including}
+use Rattle.kinds.specs.declared.Kind.{Kind}
 use Rattle.board.specs.declared.Part.{Part}
 use Rattle.board.specs.declared.Board.{Board}
 use Rattle.board.specs.Parts.{partsOf}
 use Rattle.board.specs.Rules.{mostTerminals}
 use Rattle.state.specs.declared.State.{State}
 use Rattle.neighbours.specs.declared.Sets.{Sets}
-use Rattle.neighbours.specs.Conduction.{conducts}
+use Rattle.neighbours.specs.Conduction.{conducts, winds, conductsBare}
 
 abbrev pub EndsAt : Part → ℕ → ℕ → Type 0
 EndsAt p x y = ((p .a ≡ x) × (p .b ≡ y)) ⊎ ((p .a ≡ y) × (p .b ≡ x))
@@ -41,31 +46,38 @@ pub record Joined (b : Board) (s : State) (x y : ℕ) : Type 0 where
   pub conducting : conducts s (part .kind) ≡ true
   pub ends : EndsAt part x y
 
+pub record JoinedBare (b : Board) (s : State) (x y : ℕ) : Type 0 where
+  pub joined : Joined b s x y
+  pub no-winding : winds (joined .part .kind) ≡ false
+
 abbrev pub joined : List ℕ → ℕ → ℕ → Bool
 joined near x y = member (getD near x 0) y
 
 abbrev pub withOther : ℕ → ℕ → ℕ → ℕ → ℕ
 withOther u v x k = cond (eqb x u) (including k v) k
 
-abbrev pub withPart : State → Part → ℕ → ℕ → ℕ
-withPart s p x k = cond (conducts s (p .kind)) (withOther (p .b) (p .a) x (withOther (p .a) (p .b) x k)) k
+abbrev pub withPart : Bool → Part → ℕ → ℕ → ℕ
+withPart t p x k = cond t (withOther (p .b) (p .a) x (withOther (p .a) (p .b) x k)) k
 
-unfoldable pub setAt : State → ℕ → List Part → ℕ
-setAt s x [] = 0
-setAt s x (p ∷ ps) = withPart s p x (setAt s x ps)
+unfoldable pub setAt : (Kind → Bool) → ℕ → List Part → ℕ
+setAt f x [] = 0
+setAt f x (p ∷ ps) = withPart (f (p .kind)) p x (setAt f x ps)
 
 unfoldable pub tableFrom : (ℕ → ℕ) → ℕ → ℕ → List ℕ
 tableFrom f zero n = []
 tableFrom f (suc k) n = f n ∷ tableFrom f k (suc n)
 
-unfoldable pub setsAt : State → List Part → List ℕ
-setsAt s ps = tableFrom (λ (x : ℕ). setAt s x ps) mostTerminals 0
+unfoldable pub setsAt : (Kind → Bool) → List Part → List ℕ
+setsAt f ps = tableFrom (λ (x : ℕ). setAt f x ps) mostTerminals 0
 
 unfoldable pub neighbours : Board → State → List ℕ
-neighbours b s = setsAt s (partsOf b)
+neighbours b s = setsAt (conducts s) (partsOf b)
+
+unfoldable pub bareNeighbours : Board → State → List ℕ
+bareNeighbours b s = setsAt (conductsBare s) (partsOf b)
 
 abbrev pub setsOf : Board → State → Sets
-setsOf b s = record { near = neighbours b s }
+setsOf b s = record { near = neighbours b s; bare = bareNeighbours b s }
 
 abbrev pub Neighbours : Board → State → Sets → Type 0
 Neighbours b s r = r ≡ setsOf b s

@@ -11,9 +11,13 @@ use board::Part;
 use kinds::Kind;
 use state::State;
 
-// The sets of neighbours: for each of 64 terminals the set of terminals that a conducting part joins to it.
+mod bare;
+
+// The sets of neighbours: for each of 64 terminals the set of terminals that a conducting part joins to it, and the set
+// of those that a conducting part joins to it which is no winding.
 pub struct Sets {
     pub near: [u64; 64],
+    pub bare: [u64; 64],
 }
 
 // Whether a part of this kind conducts in this state: docs/RULES.md, "Parts of a board", the table's last column, line
@@ -45,13 +49,12 @@ fn join(near: &mut [u64; 64], x: u8, y: u8)
     }
 }
 
-// Joins the ends of a part besides, in both directions, if it conducts.
-fn bridge(near: &mut [u64; 64], part: Part, state: State)
+// Joins the ends of a part besides, in both directions, if it is one that joins.
+fn bridge(near: &mut [u64; 64], part: Part, joins: bool)
     requires { ⌜ length (now near) ≡ mostTerminals ⌝ }
-    ensures { λ _. ⌜ EachSet (now (near .entry)) (now (near .exit)) (withPart state part) ⌝ }
+    ensures { λ _. ⌜ EachSet (now (near .entry)) (now (near .exit)) (withPart joins part) ⌝ }
 {
-    let kind = part.kind;
-    if conducts(kind, state) {
+    if joins {
         join(near, part.a, part.b);
         join(near, part.b, part.a);
     }
@@ -64,6 +67,7 @@ pub fn neighbours(board: Board, state: State) -> Sets
     let parts = board.parts;
     let count = board.counts.parts;
     let mut near = [0u64; 64];
+    let mut bare = [0u64; 64];
     let mut i = if MOST_PARTS < count {
         MOST_PARTS
     } else {
@@ -72,7 +76,9 @@ pub fn neighbours(board: Board, state: State) -> Sets
     while 0 < i {
         i -= 1;
         let part = parts[i];
-        bridge(&mut near, part, state);
+        let kind = part.kind;
+        bridge(&mut near, part, conducts(kind, state));
+        bridge(&mut bare, part, bare::conducts_bare(kind, state));
     }
-    Sets { near }
+    Sets { near, bare }
 }

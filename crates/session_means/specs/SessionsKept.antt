@@ -1,6 +1,7 @@
 -- Request A1, "Every file accepted so far keeps its meaning", and request A2, "First-edition files read as before",
--- said of sessions. Stated over the definition of a session's lines, with numbers of at most three bytes as before A1,
--- by the first edition as A1 left it, and by the rule book as it stands.
+-- said of sessions. Stated over the definition of a session's lines, read with numbers of at most three bytes as before
+-- A1, by the first edition as A1 left it, and by the rule book as it stands; what relays do goes by the rule book as it
+-- stands in all three (request A4 changed what a shunted relay does, in an old file too).
 --     Unclosed l           the line l tells of an event; it does not end the session
 --     SessionsKept         a session that was not refused before A1 prints the same lines
 --     FirstSessionsKept    nor is any line changed of a session that the first edition did not refuse

@@ -16,7 +16,7 @@ returns c =
 returns-2 : tie.Need-returns-2
 returns-2 c =
     let at-asked = c .before .before in
-    c .refuse .ensures ∙ judging-by _ _ _ _ _ _
+    c .at-once .ensures ∙ judging-by _ _ _ _ _ _
     (sym (at-asked .before .before .winding-for .ensures) ∙ ap toldAsked (at-asked .asked2 .given .1))
 
 pub judge-spec : {M : Type 1} → statement M

@@ -1,0 +1,3 @@
+-- The definitions that the contract cites, in reading order.
+pub mod Links
+pub mod Floods
