@@ -66,7 +66,7 @@ pub record AsTheModelSays : Type 0 where
   pub sorts : EveryRelaySort
   pub wound : EveryRelayWound
   -- a relay draws, drops, rests exactly by its windings, each live, by a chain and not shunted, or dead; which is
-  -- exactly by the published guards
+  -- exactly by the published guards, where a shunted winding counts for one without current
   pub regular : RegularByChains
   pub steel : SteelByChains
   pub moves : MoveExactly
