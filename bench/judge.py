@@ -1,8 +1,9 @@
 """Prints how many chains a second `judge` goes through on ladders of 8 to 64 terminals, beside the same search in plain Rust
 (bench/ladder.rs), both in one run, and checks that both count the same effort. Each time is the least of several, less that
-of a run with no search; on the small ladders reading the boards is much of what is left of `judge`. Run from anywhere:
-python3 bench/judge.py. Needs target/bin/current_cases, which `rt check current_cases` builds, and rustc; takes about a minute.
-The program is for x86-64: on another machine it runs under the kit's emulator, and only the efforts are compared."""
+of a run with no search: of `judge` the same judgements with W 0, which read the boards and ask for the refusals as well, and
+walk no chain. Run from anywhere: python3 bench/judge.py. Needs target/bin/current_cases, which `rt check current_cases`
+builds, and rustc; takes about a minute. The program is for x86-64: on another machine it runs under the kit's emulator, and
+only the efforts are compared."""
 import os
 import platform
 import subprocess
@@ -38,10 +39,10 @@ def rust_text(terminals, times):
     return " ".join(map(str, [terminals, a, b, ALLOWANCE, times] + [end for pair in wires + [(a, b)] for end in pair]))
 
 
-def case(terminals):
+def case(terminals, allowance=ALLOWANCE):
     """One search, as a case for the proved program."""
     wires, a, b = ladder(terminals)
-    asked = [0, 0, 0, 0, ALLOWANCE]  # none drawn, none pushed, relay 0, its first winding
+    asked = [0, 0, 0, 0, allowance]  # none drawn, none pushed, relay 0, its first winding
     data = board_model.file_of([terminals, 1, 0], [[0, *pair] for pair in wires] + [[4, a, b, 0]])
     return (data + bytes(byte for number in asked for byte in board_model.number_bytes(number))).hex() + "@\n"
 
@@ -71,7 +72,7 @@ def speeds(rust, terminals, effort, times):
     """Chains a second of the proved program and of the plain search."""
     rust_times = CHAINS // effort
     return (
-        speed(program.command("current_cases"), case(terminals) * times, "", times * effort),
+        speed(program.command("current_cases"), case(terminals) * times, case(terminals, 0) * times, times * effort),
         speed([rust], rust_text(terminals, rust_times), rust_text(terminals, 0), rust_times * effort),
     )
 

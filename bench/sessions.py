@@ -107,6 +107,16 @@ def twenty_relays():
     return running.wired(random.Random(1), 20, 20, rows, marks=[])
 
 
+def falling_row():
+    """32 relays that move one after the other, on 64 terminals and 256 parts: a button draws the first, and each drawn relay's
+    upper contact the next. Beside that each relay's contacts, an upper and a lower one, hang a terminal on plus, and stand
+    twice side by side, so that whatever is drawn it hangs there. Every winding's effort is below 100."""
+    feeds = [[BUTTON, PLUS, 2, 0]] + [[UPPER, PLUS, 2 + relay, relay - 1] for relay in range(1, 32)]
+    windings = [[REGULAR, 2 + relay, MINUS, relay] for relay in range(32)]
+    hung = [[kind, PLUS, 34 + relay % 30, relay] for relay in range(32) for kind in (UPPER, LOWER, UPPER, LOWER)]
+    return [64, 32, 1], feeds + windings + hung + [[WIRE, PLUS, 34 + n % 30] for n in range(64)]
+
+
 def ladder(terminals):
     """The ladder of bench/judge.py with a button beside its first wire, where it changes no chain and shunts nothing."""
     wires, a, b = judge.ladder(terminals)

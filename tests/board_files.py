@@ -1,8 +1,10 @@
 """Compares the proved program `file_cases` with the model of the rule book in tests/lib/board_model.py on thousands of
 generated cases: good files, damaged files, files with a part twice, cut files, random bytes, boards handed in with and without
-a fault. Those are moved and run as well, by `run_cases`. Seeded, so each run tries the same cases;
+a fault. Those are moved and run as well, and their buttons pushed and released, by `run_cases`, with the board's own kept sets
+and with sets of no board. Seeded, so each run tries the same cases;
 `python3 tests/board_files.py SEED CASES` tries others, or more (it is 1 and 10,500 else). Needs target/bin/file_cases and
 target/bin/run_cases, which `rt check file_cases run_cases` builds."""
+import itertools
 import os
 import random
 import sys
@@ -11,15 +13,20 @@ sys.path.insert(0, os.path.join(os.path.dirname(os.path.abspath(__file__)), "lib
 import board_model as model
 import judge_model
 import judging
+import kept_model
 import program
 import repository
-from running import total
+import run_model
+from running import REFUSED, total
 
 ODD_VALUES = [0, 1, 2, 3, 4, 5, 6, 7, 8, 32, 33, 64, 65, 127, 128, 255, 256, 257, 16383, 16384, 2097151, 2097152]
 ODD_VALUES += [268435455, 268435456, model.LARGEST, model.LARGEST + 1, 2**35 - 1]
 LONG_FORMS = [[0], [128, 0], [255, 127], [128, 128, 0], [128, 128, 128, 0], [255, 255, 255, 15], [255, 255, 255, 16], [128, 128, 128, 128, 0]]
 HANDED_PARTS = 5 + program.START_BYTES  # the first part of a board handed in begins at this byte
-ASKED = {"^": [0, 0, 0, 0], "=": [0, 0, 0, 4]}  # a move of relay 0 and a run with a log of 4, both with nothing drawn or pushed and no allowance
+NONE = frozenset()
+# A move of relay 0, a run with a log of 4, a push and a release of button 0, with nothing drawn or pushed and no allowance: the
+# last number of each.
+ASKED = {"^": 0, "=": 4, "+": 0, "-": 0}
 
 
 def board(dice):
@@ -115,25 +122,43 @@ def handed_board(data):
     return size if total(marked) == start else None, counts, rows
 
 
-def moves_without_chains(counts, parts):
-    """What a move of relay 0 and a run come to that are allowed no chain, with nothing drawn and nothing pushed: a relay
-    whose windings are all shunted rests, and any other is undecided."""
+def calls_without_chains(counts, parts):
+    """What the calls come to that are asked with the board's own sets, each as its answer, the state that it leaves and the rest
+    of its line. A move and a run are allowed no chain: a relay whose windings are all shunted rests, and any other is
+    undecided."""
     windings = [part for part in parts if part[0] in judge_model.WINDINGS]
-    undecided = {part[3] for part in windings if not judge_model.shunted(parts, set(), set(), *part[1:3])}
+    undecided = {part[3] for part in windings if not judge_model.shunted(parts, NONE, NONE, *part[1:3])}
     moved = "refused 11" if not counts[1] else "undecided" if 0 in undecided else "rests"
-    ran = f"undecided 0 0 0 {min(undecided)}:" if undecided else "idle 0 0 0 255:"
-    return f"moved {moved} 0 0", f"ran {ran}"
+    ran, stopped = ("undecided 0", min(undecided)) if undecided else ("idle 0", run_model.NO_RELAY)
+    pushed, released, after = ("done", "refused 12", {0}) if counts[2] else ("refused 7", "refused 7", NONE)
+    moves = {"^": (f"moved {moved}", NONE, ""), "=": (f"ran {ran}", NONE, f" {stopped}:")}
+    return moves | {"+": (f"pressed {pushed}", after, ""), "-": (f"pressed {released}", NONE, "")}
+
+
+def call_lines(counts, parts):
+    """The lines of the calls on a fine board, up to the sets themselves."""
+    for ending, (answer, pushed, rest) in calls_without_chains(counts, parts).items():
+        kept = kept_model.words(parts, (NONE, NONE), None, (NONE, pushed), "refused" in answer)
+        yield ending, up_to_sets(f"{answer} 0 {total(pushed)}{rest}{kept}")
+
+
+def refused_lines(number, own):
+    """The lines of the calls where all are refused by this number, up to the sets themselves."""
+    return {ending: f"{line.format(number, '0 0')} sets given {own}" for ending, line in REFUSED.items()}
+
+
+def up_to_sets(line):
+    """A line up to the sets themselves: the model does not know those of a broken board."""
+    return line.split(" near")[0]
 
 
 def handed_answers(data):
-    """What the calls answer on a board handed in, a line of each program's."""
+    """What comes of a board handed in: the line of writing it, and those of the calls with its own sets and with sets of no
+    board."""
     size, counts, parts = handed_board(data)
-    buttons = counts[2]
     if size is None:
-        calls = " ".join(f"{call} refused 15" for call in ("write", "push", "again", "release", "absent", "beyond"))
-        return calls, "moved refused 15 0 0", "ran refused 15 0 0 0 255:"
-    presses = "push done again refused 12 release refused 12" if buttons else "push refused 7 again refused 7 release refused 7"
-    return f"write {size} {presses} absent refused 7 beyond refused 14", *moves_without_chains(counts, parts)
+        return "write refused 15", refused_lines(15, "own"), refused_lines(15, "foreign")
+    return f"write {size}", dict(call_lines(counts, parts)), refused_lines(judge_model.FOREIGN_SETS, "foreign")
 
 
 def file_answer(ending, data):
@@ -146,36 +171,44 @@ def file_answer(ending, data):
 
 
 def some_case(dice):
-    """A case: its ending, its bytes and the lines that it should print: one, or for a board handed in three."""
+    """A case: its ending, its bytes and the line that it should print; for a board handed in also those of the calls."""
     ending = dice.choice(">>>!!?")
     data = handed_case(dice) if ending == "!" else file_case(dice)
     return ending, data, handed_answers(data) if ending == "!" else (file_answer(ending, data),)
 
 
 def compared(name, cases, wanted):
-    """The checks that a program prints these lines for these cases, and no others."""
-    return program.compared(cases, wanted, program.answers(program.command(name), cases))
+    """The checks that a program prints these lines for these cases, up to kept sets, and no others."""
+    return program.compared(cases, wanted, [up_to_sets(line) for line in program.answers(program.command(name), cases)])
 
 
 def case_checks(found):
-    """The checks on some cases: all of them by `file_cases`, the boards handed in also by `run_cases`, moved and then run."""
+    """The checks on some cases: all of them by `file_cases`, the boards handed in also by the calls of `run_cases`, with the
+    board's own sets and with sets of no board."""
     checks = compared("file_cases", [data.hex() + ending + "\n" for ending, data, _ in found], [lines[0] for _, _, lines in found])
     handed = [(data, lines) for ending, data, lines in found if ending == "!"]
-    for place, ending in enumerate(ASKED, 1):
-        cases = [program.handed_case(ASKED[ending], data, ending) for data, _ in handed]
-        checks += compared("run_cases", cases, [lines[place] for _, lines in handed])
+    for ending, (place, sets) in itertools.product(ASKED, enumerate([None, kept_model.NOWHERE], 1)):
+        cases = [program.handed_case([0, 0, 0, ASKED[ending]], data, ending, kept_model.typed(sets)) for data, _ in handed]
+        checks += compared("run_cases", cases, [lines[place][ending] for _, lines in handed])
     return checks
+
+
+def every_line(found):
+    """The lines that are wanted."""
+    for _, _, (line, *calls) in found:
+        yield line
+        yield from (wanted for lines in calls for wanted in lines.values())
 
 
 def compare(seed, count):
     dice, words = random.Random(seed), set()
     found = [some_case(dice) for _ in range(count)]
     checks = case_checks(found)
-    for want in (line for _, _, lines in found for line in lines):
+    for want in every_line(found):
         words.update(f"refused {number.split()[0]}" for number in want.split("refused ")[1:])
         words.update({want.split()[0], " ".join(want.split()[:2])})
-    met = ["read", "write", "short", "moved undecided", "moved rests", "ran undecided", "ran idle"]
-    for word in met + [f"refused {number}" for number in (1, 2, 3, 4, 5, 6, 7, 8, 9, 11, 12, 14, 15, 16, 17)]:
+    met = ["read", "write", "short", "moved undecided", "moved rests", "ran undecided", "ran idle", "pressed done"]
+    for word in met + [f"refused {number}" for number in (1, 2, 3, 4, 5, 6, 7, 8, 9, 11, 12, 15, 16, 17, 18)]:
         checks.append((f"some case answers {word}", word in words))
     return checks
 

@@ -2,9 +2,9 @@
 way of `current_cases` and `run_cases`: the verdict, the effort, the length and the chain that is shown; what a relay comes to;
 the word of a run, its moves, the state left, the relay that stopped it, and every byte of the log (a run prints the first 40
 moves, and is asked to go on from there). Boards of all sorts in tests/lib/session_boards.py, in states within and beyond them,
-with allowances around the efforts and logs of 0, 1 and around the moves; damaged files; boards handed in that break a rule. No
-answer is compared with a model in Python, which only tells which damaged files are read at all; what is around an effort is asked
-of the second program. Seeded, so each run tries the same
+with allowances around the efforts and logs of 0, 1 and around the moves; damaged files; boards handed in that break a rule. The
+kept sets are the board's own, and must be so afterwards. No answer is compared with a model in Python, which only tells which
+damaged files are read at all; what is around an effort is asked of the second program. Seeded, so each run tries the same
 cases; `python3 tests/calls.py SEED BOARDS` tries others, or more (it is 1 and 540 else). Needs cargo, and
 target/bin/current_cases and target/bin/run_cases, which `rt check current_cases run_cases` builds."""
 import collections
@@ -36,6 +36,7 @@ NAMED = program.HANDED_BITS  # a state that a case hands in has relays and butto
 ROUNDS = 6  # so often a run that fills the log that is shown goes on from the state left
 OFTEN = 10  # each answer occurs at least so many times
 SHOWING = re.compile(r"judged (live|dead) (\d+)")
+KEPT = re.compile(r"((?:moved|ran) .*) sets (given|changed) own near[ =\d]* bare[ =\d]*")
 SPENT = re.compile(rf"ran spent {SHOWN} (\d+) (\d+) ")
 
 SORTS = [boards.feeding, boards.feeding, boards.web, boards.web, boards.buzzing, boards.conflicting, boards.every_kind, boards.crowded]
@@ -176,10 +177,18 @@ def every_case(seed, count):
     return judged, ran + going_on(found) + list(handed_boards(dice, count))
 
 
+def without_own(line):
+    """The line of a proved program without what it says of the kept sets, which the second program does not know. They must be
+    the board's own; where they are not, and where a refused call changes them, the line stays as it is."""
+    form = KEPT.fullmatch(line)
+    return line if form is None or ("refused" in line and form[2] == "changed") else form[1]
+
+
 def compared(name, cases):
     """The checks that a proved program prints what the second program does, and nothing else; and those lines."""
     wanted = second(cases)
-    return program.compared(cases, wanted, program.answers(program.command(name), cases)), wanted
+    told = [without_own(line) for line in program.answers(program.command(name), cases)]
+    return program.compared(cases, wanted, told), wanted
 
 
 def occurring(lines):

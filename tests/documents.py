@@ -36,7 +36,7 @@ checks.append((f"docs/READING.md: part one has {first:,} lines of {whole:,}, not
 
 # The rows of the starred table: each begins with the call that it is of.
 table = repository.text("crates", "demands", "specs", "Starred.antt").split("\nstarred =\n")[1]
-count = len(re.findall(r"^    (?:∷ )?(?:reads|judges|moves|runs|prints) ", table, re.M))
+count = len(re.findall(r"^    (?:∷ )?(?:reads|judges|judged|moves|moved|runs|ran|pressed|prints) ", table, re.M))
 checks.append((f"docs/READING.md: the starred table has {count} calls", f'"Boards to try", {count} calls with their answers' in page))
 
 # A law is named after the file that proves it: `crate/proofs/File.antt`: `law`, `law`.

@@ -12,6 +12,7 @@ import sys
 sys.path.insert(0, os.path.join(os.path.dirname(os.path.abspath(__file__)), "lib"))
 import board_model
 import judge_model as model
+import kept_model
 import program
 import repository
 import shunt_boards
@@ -131,11 +132,11 @@ def state(dice, relays, buttons, names=32):
     return drawn, pushed
 
 
-def case(counts, parts, drawn, pushed, relay, which, allowance):
-    """The text of a judgement."""
+def case(counts, parts, drawn, pushed, relay, which, allowance, sets=None):
+    """The text of a judgement, with these kept sets or the board's own."""
     numbers = [sum(2**name for name in drawn), sum(2**name for name in pushed), relay, which, allowance]
     data = board_model.file_of(counts, parts) + bytes(byte for number in numbers for byte in board_model.number_bytes(number))
-    return data.hex() + "@\n"
+    return kept_model.typed(sets) + data.hex() + "@\n"
 
 
 def carried(asked, found):
@@ -165,9 +166,9 @@ def judgements(dice, counts, parts, seen):
     relay = dice.choice([there] * 6 + [counts[1], there + 2 ** dice.choice(NARROW), LARGEST])
     which = dice.choice([0] * 4 + [1, 1, 2, LARGEST])
     asked = counts, parts, drawn, pushed, relay, which
-    number = model.refusal(*asked)
-    if number:
-        return [(case(*asked, dice.choice([0, 1, 100, LARGEST])), f"judged refused {number}")]
+    numbers = model.against(*asked)
+    if numbers:
+        return [(case(*asked, dice.choice([0, 1, 100, LARGEST])), f"judged refused {numbers[0]}")]
     effort, chain = model.effort(*asked, MOST_CHAINS)
     if effort is None:
         return []

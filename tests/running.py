@@ -1,11 +1,12 @@
 """Compares the proved program `run_cases` with the model of moving and running in tests/lib/run_model.py on generated
-single moves and runs: relays that feed each other by their contacts, in sequence and in rings, relays that hold themselves,
-steel relays fed by buttons and contacts, relays that are shunted, and the boards of tests/judging.py, with marks and
-without; states within and beyond the board, relays that are there and that are not, allowances around the efforts, logs
-around the number of moves; and the boards of tests/lib/shunt_boards.py. Of the program's own answers it compares any two
-runs from one board and state: the one with no shorter log and no less allowance starts with every move of the other, and is
-the same if that one ended idle or in conflict. Seeded, so each run tries the same cases; `python3 tests/running.py SEED
-BOARDS` tries others, or more (it is 1 and 130 else). Needs target/bin/run_cases, which `rt check run_cases` builds."""
+pushes, releases, single moves and runs, with the kept sets that each hands back: relays that feed each other by their
+contacts, in sequence and in rings, relays that hold themselves, steel relays fed by buttons and contacts, relays that are
+shunted, and the boards of tests/judging.py, with marks and without; states within and beyond the board, relays that are
+there and that are not, allowances around the efforts, logs around the number of moves; and the boards of
+tests/lib/shunt_boards.py. Of the program's own answers it compares any two runs from one board and state: the one with no
+shorter log and no less allowance starts with every move of the other, and is the same if that one ended idle or in
+conflict. Seeded, so each run tries the same cases; `python3 tests/running.py SEED BOARDS` tries others, or more (it is 1
+and 130 else). Needs target/bin/run_cases, which `rt check run_cases` builds."""
 import itertools
 import os
 import random
@@ -14,6 +15,7 @@ import sys
 sys.path.insert(0, os.path.join(os.path.dirname(os.path.abspath(__file__)), "lib"))
 import judge_model
 import judging
+import kept_model
 import program
 import repository
 import run_model as model
@@ -24,6 +26,8 @@ from program import LARGEST_HANDED
 MOST_CHAINS = 400  # states with more, and runs that come to one, are left out
 MANY_MOVES = 200  # a run that makes so many is taken for one that never ends
 SHOWN = 40  # the program prints so many moves of a log
+# A refused call by its ending, with its number and the state.
+REFUSED = {"+": "pressed refused {} {}", "-": "pressed refused {} {}", "^": "moved refused {} {}", "=": "ran refused {} 0 {} 255:"}
 OFTEN = 10  # so many relays that are judged have a shunt, of each sort
 
 
@@ -137,24 +141,40 @@ def handed(counts, parts):
     return program.handed_board(counts, rows, total(judge_model.start(parts)))
 
 
-def case(own, numbers, ending):
-    """The text of a case: the numbers, then the board handed in."""
-    return program.handed_case(numbers, handed(own.counts, own.parts), ending)
+def case(own, state, asked, ending, sets):
+    """The text of a case: the kept sets, the state and what is asked, then the board handed in."""
+    numbers = [total(names) for names in state] + asked
+    return program.handed_case(numbers, handed(own.counts, own.parts), ending, kept_model.typed(sets))
 
 
-def move_case(own, drawn, pushed, relay, allowance):
+def left(own, before, sets, after, numbers):
+    """What a line says of the sets that a call hands back, against which these numbers stand."""
+    return kept_model.words(own.parts, before, sets, after, bool(numbers))
+
+
+def press_case(own, drawn, pushed, button, is_push, sets=None):
+    """A push or a release, with the line that it should print. The kept sets are these or the board's own, as with all calls."""
+    numbers = model.against(own, drawn, pushed, own.belong(sets, drawn, pushed), press=(button, is_push))
+    word, after = (f"refused {numbers[0]}", pushed) if numbers else ("done", pushed ^ {button})
+    line = f"pressed {word} {total(drawn)} {total(after)}" + left(own, (drawn, pushed), sets, (drawn, after), numbers)
+    return case(own, (drawn, pushed), [button, 0], "+" if is_push else "-", sets), line
+
+
+def move_case(own, drawn, pushed, relay, allowance, sets=None):
     """A single move, with the line that it should print."""
-    number = model.refusal(own, drawn, pushed, relay=relay)
-    word, left = (f"refused {number}", drawn) if number else model.move(own, drawn, pushed, relay, allowance)
-    return case(own, [total(drawn), total(pushed), relay, allowance], "^"), f"moved {word} {total(left)} {total(pushed)}"
+    numbers = model.against(own, drawn, pushed, own.belong(sets, drawn, pushed), relay=relay)
+    word, after = (f"refused {numbers[0]}", drawn) if numbers else model.move(own, drawn, pushed, relay, allowance)
+    line = f"moved {word} {total(after)} {total(pushed)}" + left(own, (drawn, pushed), sets, (after, pushed), numbers)
+    return case(own, (drawn, pushed), [relay, allowance], "^", sets), line
 
 
-def run_case(own, drawn, pushed, allowance, room):
+def run_case(own, drawn, pushed, allowance, room, sets=None):
     """A run, with the line that it should print."""
-    number = model.refusal(own, drawn, pushed, room=room)
-    word, log, left, relay = (f"refused {number}", [], drawn, model.NO_RELAY) if number else model.run(own, drawn, pushed, allowance, room)
-    line = f"ran {word} {len(log)} {total(left)} {total(pushed)} {relay}:"
-    return case(own, [total(drawn), total(pushed), allowance, room], "="), " ".join([line] + [str(byte) for byte in log[:SHOWN]])
+    numbers = model.against(own, drawn, pushed, own.belong(sets, drawn, pushed), room=room)
+    unrun = f"refused {numbers[0]}" if numbers else "", [], drawn, model.NO_RELAY
+    word, log, after, relay = unrun if numbers else model.run(own, drawn, pushed, allowance, room)
+    line = " ".join([f"ran {word} {len(log)} {total(after)} {total(pushed)} {relay}:"] + [str(byte) for byte in log[:SHOWN]])
+    return case(own, (drawn, pushed), [allowance, room], "=", sets), line + left(own, (drawn, pushed), sets, (after, pushed), numbers)
 
 
 def around(efforts):
@@ -168,14 +188,14 @@ def moves(dice, own, drawn, pushed):
     found = [move_case(own, drawn, pushed, dice.choice([relays, relays + 1, LARGEST_HANDED]), dice.choice([0, LARGEST_HANDED]))]
     if relays:
         relay = dice.randrange(relays)
-        efforts = [] if model.refusal(own, drawn, pushed) else [effort for effort, _ in own.efforts(drawn, pushed)[relay]]
+        efforts = [] if model.against(own, drawn, pushed) else [effort for effort, _ in own.efforts(drawn, pushed)[relay]]
         found += [move_case(own, drawn, pushed, relay, allowance) for allowance in around(efforts)]
     return found
 
 
 def runs(dice, own, drawn, pushed):
     """Runs from a state, each with its allowance and the room in its log."""
-    if model.refusal(own, drawn, pushed):
+    if model.against(own, drawn, pushed):
         asked = [(0, 5), (LARGEST_HANDED, model.LONGEST_LOG + 1)]
     else:
         made = len(model.run(own, drawn, pushed, LARGEST_HANDED, MANY_MOVES)[1])
@@ -211,7 +231,7 @@ def shunt_cases():
 def goes_on(less, more):
     """Whether the second line, of a run that is no less generous, starts with every move of the first, and is the same if
     that one ended idle or in conflict."""
-    (counts, log), (more_counts, more_log) = ([part.split() for part in line.split(":")] for line in (less, more))
+    (counts, log), (more_counts, more_log) = ([part.split() for part in kept_model.unsaid(line).split(":")] for line in (less, more))
     if counts[1] in ("idle", "conflict"):
         return more == less
     return int(more_counts[2]) >= int(counts[2]) and more_log[: len(log)] == log
@@ -224,13 +244,23 @@ def disagreeing(group):
     return [(less, more) for less, more in pairs if all(a <= b for a, b in zip(less[0], more[0])) and not goes_on(less[1], more[1])]
 
 
+def presses(dice, own):
+    """Pushes and releases of a button of a board, and of one that it lacks, in some state."""
+    drawn, pushed = judging.state(dice, own.counts[1], own.counts[2], program.HANDED_BITS)
+    buttons = own.counts[2]
+    named = {dice.randrange(max(buttons, 1)), dice.choice([buttons, buttons + 1, LARGEST_HANDED])}
+    return [press_case(own, drawn, pushed, button, is_push) for button in sorted(named) for is_push in (True, False)]
+
+
 def met(found):
     """Whether what must occur does."""
+    for word in ("done", "refused 7", "refused 12", "refused 14"):
+        yield f"some press is {word}", any(line.startswith("pressed " + word) for _, line in found)
     for word in ("drew", "dropped", "rests", "undecided", "conflict", "refused 11", "refused 14"):
         yield f"some move is {word}", any(line.startswith("moved " + word) for _, line in found)
     for word in ("idle", "spent", "undecided", "conflict", "refused 13", "refused 14"):
         yield f"some run is {word}", any(line.startswith("ran " + word) for _, line in found)
-    made = [line.split() for _, line in found if line.startswith("ran ") and "refused" not in line]
+    made = [kept_model.unsaid(line).split() for _, line in found if line.startswith("ran ") and "refused" not in line]
     yield "some run is idle after 3 moves or more", any(words[1] == "idle" and int(words[2]) >= 3 for words in made)
     yield "in some run relay 0 is not the first to move", any(len(words) > 6 and int(words[6]) % model.DRAW for words in made)
 
@@ -258,7 +288,7 @@ def compare(seed, count):
                 continue
             groups.append((len(found) + len(of_moves), [asked for _, asked in of_runs]))
             found += of_moves + [each for each, _ in of_runs]
-    found += long_runs(dice) + shunt_cases()
+    found += long_runs(dice) + shunt_cases() + [each for own in boards for each in presses(dice, own)]
     cases, wanted = zip(*found)
     told = program.answers(program.command("run_cases"), cases)
     checks = program.compared(cases, wanted, told)

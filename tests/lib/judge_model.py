@@ -1,11 +1,12 @@
-"""Judging a winding once more, in plain Python, after the rule book (docs/RULES.md), "Parts of a board", "Chains and
-current" and "Numbers for no", and request A4: a shunted winding is dead with effort 0. Its author had read the crates, so it
-is not the independent second program. A part is [kind, a, b] or [kind, a, b, relay or button], a mark [kind, relay]."""
+"""Judging a winding once more, in plain Python, after the rule book (docs/RULES.md), "Parts of a board", "Chains and current"
+and "Numbers for no", and requests A4, a shunted winding is dead with effort 0, and A5, refusal 18. Its author had read the
+crates, so it is not the independent second program. A part is [kind, a, b] or [kind, a, b, relay or button], a mark
+[kind, relay]."""
 
 PLUS, MINUS = 0, 1
 UPPER, LOWER, BUTTON, REGULAR, DRAWING, DROPPING, MARK = 1, 2, 3, 4, 5, 6, 7
 WINDINGS = (REGULAR, DRAWING, DROPPING)
-NO_SUCH_WINDING, STATE_BEYOND_BOARD = 11, 14
+NO_SUCH_WINDING, STATE_BEYOND_BOARD, FOREIGN_SETS = 11, 14, 18
 
 
 def conducts(part, drawn, pushed):
@@ -65,11 +66,12 @@ def beyond(counts, drawn, pushed):
     return any(name >= relays for name in drawn) or any(name >= buttons for name in pushed)
 
 
-def refusal(counts, parts, drawn, pushed, relay, second):
-    """The number for no that judging this winding in this state gives, or None."""
-    if beyond(counts, drawn, pushed):
-        return STATE_BEYOND_BOARD
-    return None if winding(parts, relay, second) else NO_SUCH_WINDING
+def against(counts, parts, drawn, pushed, relay, second, belong=True):
+    """The numbers for no that stand against judging this winding in this state, with kept sets that belong to both or do not;
+    in their order, so that the first is given."""
+    lines = [(beyond(counts, drawn, pushed), STATE_BEYOND_BOARD), (not belong, FOREIGN_SETS)]
+    lines.append((winding(parts, relay, second) is None, NO_SUCH_WINDING))
+    return [number for stands, number in lines if stands]
 
 
 def winding(parts, relay, second):

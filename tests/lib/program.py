@@ -52,9 +52,10 @@ def handed_board(counts, rows, start):
     return bytes(counts) + len(rows).to_bytes(2, "little") + start.to_bytes(START_BYTES, "little") + bytes(byte for row in rows for byte in row)
 
 
-def handed_case(numbers, board, ending):
-    """The text of a case for `run_cases`: some numbers, then the bytes of a board handed in."""
-    return "".join(f"{number:06x}" for number in numbers) + board.hex() + ending + "\n"
+def handed_case(numbers, board, ending, sets=""):
+    """The text of a case for `run_cases`: some numbers, then the bytes of a board handed in; before them the text of kept sets,
+    where they are not the board's own."""
+    return sets + "".join(f"{number:06x}" for number in numbers) + board.hex() + ending + "\n"
 
 
 class Told(typing.NamedTuple):

@@ -1,11 +1,12 @@
-"""Moving a relay and running a board once more, in plain Python, after the rule book (docs/RULES.md), "How a relay moves"
-and "Numbers for no", on top of judge_model, from which it has request A4. Its author had read the crates, so it is not the
-independent second program. Refusal 15 is left out: every board here is fine."""
+"""Pushing a button, moving a relay and running a board once more, in plain Python, after the rule book (docs/RULES.md), "How a
+relay moves" and "Numbers for no", on top of judge_model, from which it has requests A4 and A5. Its author had read the crates,
+so it is not the independent second program. Refusal 15 is left out: every board here is fine."""
 import itertools
 
 import judge_model as judge
+import kept_model as kept
 
-LOG_TOO_LONG = 13
+NO_SUCH_BUTTON, ALREADY_SO, LOG_TOO_LONG = 7, 12, 13
 LONGEST_LOG = 65_536
 NO_RELAY = 255
 DRAW = 128
@@ -23,6 +24,10 @@ class Board:
         self.counts, self.parts, self.most_chains, self.known = counts, parts, most_chains, {}
         own = [[judge.winding(parts, relay, second) for second in (False, True)] for relay in range(counts[1])]
         self.windings = [[part for part in pair if part] for pair in own]
+
+    def belong(self, sets, drawn, pushed):
+        """Whether these kept sets belong to the board in a state; None is for those that do."""
+        return sets is None or sets == kept.own(self.parts, drawn, pushed)
 
     def efforts(self, drawn, pushed):
         """For each relay the effort of each of its windings, the first one first, and whether it is live."""
@@ -50,15 +55,16 @@ def effort(chains, winding):
     return shown or len(chains), shown is not None
 
 
-def refusal(board, drawn, pushed, room=0, relay=None):
-    """The number for no of a run with so much room in its log, or of a move of this relay; or None."""
-    if judge.beyond(board.counts, drawn, pushed):
-        return judge.STATE_BEYOND_BOARD
-    if room > LONGEST_LOG:
-        return LOG_TOO_LONG
-    if relay is not None and relay >= board.counts[1]:
-        return judge.NO_SUCH_WINDING
-    return None
+def against(board, drawn, pushed, belong=True, room=0, relay=None, press=None):
+    """The numbers for no that stand against a run with so much room in its log, a move of this relay, or a press, with kept sets
+    that belong or do not; in their order, so that the first is given. A press is a button, and whether it is pushed or
+    released."""
+    lines = [(judge.beyond(board.counts, drawn, pushed), judge.STATE_BEYOND_BOARD), (not belong, judge.FOREIGN_SETS)]
+    lines += [(room > LONGEST_LOG, LOG_TOO_LONG), (relay is not None and relay >= board.counts[1], judge.NO_SUCH_WINDING)]
+    if press:
+        button, is_push = press
+        lines += [(button >= board.counts[2], NO_SUCH_BUTTON), ((button in pushed) == is_push, ALREADY_SO)]
+    return [number for stands, number in lines if stands]
 
 
 def motion(windings, drawn, allowance):

@@ -219,6 +219,17 @@ within-including s k n all fits =
     (λ same. omega (arith, eqb-true m n same))
     (λ other. within-member s k m all (sym (member-including-other s n m (eqb-false m n other)) ∙ set)))
 
+-- a word with all its bits set has every number as a member
+pub member-every : (n : ℕ) → n < room → member 18446744073709551615 n ≡ true
+unfolding within
+member-every n below =
+    by-test (member 18446744073709551615 n) (λ set. set)
+    (λ clear.
+    let more =
+    ltb-true (including 18446744073709551615 n) (2 ^ room)
+    (within-including 18446744073709551615 room n refl below) in
+    absurd (omega (arith, more, including-new 18446744073709551615 n below clear, pow-pos n)))
+
 pub within-excluding : (s k n : ℕ) → within s k ≡ true → within (excluding s n) k ≡ true
 unfolding within
 within-excluding s k n all =

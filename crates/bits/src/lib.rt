@@ -53,16 +53,11 @@ pub fn lowest_from(set: u64, n: u32) -> u32
     if ROOM <= n {
         return n;
     }
-    let mut rest = set >> n;
-    let mut next = n;
-    while rest != 0 {
-        if rest % 2 == 1 {
-            return next;
-        }
-        rest /= 2;
-        next += 1;
+    let lowest = n + u64::trailing_zeros(set >> n);
+    if ROOM <= lowest {
+        return ROOM;
     }
-    ROOM
+    lowest
 }
 
 // Whether every member is below n.

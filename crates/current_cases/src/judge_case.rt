@@ -1,4 +1,5 @@
 // A judgement as a case asks for it, and its verdict as it is printed.
+use crate::handed_sets;
 use crate::print;
 use board::Board;
 use board_reader::ReadAnswer;
@@ -80,7 +81,7 @@ fn print_verdict(verdict: Verdict) {
 }
 
 // Judges as the numbers from a place on ask, which must end the case.
-fn judge_asked(board: Board, bytes: &[u8], start: usize) {
+fn judge_asked(board: Board, sets: &[u8], bytes: &[u8], start: usize) {
     let drawn = asked_at(bytes, start);
     let pushed = asked_at(bytes, drawn.next);
     let relay = asked_at(bytes, pushed.next);
@@ -93,19 +94,20 @@ fn judge_asked(board: Board, bytes: &[u8], start: usize) {
         drawn: drawn.value as u64,
         pushed: pushed.value as u64,
     };
+    let kept = handed_sets::handed_kept(board, state, sets);
     let which = which_of(which.value);
-    print_verdict(judge::judge(board, state, relay.value, which, allowance.value));
+    print_verdict(judge::judge(board, kept, relay.value, which, allowance.value));
 }
 
 // Judges as the case asks; where its board is refused, prints that.
-pub fn answer_case(bytes: &[u8]) {
+pub fn answer_case(sets: &[u8], bytes: &[u8]) {
     let board_read = board_reader::read(bytes);
     let answer = board_read.answer;
     match answer {
         ReadAnswer::Refused(refused) => print::read_refusal(refused),
         ReadAnswer::Read(next) => {
             let board = board_read.board;
-            judge_asked(board, bytes, next);
+            judge_asked(board, sets, bytes, next);
         }
     }
     print::words(b"\n");

@@ -15,6 +15,8 @@ use Rattle.moves_means.proofs.SingleMoves.{move-exactly}
 use Rattle.moves_means.proofs.ByChains.{regular-by-chains, steel-by-chains}
 use Rattle.moves_means.proofs.OneRelay.{changes-one-relay}
 use Rattle.runs_means.proofs.Courses.{run-exactly}
+use Rattle.runs_means.proofs.KeptSets.{only-at-ends, belong-always}
+use Rattle.kept.proofs.OnlyEnds.{only-ends}
 use Rattle.session_means.proofs.HandedLines.{lines-handed-out, all-handed-out}
 use Rattle.session_means.proofs.FilledBuffers.{buffers-filled, all-filled}
 use Rattle.session_means.proofs.EventRefusals.{events-refused, events-closed}
@@ -37,6 +39,9 @@ as-the-model-says = record {
   changes = changes-one-relay;
   runs = run-exactly;
   fresh = fresh-follows;
+  belong = belong-always;
+  only-at-ends = only-at-ends;
+  only-ends = only-ends;
   written-read = write-then-read;
   read-written = read-then-write;
   rest-stays = rest-stays;

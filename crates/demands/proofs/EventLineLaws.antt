@@ -1,5 +1,5 @@
 -- What stands against the calls that tell of a run and of an event, and what they leave where that is a refusal: a told
--- run has a log that is never too long, and a push or release leaves a state that the run after it can use.
+-- run has a log that is never too long, and a push or release leaves a state and sets that the run after it can use.
 use Prim.Native.Nat.{ℕ, _≤_}
 use native.Mathlib.Omega.{arith}
 use mathlib.Core.Path.{_≡_, refl, sym, ap, _∙_}
@@ -9,15 +9,18 @@ use lib.Dec.{ltb}
 use lib.ListN.{length, length-replicate}
 use borrow.Author.Tests.{le-leb, ltb-true}
 use Rattle.refusals.specs.Outcomes.{Outcome, given, refused}
-use Rattle.refusals.specs.Refusals.{noSuchName}
 use Rattle.refusals.specs.Order.{firstNo, against}
 use Rattle.refusals.proofs.OutcomeLaws.{refused-never}
-use Rattle.refusals.proofs.OrderLaws.{StandsAgainst, first-holds, all-hold}
+use Rattle.refusals.proofs.OrderLaws.{StandsAgainst}
 use Rattle.board.specs.declared.Board.{Board}
 use Rattle.state.specs.declared.State.{State}
-use Rattle.state.specs.States.{isPushed, withPushed, withReleased, stateFine, usableLines, usable, left}
-use Rattle.state.proofs.StateLaws.{usable-fine, usable-given, state-fits-push, state-fits-release}
+use Rattle.state.specs.States.{isPushed, withPushed, withReleased, stateFine}
+use Rattle.state.proofs.StateLaws.{state-fits-push, state-fits-release}
+use Rattle.kept.specs.declared.Kept.{Kept}
+use Rattle.kept.specs.Kept.{keptAt, usableLines, usable, left}
+use Rattle.kept.proofs.KeptLaws.{usable-fine, usable-given}
 use Rattle.presses.specs.Presses.{pressLines, pushLines, releaseLines, pushing, releasing}
+use Rattle.presses.proofs.PressLaws.{press-usable}
 use Rattle.runs.specs.Running.{Ran, longestLog, runLines, running}
 use Rattle.lines.specs.Lines.{event}
 use Rattle.events.specs.declared.Event.{Event}
@@ -25,12 +28,12 @@ use Rattle.events.specs.Events.{madeLines, sessionLog, Shown, tells, pressing, 
 use Rattle.demands.specs.EveryCallComesBack.{wordOf}
 use Rattle.demands.proofs.StandsLaws.{LeftStands, push-stands, release-stands, NotRun, run-stands}
 
--- where x tells of event e in state s by a refusal, it has no moves, that state's drawn relays, and that state
-abbrev pub Untouched : ℕ → State → Shown → Type 0
-Untouched e s x = x ≡ (event e (wordOf (x .0)) 0 (s .drawn), s)
+-- where x tells of event e by a refusal, it has no moves, the drawn relays of h, and h
+abbrev pub Untouched : ℕ → Kept → Shown → Type 0
+Untouched e h x = x ≡ (event e (wordOf (x .0)) 0 (h .state .drawn), h)
 
-abbrev pub LineStands : ℕ → State → Outcome (Unit {0}) → Shown → Type 0
-LineStands e s = StandsAgainst (λ (x : Shown). wordOf (x .0)) (Untouched e s)
+abbrev pub LineStands : ℕ → Kept → Outcome (Unit {0}) → Shown → Type 0
+LineStands e h = StandsAgainst (λ (x : Shown). wordOf (x .0)) (Untouched e h)
 
 -- ---- a run that is told
 
@@ -38,89 +41,87 @@ log-short : length sessionLog ≤ longestLog
 log-short = simp length-replicate (omega arith)
 
 -- the line of 13 falls away where the log is not too long
-runs-short : (b : Board) (s : State) (log : List ℕ) → length log ≤ longestLog
-    → firstNo (runLines b s log) ≡ firstNo (usableLines b s)
+runs-short : (b : Board) (h : Kept) (log : List ℕ) → length log ≤ longestLog
+    → firstNo (runLines b h log) ≡ firstNo (usableLines b h)
 unfolding firstNo
-runs-short b s log short = rw (le-leb (length log) longestLog short)
+runs-short b h log short = rw (le-leb (length log) longestLog short)
 
-module _ (b : Board) (e w : ℕ) (s : State) where
-  not-run-untouched : (x : Ran) → NotRun s sessionLog x → Untouched e s (tells e x)
+module _ (b : Board) (e w : ℕ) (h : Kept) where
+  not-run-untouched : (x : Ran) → NotRun h sessionLog x → Untouched e h (tells e x)
   not-run-untouched x not-run i =
-      (event e (x .word) (not-run .1 .0 i) (not-run .0 i .drawn), not-run .0 i)
+      (event e (x .word) (not-run .1 .0 i) (not-run .0 i .state .drawn), not-run .0 i)
 
-  pub ran-line-stands : LineStands e s (firstNo (usableLines b s)) (ranLine b e s w)
+  pub ran-line-stands : LineStands e h (firstNo (usableLines b h)) (ranLine b e h w)
   unfolding ranLine
   ran-line-stands =
-      let stands = run-stands b s sessionLog w in
+      let stands = run-stands b h sessionLog w in
       record {
-        first = stands .first ∙ runs-short b s sessionLog log-short;
-        left = λ n p is. not-run-untouched (running b s sessionLog w) (stands .left n p is);
+        first = stands .first ∙ runs-short b h sessionLog log-short;
+        left = λ n p is. not-run-untouched (running b h sessionLog w) (stands .left n p is);
       }
 
 -- ---- the push or release of an event
 
--- o stands against the push or release x in state s, and where nothing does a run can use the state left
-record PressStands (b : Board) (s : State) (o : Outcome (Unit {0})) (x : State × Outcome (Unit {0})) : Type 0 where
-  stands : LeftStands s o x
+-- o stands against the push or release x from h, and where nothing does a run can use what is left
+record PressStands (b : Board) (h : Kept) (o : Outcome (Unit {0})) (x : Kept × Outcome (Unit {0})) : Type 0 where
+  stands : LeftStands h o x
   goes : x .1 ≡ given tt → usable b (x .0) ≡ given tt
 
-left-given : (s t : State) (o : Outcome (Unit {0})) → left s (λ u. t) o .1 ≡ given tt
-    → (o ≡ given tt) × (left s (λ u. t) o .0 ≡ t)
+left-given : (h k : Kept) (o : Outcome (Unit {0})) → left h (λ u. k) o .1 ≡ given tt
+    → (o ≡ given tt) × (left h (λ u. k) o .0 ≡ k)
 unfolding left
-left-given s t (given u) is = (refl, refl)
-left-given s t (refused n p) is = absurd (refused-never n p tt is)
+left-given h k (given u) is = (refl, refl)
+left-given h k (refused n p) is = absurd (refused-never n p tt is)
 
-module _ (b : Board) (s : State) where
+module _ (b : Board) (h : Kept) where
   left-goes : (t : State) (n : ℕ) (settable : Bool)
-      → (stateFine (b .counts) s ≡ true → ltb n (b .counts .buttons) ≡ true → stateFine (b .counts) t ≡ true)
-      → left s (λ u. t) (firstNo (pressLines b s n settable)) .1 ≡ given tt
-      → usable b (left s (λ u. t) (firstNo (pressLines b s n settable)) .0) ≡ given tt
-  unfolding usable
+      → (stateFine (b .counts) (h .state) ≡ true → ltb n (b .counts .buttons) ≡ true → stateFine (b .counts) t ≡ true)
+      → left h (λ u. keptAt b t) (firstNo (pressLines b h n settable)) .1 ≡ given tt
+      → usable b (left h (λ u. keptAt b t) (firstNo (pressLines b h n settable)) .0) ≡ given tt
   left-goes t n settable fits is =
-      let done = left-given s t (firstNo (pressLines b s n settable)) is in
-      let asked = all-hold (usableLines b s) _ (done .0) in
-      let fine = usable-given b s (asked .0) in
-      let below = first-holds (ltb n (b .counts .buttons)) noSuchName _ (asked .1) .0 in
-      ap (usable b) (done .1) ∙ usable-fine b t (fine .0) (fits (fine .1) below)
+      let done = left-given h (keptAt b t) (firstNo (pressLines b h n settable)) is in
+      let asked = press-usable b h n settable (done .0) in
+      let fine = usable-given b h (asked .0) in
+      ap (usable b) (done .1) ∙ usable-fine b t (fine .0) (fits (fine .1) (asked .1))
 
-  press-push : (n : ℕ) → PressStands b s (firstNo (pushLines b s n)) (pushing b s n)
+  press-push : (n : ℕ) → PressStands b h (firstNo (pushLines b h n)) (pushing b h n)
   unfolding pushing
   press-push n = record {
-    stands = push-stands b s n;
+    stands = push-stands b h n;
     goes =
-        left-goes (withPushed s n) n (not (isPushed s n))
-        (λ fine below. state-fits-push (b .counts) s n fine (ltb-true n (b .counts .buttons) below));
+        left-goes (withPushed (h .state) n) n (not (isPushed (h .state) n))
+        (λ fine below. state-fits-push (b .counts) (h .state) n fine (ltb-true n (b .counts .buttons) below));
   }
 
-  press-release : (n : ℕ) → PressStands b s (firstNo (releaseLines b s n)) (releasing b s n)
+  press-release : (n : ℕ) → PressStands b h (firstNo (releaseLines b h n)) (releasing b h n)
   unfolding releasing
   press-release n = record {
-    stands = release-stands b s n;
+    stands = release-stands b h n;
     goes =
-        left-goes (withReleased s n) n (isPushed s n)
-        (λ fine below. state-fits-release (b .counts) s n fine);
+        left-goes (withReleased (h .state) n) n (isPushed (h .state) n)
+        (λ fine below. state-fits-release (b .counts) (h .state) n fine);
   }
 
-  pressing-stands : (v : Event) → PressStands b s (firstNo (madeLines b s v)) (pressing b s v)
+  pressing-stands : (v : Event) → PressStands b h (firstNo (madeLines b h v)) (pressing b h v)
   unfolding pressing
   pressing-stands v = by (v .push)
     where
       by : (push : Bool)
-          → PressStands b s (firstNo (cond push (pushLines b s (v .button)) (releaseLines b s (v .button))))
-          (cond push (pushing b s (v .button)) (releasing b s (v .button)))
+          → PressStands b h (firstNo (cond push (pushLines b h (v .button)) (releaseLines b h (v .button))))
+          (cond push (pushing b h (v .button)) (releasing b h (v .button)))
       by true = press-push (v .button)
       by false = press-release (v .button)
 
   -- ---- an event that is told
 
   module _ (e w : ℕ) where
-    -- nothing stands against a run from a usable state
-    ran-line-given : (t : State) → usable b t ≡ given tt → against (wordOf (ranLine b e t w .0)) ≡ given tt
+    -- nothing stands against a run from what a call can use
+    ran-line-given : (t : Kept) → usable b t ≡ given tt → against (wordOf (ranLine b e t w .0)) ≡ given tt
     unfolding usable
     ran-line-given t goes = ran-line-stands b e w t .first ∙ goes
 
-    pressed-line-stands : (o : Outcome (Unit {0})) (x : State × Outcome (Unit {0})) → PressStands b s o x
-        → LineStands e s o (pressedLine b e x w)
+    pressed-line-stands : (o : Outcome (Unit {0})) (x : Kept × Outcome (Unit {0})) → PressStands b h o x
+        → LineStands e h o (pressedLine b e x w)
     unfolding pressedLine
     pressed-line-stands o (t, given u) press =
         let ran = ran-line-given t (press .goes refl) in
@@ -130,19 +131,19 @@ module _ (b : Board) (s : State) where
         }
     pressed-line-stands o (t, refused n p) press = record {
       first = press .stands .first;
-      left = λ k q is. ap {B = Shown} (λ (u : State). (event e (refused n p) 0 (u .drawn), u))
+      left = λ k q is. ap {B = Shown} (λ (u : Kept). (event e (refused n p) 0 (u .state .drawn), u))
           (press .stands .left n p refl);
     }
 
-    pub event-line-stands : (v : Event) → LineStands e s (firstNo (madeLines b s v)) (eventLine b e s v w)
+    pub event-line-stands : (v : Event) → LineStands e h (firstNo (madeLines b h v)) (eventLine b e h v w)
     unfolding eventLine
-    event-line-stands v = pressed-line-stands (firstNo (madeLines b s v)) (pressing b s v) (pressing-stands v)
+    event-line-stands v = pressed-line-stands (firstNo (madeLines b h v)) (pressing b h v) (pressing-stands v)
 
 -- ---- what a call shows by a refusal
 
-pub shown-untouched : (e : ℕ) (s : State) (x : Shown) (n p : ℕ) → Untouched e s x → wordOf (x .0) ≡ refused n p
-    → (x .0 ≡ event e (refused n p) 0 (s .drawn)) × (x .1 ≡ s)
-shown-untouched e s x n p kept word = (
-  ap (λ (z : Shown). z .0) kept ∙ ap (λ o. event e o 0 (s .drawn)) word,
+pub shown-untouched : (e : ℕ) (h : Kept) (x : Shown) (n p : ℕ) → Untouched e h x → wordOf (x .0) ≡ refused n p
+    → (x .0 ≡ event e (refused n p) 0 (h .state .drawn)) × (x .1 ≡ h)
+shown-untouched e h x n p kept word = (
+  ap (λ (z : Shown). z .0) kept ∙ ap (λ o. event e o 0 (h .state .drawn)) word,
   ap (λ (z : Shown). z .1) kept,
 )

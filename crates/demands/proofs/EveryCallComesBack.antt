@@ -10,7 +10,8 @@ use Rattle.number.proofs.FormExactly.{form-exactly}
 use Rattle.board.specs.declared.Board.{Board}
 use Rattle.board.proofs.BreaksNoRule.{fifteen-exactly}
 use Rattle.state.proofs.Fourteen.{fourteen-exactly}
-use Rattle.state.specs.declared.State.{State}
+use Rattle.kept.specs.declared.Kept.{Kept}
+use Rattle.kept.proofs.Eighteen.{eighteen-exactly}
 use Rattle.board_reader.proofs.ReadLaws.{reading-refused}
 use Rattle.search.specs.Verdicts.{Finding, Verdict}
 use Rattle.moves.specs.Steps.{Move}
@@ -48,10 +49,10 @@ module _ {A R : Type 0} (word : R → Outcome A) {So : R → Type 0} {o : Outcom
 abbrev written : Outcome ℕ × List ℕ → Outcome ℕ
 written x = x .0
 
-abbrev pressed : State × Outcome (Unit {0}) → Outcome (Unit {0})
+abbrev pressed : Kept × Outcome (Unit {0}) → Outcome (Unit {0})
 pressed x = x .1
 
-abbrev moved : State × Outcome Move → Outcome Move
+abbrev moved : Kept × Outcome Move → Outcome Move
 moved x = x .1
 
 abbrev judged : Verdict → Outcome Finding
@@ -73,17 +74,18 @@ in-order = record {
   eleven = eleven-exactly;
   eleven-moved = move-eleven-exactly;
   fourteen = fourteen-exactly;
+  eighteen = eighteen-exactly;
   fifteen = fifteen-exactly;
   writes-number = λ v out out′ at x wrote. told-first written wrote (number-writing-stands v out at);
   writes-line = λ l out out′ x wrote. told-first written wrote (line-writing-stands (toldLine l) out);
   writes = λ b out out′ w wrote. told-first written wrote (writing-stands b out);
-  pushes = λ b s n x press. sym (against-itself _) ∙ told-first pressed press (push-stands b s n);
-  releases = λ b s n x press. sym (against-itself _) ∙ told-first pressed press (release-stands b s n);
-  judges = λ b s r k w v told. told-first judged told (judge-stands b s r k w);
-  moves = λ b s r w a told. told-first moved told (move-stands b s r w);
-  runs = λ b s w log log′ a told. told-first ran told (run-stands b s log w);
-  tells-run = λ b e s w x told. told-first shown told (ran-line-stands b e w s);
-  tells-event = λ b e s v w x told. told-first shown told (event-line-stands b s e w v);
+  pushes = λ b h n x press. sym (against-itself _) ∙ told-first pressed press (push-stands b h n);
+  releases = λ b h n x press. sym (against-itself _) ∙ told-first pressed press (release-stands b h n);
+  judges = λ b h r k w v told. told-first judged told (judge-stands b h r k w);
+  moves = λ b h r w a told. told-first moved told (move-stands b h r w);
+  runs = λ b h w log log′ a told. told-first ran told (run-stands b h log w);
+  tells-run = λ b e h w x told. told-first shown told (ran-line-stands b e w h);
+  tells-event = λ b e h v w x told. told-first shown told (event-line-stands b h e w v);
   hands = λ z s out out′ r told. told-first handed told (next-line-stands (toldSession z) s out);
   hands-lines = λ z s out out′ r told. told-first handed told (next-lines-stand (toldSession z) s out);
 }
@@ -104,15 +106,15 @@ as-lent = record {
     told-left written wrote (writing-stands b out) n p is,
     nothing-written w n p is,
   );
-  pushes = λ b s k x n p press is. told-left pressed press (push-stands b s k) n p is;
-  releases = λ b s k x n p press is. told-left pressed press (release-stands b s k) n p is;
-  judges = λ b s r k w v n p told is. told-left judged told (judge-stands b s r k w) n p is;
-  moves = λ b s r w a n p told is. told-left moved told (move-stands b s r w) n p is;
-  runs = λ b s w log log′ a n p told is. told-left ran told (run-stands b s log w) n p is;
-  tells-run = λ b e s w x n p told is.
-      shown-untouched e s _ n p (told-left shown told (ran-line-stands b e w s) n p is) is;
-  tells-event = λ b e s v w x n p told is.
-      shown-untouched e s _ n p (told-left shown told (event-line-stands b s e w v) n p is) is;
+  pushes = λ b h k x n p press is. told-left pressed press (push-stands b h k) n p is;
+  releases = λ b h k x n p press is. told-left pressed press (release-stands b h k) n p is;
+  judges = λ b h r k w v n p told is. told-left judged told (judge-stands b h r k w) n p is;
+  moves = λ b h r w a n p told is. told-left moved told (move-stands b h r w) n p is;
+  runs = λ b h w log log′ a n p told is. told-left ran told (run-stands b h log w) n p is;
+  tells-run = λ b e h w x n p told is.
+      shown-untouched e h _ n p (told-left shown told (ran-line-stands b e w h) n p is) is;
+  tells-event = λ b e h v w x n p told is.
+      shown-untouched e h _ n p (told-left shown told (event-line-stands b h e w v) n p is) is;
   hands = λ z s out out′ r n p told is.
       kept z r out out′ (told-left handed told (next-line-stands (toldSession z) s out) n p is);
   hands-lines = λ z s out out′ r n p told is.

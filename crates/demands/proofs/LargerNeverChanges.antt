@@ -14,7 +14,9 @@ use Rattle.board.specs.Rules.{boardFine}
 use Rattle.board.specs.Sorts.{carries}
 use Rattle.state.specs.declared.State.{State}
 use Rattle.state.specs.States.{emptyState, stateFine}
-use Rattle.neighbours.specs.Neighbours.{setAt, tableFrom, setsAt, neighbours, bareNeighbours}
+use Rattle.neighbours.specs.Neighbours.{setFrom, setAt, tableFrom, setsAt, neighbours, bareNeighbours}
+use Rattle.kept.specs.declared.Kept.{Kept}
+use Rattle.kept.specs.Kept.{keptAt, sameRow, belongs}
 use Rattle.chains.specs.ChainList.{isIn, canFollow, tries, beyond, chains, crosses, someCrosses, beside, shows}
 use Rattle.reach.specs.Floods.{nextSeen, floodOn, flooded}
 use Rattle.search.specs.declared.Winding.{Winding}
@@ -27,8 +29,8 @@ use Rattle.judge.specs.Judging.{shunted, judgedBy, windingFor, judging, Judges}
 use Rattle.judge_means.specs.Exactness.{Judge, Keeps, AcceptedWinding, chainsOf, IsShown, IsLive, effortOf}
 use Rattle.judge_means.specs.Shunts.{Shunted}
 use Rattle.judge_means.proofs.Exactness.{liveVerdict, deadVerdict, the-chains, effort-numbers, judges-keep}
-use Rattle.judge_means.proofs.Exactness.{live-exactly, dead-exactly, undecided-exactly, live-shows, shunted-dead}
-use Rattle.judge_means.proofs.Exactness.{dead-counts, undecided-reports}
+use Rattle.judge_means.proofs.Exactness.{as-afresh, live-exactly, dead-exactly, undecided-exactly, live-shows}
+use Rattle.judge_means.proofs.Exactness.{shunted-dead, dead-counts, undecided-reports}
 use Rattle.judge_means.proofs.Allowances.{larger-allowance, turns-at-effort, effort-some-always}
 use Rattle.runs_means.proofs.LongerRuns.{longer-run}
 use Rattle.demands.specs.Starred.{h1, pushed0}
@@ -36,6 +38,7 @@ use Rattle.demands.specs.LargerNeverChanges.{JudgedExactly, NoWordAlways
 
 judged-exactly : (J : Judge) → Keeps J → JudgedExactly J
 judged-exactly J keeps = record {
+  afresh = as-afresh J keeps;
   live = live-exactly J keeps;
   dead = dead-exactly J keeps;
   undecided = undecided-exactly J keeps;
@@ -53,29 +56,36 @@ judged-exactly J keeps = record {
 abbrev ends : Winding
 ends = record { a = 2; b = 1 }
 
--- what H1 comes to while its button is pushed, and while it is not
+-- while its button is pushed, and while it is not, with the sets beside the state
+abbrev down : Kept
+down = keptAt h1 pushed0
+
+abbrev up : Kept
+up = keptAt h1 emptyState
+
+-- what H1 comes to then
 record H1 : Type 0 where
-  pushed-taken : AcceptedWinding h1 pushed0 0 First ends
-  rest-taken : AcceptedWinding h1 emptyState 0 First ends
-  pushed : Judges h1 pushed0 0 First 100 (liveVerdict 3 (0 ∷ 2 ∷ 1 ∷ []))
-  rest : Judges h1 emptyState 0 First 100 (deadVerdict 1)
+  pushed-taken : AcceptedWinding h1 down 0 First ends
+  rest-taken : AcceptedWinding h1 up 0 First ends
+  pushed : Judges h1 down 0 First 100 (liveVerdict 3 (0 ∷ 2 ∷ 1 ∷ []))
+  rest : Judges h1 up 0 First 100 (deadVerdict 1)
 
 h1-judged : H1
 unfolding firstNo member including excluding remaining together firstFrom lowestFrom within every complete padded
-    inRange countsFine nameFine endsFit partFits partFine gainedAll partsFine boardFine carries stateFine setAt
-    tableFrom setsAt neighbours bareNeighbours nextSeen floodOn flooded isIn canFollow tries beyond chains crosses
-    someCrosses beside shows firstShown effort places weighed verdictBy inSets windingOf shunted judgedBy windingFor
-    judging
+    inRange countsFine nameFine endsFit partFits partFine gainedAll partsFine boardFine carries stateFine setFrom setAt
+    tableFrom setsAt neighbours bareNeighbours sameRow belongs nextSeen floodOn flooded isIn canFollow tries beyond
+    chains crosses someCrosses beside shows firstShown effort places weighed verdictBy inSets windingOf shunted judgedBy
+    windingFor judging
 h1-judged = record { pushed-taken = refl; rest-taken = refl; pushed = refl; rest = refl }
 
 pushed-live : IsLive h1 pushed0 ends × (effortOf h1 pushed0 ends ≤ 100)
 pushed-live =
-    live-exactly _ judges-keep h1 pushed0 0 First 100 ends _ (h1-judged .pushed) (h1-judged .pushed-taken) .0 refl
+    live-exactly _ judges-keep h1 down 0 First 100 ends _ (h1-judged .pushed) (h1-judged .pushed-taken) .0 refl
 
 rest-dead : Shunted h1 emptyState ends
     ⊎ (¬ (IsShown h1 emptyState ends) × (length (chainsOf h1 emptyState) ≤ 100))
 rest-dead =
-    dead-exactly _ judges-keep h1 emptyState 0 First 100 ends _ (h1-judged .rest) (h1-judged .rest-taken) .0 refl
+    dead-exactly _ judges-keep h1 up 0 First 100 ends _ (h1-judged .rest) (h1-judged .rest-taken) .0 refl
 
 -- dead is not live
 never-both : (s : State) → Shunted h1 s ends ⊎ (¬ (IsShown h1 s ends) × (length (chainsOf h1 s) ≤ 100))
@@ -87,12 +97,12 @@ never-both s (inr dead) live = dead .0 (live .0)
 no-word-always : NoWordAlways
 no-word-always f = (
   λ exactly.
-      let live = exactly h1 pushed0 0 First 100 ends (saying f) refl (h1-judged .pushed-taken) .1 pushed-live in
+      let live = exactly h1 down 0 First 100 ends (saying f) refl (h1-judged .pushed-taken) .1 pushed-live in
       never-both emptyState rest-dead
-      (exactly h1 emptyState 0 First 100 ends (saying f) refl (h1-judged .rest-taken) .0 live .0),
+      (exactly h1 up 0 First 100 ends (saying f) refl (h1-judged .rest-taken) .0 live .0),
   λ exactly.
-      let dead = exactly h1 emptyState 0 First 100 ends (saying f) refl (h1-judged .rest-taken) .1 rest-dead in
-      never-both pushed0 (exactly h1 pushed0 0 First 100 ends (saying f) refl (h1-judged .pushed-taken) .0 dead)
+      let dead = exactly h1 up 0 First 100 ends (saying f) refl (h1-judged .rest-taken) .1 rest-dead in
+      never-both pushed0 (exactly h1 down 0 First 100 ends (saying f) refl (h1-judged .pushed-taken) .0 dead)
       (pushed-live .0),
 )
   where

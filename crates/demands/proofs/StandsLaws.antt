@@ -15,7 +15,9 @@ use Rattle.number.specs.Numbers.{numberLines, numberWriting}
 use Rattle.board.specs.declared.Board.{Board}
 use Rattle.board.specs.Parts.{partsOf}
 use Rattle.state.specs.declared.State.{State}
-use Rattle.state.specs.States.{withPushed, withReleased, usableLines, left}
+use Rattle.state.specs.States.{withPushed, withReleased}
+use Rattle.kept.specs.declared.Kept.{Kept}
+use Rattle.kept.specs.Kept.{keptAt, usableLines, left}
 use Rattle.presses.specs.Presses.{pushLines, releaseLines, pushing, releasing}
 use Rattle.board_writer.specs.declared.Written.{Written}
 use Rattle.board_writer.specs.declared.Written.the-variants.{Bytes, Refused}
@@ -65,13 +67,13 @@ nothing-written (Refused r) n p e = refl
 
 -- ---- a button, and a single move: what is left beside what the call came to
 
-abbrev pub LeftStands : {A : Type 0} → State → Outcome (Unit {0}) → State × Outcome A → Type 0
-LeftStands s = StandsAgainst (λ x. x .1) (λ x. x .0 ≡ s)
+abbrev pub LeftStands : {A : Type 0} → Kept → Outcome (Unit {0}) → Kept × Outcome A → Type 0
+LeftStands h = StandsAgainst (λ x. x .1) (λ x. x .0 ≡ h)
 
-left-stands : {A : Type 0} (s : State) (f : A → State) (o : Outcome A) → LeftStands s (against o) (left s f o)
+left-stands : {A : Type 0} (h : Kept) (f : A → Kept) (o : Outcome A) → LeftStands h (against o) (left h f o)
 unfolding left
-left-stands s f (given a) = record { first = refl; left = λ n p e. absurd (refused-never n p a (sym e)) }
-left-stands s f (refused n p) = record { first = refl; left = λ m q e. refl }
+left-stands h f (given a) = record { first = refl; left = λ n p e. absurd (refused-never n p a (sym e)) }
+left-stands h f (refused n p) = record { first = refl; left = λ m q e. refl }
 
 pub against-itself : (o : Outcome (Unit {0})) → against o ≡ o
 against-itself (given u) = refl
@@ -81,23 +83,25 @@ against-then : {A : Type 0} (o : Outcome (Unit {0})) (a : A) → against (o >> g
 against-then (given u) a = refl
 against-then (refused n p) a = refl
 
-pub push-stands : (b : Board) (s : State) (n : ℕ) → LeftStands s (firstNo (pushLines b s n)) (pushing b s n)
+pub push-stands : (b : Board) (h : Kept) (n : ℕ) → LeftStands h (firstNo (pushLines b h n)) (pushing b h n)
 unfolding pushing
-push-stands b s n =
-    subst (λ o. LeftStands s o (pushing b s n)) (against-itself (firstNo (pushLines b s n)))
-    (left-stands s (λ u. withPushed s n) (firstNo (pushLines b s n)))
+push-stands b h n =
+    subst (λ o. LeftStands h o (pushing b h n)) (against-itself (firstNo (pushLines b h n)))
+    (left-stands h (λ u. keptAt b (withPushed (h .state) n)) (firstNo (pushLines b h n)))
 
-pub release-stands : (b : Board) (s : State) (n : ℕ) → LeftStands s (firstNo (releaseLines b s n)) (releasing b s n)
+pub release-stands : (b : Board) (h : Kept) (n : ℕ) → LeftStands h (firstNo (releaseLines b h n)) (releasing b h n)
 unfolding releasing
-release-stands b s n =
-    subst (λ o. LeftStands s o (releasing b s n)) (against-itself (firstNo (releaseLines b s n)))
-    (left-stands s (λ u. withReleased s n) (firstNo (releaseLines b s n)))
+release-stands b h n =
+    subst (λ o. LeftStands h o (releasing b h n)) (against-itself (firstNo (releaseLines b h n)))
+    (left-stands h (λ u. keptAt b (withReleased (h .state) n)) (firstNo (releaseLines b h n)))
 
-pub move-stands : (b : Board) (s : State) (r w : ℕ) → LeftStands s (firstNo (moveLines b s r)) (moving b s r w)
+pub move-stands : (b : Board) (h : Kept) (r w : ℕ) → LeftStands h (firstNo (moveLines b h r)) (moving b h r w)
 unfolding moving movable
-move-stands b s r w =
-    subst (λ o. LeftStands s o (moving b s r w)) (against-then (firstNo (moveLines b s r)) (stepOf b s r w))
-    (left-stands s (made s r) (firstNo (moveLines b s r) >> given (stepOf b s r w)))
+move-stands b h r w =
+    subst (λ o. LeftStands h o (moving b h r w))
+    (against-then (firstNo (moveLines b h r)) (stepOf b (h .state) r w))
+    (left-stands h (λ m. keptAt b (made (h .state) r m))
+    (firstNo (moveLines b h r) >> given (stepOf b (h .state) r w)))
 
 -- ---- judging
 
@@ -136,36 +140,36 @@ asked-last (given u) (some v) = refl
 asked-last (given u) none = refl
 asked-last (refused n p) v = refl
 
-pub judge-stands : (b : Board) (s : State) (r : ℕ) (k : Which) (w : ℕ)
-    → StandsAgainst (λ (v : Verdict). v .finding) NoVerdict (firstNo (judgeLines b s r k)) (judging b s r k w)
+pub judge-stands : (b : Board) (h : Kept) (r : ℕ) (k : Which) (w : ℕ)
+    → StandsAgainst (λ (v : Verdict). v .finding) NoVerdict (firstNo (judgeLines b h r k)) (judging b h r k w)
 unfolding judging windingFor
-judge-stands b s r k w =
-    subst (λ o. StandsAgainst (λ (v : Verdict). v .finding) NoVerdict o (judging b s r k w)) lines
-    (verdict-stands b s w (windingFor b s r k))
+judge-stands b h r k w =
+    subst (λ o. StandsAgainst (λ (v : Verdict). v .finding) NoVerdict o (judging b h r k w)) lines
+    (verdict-stands b (h .state) w (windingFor b h r k))
   where
     winding : Option Winding
     winding = windingOf k r (partsOf b)
 
-    split : firstNo (judgeLines b s r k)
-        ≡ (firstNo (usableLines b s) >> firstNo ((isThere winding, noSuchWinding) ∷ []))
-    split = asks-append (usableLines b s) ((isThere winding, noSuchWinding) ∷ [])
+    split : firstNo (judgeLines b h r k)
+        ≡ (firstNo (usableLines b h) >> firstNo ((isThere winding, noSuchWinding) ∷ []))
+    split = asks-append (usableLines b h) ((isThere winding, noSuchWinding) ∷ [])
 
-    lines : against (firstNo (judgeLines b s r k) >> orNoSuchWinding winding) ≡ firstNo (judgeLines b s r k)
+    lines : against (firstNo (judgeLines b h r k) >> orNoSuchWinding winding) ≡ firstNo (judgeLines b h r k)
     lines =
         ap (λ (o : Outcome (Unit {0})). against (o >> orNoSuchWinding winding)) split
-        ∙ asked-last (firstNo (usableLines b s)) winding ∙ sym split
+        ∙ asked-last (firstNo (usableLines b h)) winding ∙ sym split
 
 -- ---- running
 
--- a refused run leaves the state and the log as they were, with no moves and no relay
-abbrev pub NotRun : State → List ℕ → Ran → Type 0
-NotRun s log x = (x .state ≡ s) × ((x .moves ≡ 0) × ((x .relay ≡ noRelay) × (x .log ≡ log)))
+-- a refused run leaves the state, the sets and the log as they were, with no moves and no relay
+abbrev pub NotRun : Kept → List ℕ → Ran → Type 0
+NotRun h log x = (x .kept ≡ h) × ((x .moves ≡ 0) × ((x .relay ≡ noRelay) × (x .log ≡ log)))
 
-pub run-stands : (b : Board) (s : State) (log : List ℕ) (w : ℕ)
-    → StandsAgainst (λ (x : Ran). x .word) (NotRun s log) (firstNo (runLines b s log)) (running b s log w)
+pub run-stands : (b : Board) (h : Kept) (log : List ℕ) (w : ℕ)
+    → StandsAgainst (λ (x : Ran). x .word) (NotRun h log) (firstNo (runLines b h log)) (running b h log w)
 unfolding running runnable ran
-run-stands b s log w =
-    answering-stands _ _ _ _ (λ n p. (refl, (refl, (refl, (refl, refl))))) refl (firstNo (runLines b s log))
+run-stands b h log w =
+    answering-stands _ _ _ _ (λ n p. (refl, (refl, (refl, (refl, refl))))) refl (firstNo (runLines b h log))
 
 -- ---- the next line, and the next lines
 

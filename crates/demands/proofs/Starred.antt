@@ -10,11 +10,12 @@ use Rattle.board.specs.Parts.{padded}
 use Rattle.board.specs.Rules.{inRange, countsFine, nameFine, endsFit, partFits, partFine, gainedAll, partsFine}
 use Rattle.board.specs.Rules.{boardFine}
 use Rattle.board.specs.Sorts.{carries}
-use Rattle.state.specs.States.{stateFine, left}
+use Rattle.state.specs.States.{stateFine}
 use Rattle.presses.specs.Presses.{pushing, releasing}
 use Rattle.board_reader.specs.Reading.{wanted, countsAt, nameAt, endsAt, partAt, partsAt, boardFrom, boardAt}
 use Rattle.board_reader.specs.Reading.{answered, reading}
-use Rattle.neighbours.specs.Neighbours.{setAt, tableFrom, setsAt, neighbours, bareNeighbours}
+use Rattle.neighbours.specs.Neighbours.{setFrom, setAt, tableFrom, setsAt, neighbours, bareNeighbours}
+use Rattle.kept.specs.Kept.{sameRow, belongs, left}
 use Rattle.chains.specs.ChainList.{isIn, canFollow, tries, beyond, chains, crosses, someCrosses, beside, shows}
 use Rattle.reach.specs.Floods.{nextSeen, floodOn, flooded}
 use Rattle.search.specs.Verdicts.{firstShown, effort, places, weighed, verdictBy, inSets}
@@ -41,11 +42,11 @@ pub starred-boards : Starred
 unfolding firstNo kindOf below form placed numberAt member including excluding remaining together firstFrom lowestFrom
     within every complete padded inRange countsFine nameFine endsFit partFits partFine gainedAll partsFine boardFine
     carries stateFine left pushing releasing wanted countsAt nameAt endsAt partAt partsAt boardFrom boardAt answered
-    reading setAt tableFrom setsAt neighbours bareNeighbours nextSeen floodOn flooded isIn canFollow tries beyond
-    chains crosses someCrosses beside shows firstShown effort places weighed verdictBy inSets windingOf windingsAt
-    shunted judgedBy windingFor judging regularMove steelMove decide findingsOn stepBy stepOf movable moving lookFrom
-    runOf runnable ran running digitsOf decimal lineText eventAt pressing ranLine pressedLine eventLine withAllowance
-    headAt linesFrom headLines sessionLines lineTexts printed sessionText
+    reading setFrom setAt tableFrom setsAt neighbours bareNeighbours sameRow belongs nextSeen floodOn flooded isIn
+    canFollow tries beyond chains crosses someCrosses beside shows firstShown effort places weighed verdictBy inSets
+    windingOf windingsAt shunted judgedBy windingFor judging regularMove steelMove decide findingsOn stepBy stepOf
+    movable moving lookFrom runOf runnable ran running digitsOf decimal lineText eventAt pressing ranLine pressedLine
+    eventLine withAllowance headAt linesFrom headLines sessionLines lineTexts printed sessionText
 starred-boards =
     (λ x told. told) & (λ a k told. told) & (λ v told. told) & (λ v told. told) & (λ v told. told)
     & (λ a k told. told) & (λ a k told. told) & (λ v told. told) & (λ v told. told) & (λ v told. told)
@@ -59,4 +60,7 @@ starred-boards =
     & (λ x told. told) & (λ x told. told) & (λ x told. told) & (λ v told. told) & (λ v told. told)
     & (λ v told. told) & (λ v told. told) & (λ a k told. told) & refl & (λ v told. told) & (λ v told. told)
     & (λ v told. told) & (λ a told. told) & (λ v told. told) & (λ v told. told) & (λ v told. told)
-    & (λ v told. told) & (λ a k told. told) & (λ v told. told) & (λ v told. told) & (λ a told. told) & tt
+    & (λ v told. told) & (λ a k told. told) & (λ v told. told) & (λ v told. told) & (λ a told. told)
+    & (λ x told. told) & (λ x told. told) & (λ x told. told) & (λ a told. told) & (λ a told. told)
+    & (λ x told. told) & (λ x told. told) & (λ v told. told) & (λ v told. told) & (λ v told. told)
+    & (λ v told. told) & (λ a told. told) & (λ a k told. told) & (λ v told. told) & tt

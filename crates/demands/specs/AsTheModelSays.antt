@@ -24,7 +24,9 @@
 --     "A run moves the lowest relay that can move until it is idle or must stop."
 --         `runs`; `fresh`: in the fresh state of a board exactly the relays are drawn that it marks (request A2); and
 --         what a session prints of its runs, from that state on: `lines`, `all-lines`, in buffers `filled`,
---         `all-filled`; `events`, `closed`, `drawn`
+--         `all-filled`; `events`, `closed`, `drawn`. All these go by sets that are kept beside the state (request A5):
+--         `belong`, after any calls they are those worked out from board and state; `only-at-ends`, `only-ends`: a move
+--         or a button changes only the sets at the ends of that relay's contacts or that button's parts
 -- Each field is put into words in the file that defines it. `paths`, `carrying`, `winding`, `sorts` and `wound` are of
 -- boards and states, `events`, `closed` and `drawn` of the session's lines; those of requests A1 and A2 from
 -- `files-kept` to `lines-stand` are of the definitions at two editions; the others are over the calls.
@@ -38,6 +40,7 @@ use Rattle.file_means.specs.BytesAfter.{BytesAfter}
 use Rattle.file_means.specs.FileRefusals.{FileAccepted}
 use Rattle.file_means.specs.FilesKept.{FilesKept, OnlyByTwo}
 use Rattle.file_means.specs.SecondEdition.{FirstFilesKept, OnlyByFour, MarklessAsBefore, MarkTurnedAway}
+use Rattle.kept.specs.OnlyEnds.{OnlyEnds}
 use Rattle.judge.specs.Judging.{Judges}
 use Rattle.judge_means.specs.Circuits.{PathsAreChains, LiveIsCarrying}
 use Rattle.judge_means.specs.Exactness.{ShuntedDead, AsPublished}
@@ -46,6 +49,7 @@ use Rattle.moves_means.specs.SingleMoves.{MoveExactly}
 use Rattle.moves_means.specs.ByChains.{RegularByChains, SteelByChains}
 use Rattle.moves_means.specs.OneRelay.{ChangesOneRelay}
 use Rattle.runs_means.specs.Courses.{RunExactly}
+use Rattle.runs_means.specs.KeptSets.{OnlyAtEnds, BelongAlways}
 use Rattle.session_means.specs.HandedLines.{LinesHandedOut, AllHandedOut}
 use Rattle.session_means.specs.FilledBuffers.{BuffersFilled, AllFilled}
 use Rattle.session_means.specs.EventRefusals.{EventsRefused, EventsClosed}
@@ -76,6 +80,11 @@ pub record AsTheModelSays : Type 0 where
   pub runs : RunExactly
   -- in a fresh state exactly the relays that the board marks are drawn
   pub fresh : FreshFollows
+  -- after any calls the kept sets are those of board and state; a push, a release or a move changes only those at its
+  -- ends
+  pub belong : BelongAlways
+  pub only-at-ends : OnlyAtEnds
+  pub only-ends : OnlyEnds
   -- board files keep their meaning
   pub written-read : WriteThenRead
   pub read-written : ReadThenWrite

@@ -6,23 +6,26 @@
 --     "What it can't use it refuses by number, in a stated order,"
 --         `in-order`: the first line that holds, of each call's lines in the stated order. What stands behind some of
 --         these lines: `forms`, a number that is cut, too long, too large or not shortest; `fifteen`, a board that
---         breaks a rule; `fourteen`, a state with what the board lacks; `eleven`, a winding that isn't there
+--         breaks a rule; `fourteen`, a state with what the board lacks; `eighteen`, kept sets that don't belong to
+--         board and state; `eleven`, a winding that isn't there
 --     "with the state as given and no byte of a lent log or output buffer written."
 --         `as-lent`
 -- The words:
---     `numberLines` and the like  "Calls: 15, 14, 13, 11, 7, 12, 16, those that apply": each call is defined by its
---                                 lines in that order, each a test that must hold and the number for no; `usableLines`
---                                 are the two that every call on a board and a state has first. `firstNo` of them is
---                                 the first whose test fails, by its number at place 0, or nothing
+--     `numberLines` and the like  calls, since request A5: 15, 14, 18, 13, 11, 7, 12, 16, those that apply. Each call
+--                                 is defined by its lines in that order, each a test that must hold and the number for
+--                                 no; `usableLines` are the three that every call on a board and a state with kept sets
+--                                 has first. `firstNo` of them is the first whose test fails, by its number at place 0,
+--                                 or nothing
 --     wordOf l                    the word of the run that a line tells of, or what refused it
 --     InOrder                     what stands against each call is the first of its lines whose test fails; a file is
 --                                 refused exactly by the first line of the table that holds, from left to right, and
---                                 a number by itself exactly by its form (1, 2); 11, 14 and 15 are given exactly if
+--                                 a number by itself exactly by its form (1, 2); 11, 14, 15 and 18 are given exactly if
 --                                 their lines hold
 --     AsLent                      "A refused read returns number, place and the empty board (T 2, else 0). A refused
 --                                 call returns the number, place 0 and the state it was given, if it takes one; a
 --                                 refused run also 0 moves and relay 255, a refused judgement no verdict, effort 0 and
---                                 length 0, a refused write 0 bytes written. Log and output buffer stay as lent."
+--                                 length 0, a refused write 0 bytes written. Log and output buffer stay as lent." And
+--                                 with the state its kept sets (request A5)
 --     EveryCallComesBack          the demand
 use Prim.Native.Nat.{ℕ}
 use mathlib.Core.Path.{_≡_}
@@ -35,9 +38,10 @@ use Rattle.number.specs.FormExactly.{FormExactly}
 use Rattle.board.specs.declared.Board.{Board}
 use Rattle.board.specs.Parts.{emptyBoard}
 use Rattle.board.specs.BreaksNoRule.{FifteenExactly}
-use Rattle.state.specs.declared.State.{State}
-use Rattle.state.specs.States.{usableLines}
 use Rattle.state.specs.Fourteen.{FourteenExactly}
+use Rattle.kept.specs.declared.Kept.{Kept}
+use Rattle.kept.specs.Kept.{usableLines}
+use Rattle.kept.specs.Eighteen.{EighteenExactly}
 use Rattle.presses.specs.declared.Pressed.{Pressed}
 use Rattle.presses.specs.Presses.{pushLines, releaseLines, toldPress, Pushes, Releases}
 use Rattle.board_reader.specs.declared.BoardRead.{BoardRead}
@@ -80,6 +84,7 @@ pub record InOrder : Type 0 where
   pub eleven : ElevenExactly
   pub eleven-moved : MoveElevenExactly
   pub fourteen : FourteenExactly
+  pub eighteen : EighteenExactly
   pub fifteen : FifteenExactly
   pub writes-number : (v : ℕ) (out out′ : List ℕ) (at : ℕ) (x : NumberWritten)
       → WritesNumber v out at x out′
@@ -90,28 +95,28 @@ pub record InOrder : Type 0 where
   pub writes : (b : Board) (out out′ : List ℕ) (w : Written)
       → Writes b out w out′
       → against (toldWritten w) ≡ firstNo (writeLines b out)
-  pub pushes : (b : Board) (s : State) (n : ℕ) (x : Pressed)
-      → Pushes b s n x
-      → toldPress (x .answer) ≡ firstNo (pushLines b s n)
-  pub releases : (b : Board) (s : State) (n : ℕ) (x : Pressed)
-      → Releases b s n x
-      → toldPress (x .answer) ≡ firstNo (releaseLines b s n)
-  pub judges : (b : Board) (s : State) (r : ℕ) (k : Which) (w : ℕ) (v : Verdict)
-      → Judges b s r k w v
-      → against (toldFinding (v .finding)) ≡ firstNo (judgeLines b s r k)
-  pub moves : (b : Board) (s : State) (r w : ℕ) (a : Moved)
-      → Moves b s r w a
-      → against (toldMoveAnswer (a .answer)) ≡ firstNo (moveLines b s r)
-  pub runs : (b : Board) (s : State) (w : ℕ) (log log′ : List ℕ) (a : Ran)
-      → Runs b s log w a log′
-      → against (toldEnding (a .word)) ≡ firstNo (runLines b s log)
+  pub pushes : (b : Board) (h : Kept) (n : ℕ) (x : Pressed)
+      → Pushes b h n x
+      → toldPress (x .answer) ≡ firstNo (pushLines b h n)
+  pub releases : (b : Board) (h : Kept) (n : ℕ) (x : Pressed)
+      → Releases b h n x
+      → toldPress (x .answer) ≡ firstNo (releaseLines b h n)
+  pub judges : (b : Board) (h : Kept) (r : ℕ) (k : Which) (w : ℕ) (v : Verdict)
+      → Judges b h r k w v
+      → against (toldFinding (v .finding)) ≡ firstNo (judgeLines b h r k)
+  pub moves : (b : Board) (h : Kept) (r w : ℕ) (a : Moved)
+      → Moves b h r w a
+      → against (toldMoveAnswer (a .answer)) ≡ firstNo (moveLines b h r)
+  pub runs : (b : Board) (h : Kept) (w : ℕ) (log log′ : List ℕ) (a : Ran)
+      → Runs b h log w a log′
+      → against (toldEnding (a .word)) ≡ firstNo (runLines b h log)
   -- a session's log of 4,096 is never too long (13), and the run after a push or release is never refused
-  pub tells-run : (b : Board) (e : ℕ) (s : State) (w : ℕ) (x : Shown)
-      → RunLine b e s w x
-      → against (wordOf (toldLine (x .line))) ≡ firstNo (usableLines b s)
-  pub tells-event : (b : Board) (e : ℕ) (s : State) (v : Event) (w : ℕ) (x : Shown)
-      → EventLine b e s v w x
-      → against (wordOf (toldLine (x .line))) ≡ firstNo (madeLines b s v)
+  pub tells-run : (b : Board) (e : ℕ) (h : Kept) (w : ℕ) (x : Shown)
+      → RunLine b e h w x
+      → against (wordOf (toldLine (x .line))) ≡ firstNo (usableLines b h)
+  pub tells-event : (b : Board) (e : ℕ) (h : Kept) (v : Event) (w : ℕ) (x : Shown)
+      → EventLine b e h v w x
+      → against (wordOf (toldLine (x .line))) ≡ firstNo (madeLines b h v)
   pub hands : (z : Session) (s out out′ : List ℕ) (r : Handed)
       → NextLine z s out r out′
       → against (toldHandOut (r .answer)) ≡ firstNo (lineLines out)
@@ -136,34 +141,34 @@ pub record AsLent : Type 0 where
       → Writes b out w out′
       → toldWritten w ≡ refused n p
       → (out′ ≡ out) × (bytesWritten w ≡ 0)
-  pub pushes : (b : Board) (s : State) (k : ℕ) (x : Pressed) (n p : ℕ)
-      → Pushes b s k x
+  pub pushes : (b : Board) (h : Kept) (k : ℕ) (x : Pressed) (n p : ℕ)
+      → Pushes b h k x
       → toldPress (x .answer) ≡ refused n p
-      → x .state ≡ s
-  pub releases : (b : Board) (s : State) (k : ℕ) (x : Pressed) (n p : ℕ)
-      → Releases b s k x
+      → x .kept ≡ h
+  pub releases : (b : Board) (h : Kept) (k : ℕ) (x : Pressed) (n p : ℕ)
+      → Releases b h k x
       → toldPress (x .answer) ≡ refused n p
-      → x .state ≡ s
-  pub judges : (b : Board) (s : State) (r : ℕ) (k : Which) (w : ℕ) (v : Verdict) (n p : ℕ)
-      → Judges b s r k w v
+      → x .kept ≡ h
+  pub judges : (b : Board) (h : Kept) (r : ℕ) (k : Which) (w : ℕ) (v : Verdict) (n p : ℕ)
+      → Judges b h r k w v
       → toldFinding (v .finding) ≡ refused n p
       → (v .effort ≡ 0) × ((v .length ≡ 0) × (v .terminals ≡ places []))
-  pub moves : (b : Board) (s : State) (r w : ℕ) (a : Moved) (n p : ℕ)
-      → Moves b s r w a
+  pub moves : (b : Board) (h : Kept) (r w : ℕ) (a : Moved) (n p : ℕ)
+      → Moves b h r w a
       → toldMoveAnswer (a .answer) ≡ refused n p
-      → a .state ≡ s
-  pub runs : (b : Board) (s : State) (w : ℕ) (log log′ : List ℕ) (a : Ran) (n p : ℕ)
-      → Runs b s log w a log′
+      → a .kept ≡ h
+  pub runs : (b : Board) (h : Kept) (w : ℕ) (log log′ : List ℕ) (a : Ran) (n p : ℕ)
+      → Runs b h log w a log′
       → toldEnding (a .word) ≡ refused n p
-      → (a .state ≡ s) × ((a .moves ≡ 0) × ((a .relay ≡ noRelay) × (log′ ≡ log)))
-  pub tells-run : (b : Board) (e : ℕ) (s : State) (w : ℕ) (x : Shown) (n p : ℕ)
-      → RunLine b e s w x
+      → (a .kept ≡ h) × ((a .moves ≡ 0) × ((a .relay ≡ noRelay) × (log′ ≡ log)))
+  pub tells-run : (b : Board) (e : ℕ) (h : Kept) (w : ℕ) (x : Shown) (n p : ℕ)
+      → RunLine b e h w x
       → wordOf (toldLine (x .line)) ≡ refused n p
-      → (toldLine (x .line) ≡ event e (refused n p) 0 (s .drawn)) × (x .state ≡ s)
-  pub tells-event : (b : Board) (e : ℕ) (s : State) (v : Event) (w : ℕ) (x : Shown) (n p : ℕ)
-      → EventLine b e s v w x
+      → (toldLine (x .line) ≡ event e (refused n p) 0 (h .state .drawn)) × (x .kept ≡ h)
+  pub tells-event : (b : Board) (e : ℕ) (h : Kept) (v : Event) (w : ℕ) (x : Shown) (n p : ℕ)
+      → EventLine b e h v w x
       → wordOf (toldLine (x .line)) ≡ refused n p
-      → (toldLine (x .line) ≡ event e (refused n p) 0 (s .drawn)) × (x .state ≡ s)
+      → (toldLine (x .line) ≡ event e (refused n p) 0 (h .state .drawn)) × (x .kept ≡ h)
   pub hands : (z : Session) (s out out′ : List ℕ) (r : Handed) (n p : ℕ)
       → NextLine z s out r out′
       → toldHandOut (r .answer) ≡ refused n p

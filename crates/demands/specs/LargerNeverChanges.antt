@@ -9,7 +9,8 @@
 --         `live`, `dead`, `undecided`, and what is shown and reported with each: `shown`, `counted`, `reported`.
 --         Request A4: "live" means live and not shunted, and "a shunted winding is called dead at every allowance,
 --         however many chains there are": `shunted`. Rule book: "a judge that says undecided always, or dead always",
---         is shut out "by the "exactly" in demand 3": `always`
+--         is shut out "by the "exactly" in demand 3": `always`. Request A5: judgements by kept sets "are the old ones,
+--         efforts included": `afresh`
 --     "So of two accepted runs from one board and state, the one with no shorter log and no less allowance per winding
 --     starts with every move of the other, and where the other ended idle or in conflict it ends with that word in that
 --     same state."
@@ -22,12 +23,14 @@
 use mathlib.Core.Path.{_≡_}
 use Rattle.search.specs.declared.Finding.{Finding}
 use Rattle.judge.specs.Judging.{Judges}
-use Rattle.judge_means.specs.Exactness.{Judge, TheChains, EffortNumbers, LiveExactly, DeadExactly}
+use Rattle.judge_means.specs.Exactness.{Judge, TheChains, EffortNumbers, AsAfresh, LiveExactly, DeadExactly}
 use Rattle.judge_means.specs.Exactness.{UndecidedExactly, LiveShows, ShuntedDead, DeadCounts, UndecidedReports}
 use Rattle.judge_means.specs.Allowances.{LargerAllowance, TurnsAtEffort, EffortSome}
 use Rattle.runs_means.specs.LongerRuns.{LongerRun}
 
 pub record JudgedExactly (J : Judge) : Type 0 where
+  -- by kept sets as by sets worked out from board and state
+  pub afresh : AsAfresh J
   -- live, dead and undecided exactly if the winding is so within the allowance
   pub live : LiveExactly J
   pub dead : DeadExactly J
@@ -44,7 +47,7 @@ pub record JudgedExactly (J : Judge) : Type 0 where
   pub effort : EffortSome J
 
 abbrev pub AlwaysSays : Finding → Judge
-AlwaysSays f b s r n w v = v .finding ≡ f
+AlwaysSays f b h r n w v = v .finding ≡ f
 
 abbrev pub NoWordAlways : Type 0
 NoWordAlways = (f : Finding) → ¬ (LiveExactly (AlwaysSays f)) × ¬ (DeadExactly (AlwaysSays f))

@@ -25,19 +25,23 @@ use Rattle.board.specs.Rules.{NameLimit, Checks}
 use Rattle.board.specs.Same.{SameBoards}
 use Rattle.state.specs.declared.State.{State}
 use Rattle.state.specs.States.{StateFresh, StateDraws, StateDrops, StatePushes, StateReleases, StateIsDrawn}
-use Rattle.state.specs.States.{StateIsPushed, StateFits, Usable}
-use Rattle.presses.specs.Presses.{Pushes, Releases}
+use Rattle.state.specs.States.{StateIsPushed, StateFits}
 use Rattle.board_reader.specs.Reading.{Reads}
 use Rattle.board_writer.specs.Writing.{Writes}
 use Rattle.neighbours.specs.Conduction.{Conducts}
 use Rattle.neighbours.specs.declared.Sets.{Sets}
-use Rattle.neighbours.specs.Neighbours.{Neighbours}
+use Rattle.neighbours.specs.Neighbours.{Neighbours, Renews}
+use Rattle.kept.specs.declared.Kept.{Kept}
+use Rattle.kept.specs.declared.Change.{Change}
+use Rattle.kept.specs.Kept.{KeptOf, KeptFresh, Usable}
+use Rattle.kept.specs.Upkeep.{KeptChanged}
 use Rattle.reach.specs.Floods.{Floods}
 use Rattle.search.specs.declared.Winding.{Winding}
 use Rattle.search.specs.Verdicts.{Searches}
 use Rattle.judge.specs.declared.Which.{Which}
 use Rattle.judge.specs.RelayWindings.{FindsWindings}
 use Rattle.judge.specs.Judging.{JudgesBy, Judges}
+use Rattle.presses.specs.Presses.{Pushes, Releases}
 use Rattle.moves.specs.declared.Findings.{Findings}
 use Rattle.moves.specs.declared.Move.{Move}
 use Rattle.moves.specs.Steps.{Decides, StepsRelay, AfterMove}
@@ -98,26 +102,30 @@ pub record OneAnswer : Type 0 where
   pub state-is-drawn : (s : State) (r : ℕ) → One (StateIsDrawn s r)
   pub state-is-pushed : (s : State) (n : ℕ) → One (StateIsPushed s n)
   pub state-fits : (s : State) (c : Counts) → One (StateFits s c)
-  pub state-usable : (b : Board) (s : State) → One (Usable b s)
-  pub presses-push : (b : Board) (s : State) (n : ℕ) → One (Pushes b s n)
-  pub presses-release : (b : Board) (s : State) (n : ℕ) → One (Releases b s n)
   pub board-reader-read : (s : List ℕ) → One (Reads s)
   pub board-writer-write : (b : Board) (out : List ℕ) → OneLent (Writes b out)
   pub neighbours-conducts : (k : Kind) (s : State) → One (Conducts k s)
   pub neighbours-neighbours : (b : Board) (s : State) → One (Neighbours b s)
+  pub neighbours-renew : (k : Sets) (at : ℕ) (b : Board) (s : State) → One (Renews k at b s)
+  pub kept-of : (b : Board) (s : State) → One (KeptOf b s)
+  pub kept-fresh : (b : Board) → One (KeptFresh b)
+  pub kept-changed : (h : Kept) (b : Board) (c : Change) (t : State) → One (KeptChanged h b c t)
+  pub kept-usable : (b : Board) (h : Kept) → One (Usable b h)
   pub reach-flood : (near : List ℕ) (from out : ℕ) → One (Floods near from out)
   pub search-search : (near : List ℕ) (t : ℕ) (v : Winding) (w : ℕ) → One (Searches near t v w)
   pub judge-find-windings : (b : Board) (r : ℕ) → One (FindsWindings b r)
   pub judge-judge-by : (k : Sets) (t : ℕ) (v : Winding) (w : ℕ) → One (JudgesBy k t v w)
-  pub judge-judge : (b : Board) (s : State) (r : ℕ) (k : Which) (w : ℕ) → One (Judges b s r k w)
+  pub judge-judge : (b : Board) (h : Kept) (r : ℕ) (k : Which) (w : ℕ) → One (Judges b h r k w)
+  pub presses-push : (b : Board) (h : Kept) (n : ℕ) → One (Pushes b h n)
+  pub presses-release : (b : Board) (h : Kept) (n : ℕ) → One (Releases b h n)
   pub moves-decide : (d : Bool) (f : Findings) → One (Decides d f)
-  pub moves-step : (k : Sets) (b : Board) (s : State) (r w : ℕ) → One (StepsRelay k b s r w)
-  pub moves-after : (s : State) (r : ℕ) (m : Move) → One (AfterMove s r m)
-  pub moves-move-relay : (b : Board) (s : State) (r w : ℕ) → One (Moves b s r w)
-  pub runs-run : (b : Board) (s : State) (log : List ℕ) (w : ℕ) → OneLent (Runs b s log w)
+  pub moves-step : (b : Board) (h : Kept) (r w : ℕ) → One (StepsRelay b h r w)
+  pub moves-after : (b : Board) (h : Kept) (r : ℕ) (m : Move) → One (AfterMove b h r m)
+  pub moves-move-relay : (b : Board) (h : Kept) (r w : ℕ) → One (Moves b h r w)
+  pub runs-run : (b : Board) (h : Kept) (log : List ℕ) (w : ℕ) → OneLent (Runs b h log w)
   pub lines-write-line : (l : Line) (out : List ℕ) → OneLent (WritesLine l out)
-  pub events-run-line : (b : Board) (e : ℕ) (s : State) (w : ℕ) → One (RunLine b e s w)
-  pub events-event-line : (b : Board) (e : ℕ) (s : State) (v : Event) (w : ℕ) → One (EventLine b e s v w)
+  pub events-run-line : (b : Board) (e : ℕ) (h : Kept) (w : ℕ) → One (RunLine b e h w)
+  pub events-event-line : (b : Board) (e : ℕ) (h : Kept) (v : Event) (w : ℕ) → One (EventLine b e h v w)
   pub session-begin : (s : List ℕ) → One (Begins s)
   pub session-next-line : (z : Session) (s out : List ℕ) → OneLent (NextLine z s out)
   pub session-next-lines : (z : Session) (s out : List ℕ) → OneLent (NextLines z s out)

@@ -15,13 +15,22 @@
 --     h0File, h2Session             H0 as a file, H2 as a session, byte by byte as the rule book prints them
 --     h2Lines, h0Line               what H2 and H0 print, character by character
 --     takenOverFile                 that hut as a file
+--     astray b s t                  the state s with the sets of board b in state t beside it
+--     withSets s xs ys              the state s with sets beside it: xs, and without windings ys, each the first of 64,
+--                                   the others empty. A set is a sum: terminal 0 counts 1, terminal 1 counts 2,
+--                                   terminal 2 counts 4
+--     doubled                       a button and an upper contact side by side
 --     Row                           a call and the answer that the rule book states for it:
 --       reads s b o                 `read` of the bytes s: the board, and the place just after it or the refusal
---       judges b s k w j            `judge` of winding k of relay 0 of board b in state s within the allowance w
---       moves b s w t m             `move_relay` of relay 0: the word m, and the state t
---       runs b s log w e m t r l    `run` over the lent log: the word e, m moves, the state t, the relay r, and the
---                                   log l afterwards
+--       judged b h k w j            `judge` of winding k of relay 0 of board b, by h, within the allowance w
+--       moved b h w t o             `move_relay` of relay 0: what it came to, o, and what it leaves, t
+--       ran b h log w x             `run` over the lent log: all that it tells
+--       pressed p b h n t o         `push` of button n, `release` if not p: what it came to, o, and what it leaves, t
 --       prints s x                  a session and all that it prints
+--     judges b s k w j              `judged` in state s, with its sets
+--     moves b s w t m               `moved` from state s with its sets: the word m, and the state t with its sets
+--     runs b s log w e m t r l      `ran` likewise: the word e, m moves, the state t with its sets, the relay r, and
+--                                   the log l afterwards
 --     RowHolds x                    whatever the row's call answers under its promise, it is the row's answer; what a
 --                                   session prints is computed (`lines` and `all-lines` of `AsTheModelSays` say that
 --                                   the calls hand out just these lines)
@@ -30,23 +39,34 @@
 --                                   at once, logs that are just long enough, the numbers of request A1
 --     marks                         rows on the marks of request A2: in files, on boards handed in, and in a session
 --     shunts                        rows on the shunted windings of request A4, by which H4 and H6 are dead
---     Starred                       every row of the four holds
-use Prim.Native.Nat.{ℕ}
+--     kept                          rows on the kept sets of request A5: a pair that a second part joins stays joined,
+--                                   both ends are updated, a lower contact opens on a draw; sets of another state, or
+--                                   with a bit too few, are refused by 18, after 14 and before 11 and 12, with state
+--                                   and sets as given
+--     Starred                       every row of the five holds
+use Prim.Native.Nat.{ℕ, _-_}
 use mathlib.Core.Path.{_≡_}
 use mathlib.Core.List.{List, [], _∷_, _++_}
+use mathlib.Core.Bool.{Bool, true, false}
 use mathlib.Core.Option.{none, some}
 use lib.ListN.{length, replicate}
 use Rattle.lists.specs.Members.{All}
 use Rattle.refusals.specs.Outcomes.{Outcome, given, refused}
 use Rattle.refusals.specs.Refusals.{inputEnds, badForm, outOfRange, noSuchKind, noSuchName, windingLacking}
-use Rattle.refusals.specs.Refusals.{brokenBoard, markedTwice}
+use Rattle.refusals.specs.Refusals.{noSuchWinding, alreadySo, stateBeyondBoard, brokenBoard, markedTwice, foreignSets}
 use Rattle.kinds.specs.declared.Kind.{Kind}
 use Rattle.kinds.specs.declared.Kind.the-variants.{Wire, Upper, Lower, Button, Regular, Drawing, Dropping, Mark}
 use Rattle.board.specs.declared.Part.{Part}
 use Rattle.board.specs.declared.Board.{Board}
 use Rattle.board.specs.Parts.{padded, emptyBoard}
+use Rattle.board.specs.Rules.{mostTerminals}
 use Rattle.state.specs.declared.State.{State}
 use Rattle.state.specs.States.{emptyState, freshState, withDrawn, withPushed, withReleased}
+use Rattle.neighbours.specs.Neighbours.{setsOf}
+use Rattle.kept.specs.declared.Kept.{Kept}
+use Rattle.kept.specs.Kept.{keptAt}
+use Rattle.presses.specs.declared.Pressed.{Pressed}
+use Rattle.presses.specs.Presses.{toldPressed, Pushes, Releases}
 use Rattle.board_reader.specs.declared.BoardRead.{BoardRead}
 use Rattle.board_reader.specs.Editions.{currentEdition}
 use Rattle.board_reader.specs.Reading.{toldBoardRead, Reads}
@@ -61,7 +81,8 @@ use Rattle.moves.specs.Moving.{toldMoved, Moves}
 use Rattle.runs.specs.Looks.{Ending, idle, spent, undecided, conflict}
 use Rattle.runs.specs.Runs.{noRelay}
 use Rattle.runs.specs.declared.Ran.{Ran}
-use Rattle.runs.specs.Running.{toldRan, Runs}
+use Rattle.runs.specs.Running as told
+use Rattle.runs.specs.Running.{unrun, toldRan, Runs}
 use Rattle.session.specs.Sessions.{sessionText}
 
 abbrev pub part : Kind → ℕ → ℕ → Part
@@ -168,6 +189,10 @@ abbrev pub takenOverFile : List ℕ
 takenOverFile =
     4 ∷ 2 ∷ 0 ∷ 5 ∷ 1 ∷ 0 ∷ 2 ∷ 0 ∷ 4 ∷ 2 ∷ 1 ∷ 0 ∷ 7 ∷ 0 ∷ 4 ∷ 3 ∷ 1 ∷ 1 ∷ 7 ∷ 1 ∷ []
 
+-- T 3, button 0 and the upper contact of relay 0 on 0-2, its winding on 2-1
+abbrev pub doubled : Board
+doubled = board 3 1 1 (part (Button 0) 0 2 ∷ part (Upper 0) 0 2 ∷ part (Regular 0) 2 1 ∷ [])
+
 abbrev pub pushed0 : State
 pushed0 = withPushed emptyState 0
 
@@ -186,21 +211,44 @@ deadWith e = settled e none
 abbrev pub lent : ℕ → List ℕ
 lent n = replicate n 7
 
+abbrev pub astray : Board → State → State → Kept
+astray b s t = record { state = s; sets = setsOf b t }
+
+abbrev pub withSets : State → List ℕ → List ℕ → Kept
+withSets s xs ys =
+    record {
+      state = s;
+      sets = record {
+        near = xs ++ replicate (mostTerminals - length xs) 0;
+        bare = ys ++ replicate (mostTerminals - length ys) 0;
+      };
+    }
+
 pub data Row : Type 0 where
   reads : List ℕ → Board → Outcome ℕ → Row
-  judges : Board → State → Which → ℕ → Verdict → Row
-  moves : Board → State → ℕ → State → step.Move → Row
-  runs : Board → State → List ℕ → ℕ → Ending → ℕ → State → ℕ → List ℕ → Row
+  judged : Board → Kept → Which → ℕ → Verdict → Row
+  moved : Board → Kept → ℕ → Kept → Outcome step.Move → Row
+  ran : Board → Kept → List ℕ → ℕ → told.Ran → Row
+  pressed : Bool → Board → Kept → ℕ → Kept → Outcome (Unit {0}) → Row
   prints : List ℕ → List ℕ → Row
+
+abbrev pub judges : Board → State → Which → ℕ → Verdict → Row
+judges b s k w j = judged b (keptAt b s) k w j
+
+abbrev pub moves : Board → State → ℕ → State → step.Move → Row
+moves b s w t m = moved b (keptAt b s) w (keptAt b t) (given m)
+
+abbrev pub runs : Board → State → List ℕ → ℕ → Ending → ℕ → State → ℕ → List ℕ → Row
+runs b s log w e m t r l =
+    ran b (keptAt b s) log w (record { word = given e; moves = m; kept = keptAt b t; relay = r; log = l })
 
 abbrev pub RowHolds : Row → Type 0
 RowHolds (reads s b o) = (x : BoardRead) → Reads s x → toldBoardRead x ≡ (b, o)
-RowHolds (judges b s k w j) = (v : code-verdict.Verdict) → Judges b s 0 k w v → toldVerdict v ≡ j
-RowHolds (moves b s w t m) = (a : Moved) → Moves b s 0 w a → toldMoved a ≡ (t, given m)
-RowHolds (runs b s log w e m t r l) =
-    (a : Ran) (k : List ℕ)
-    → Runs b s log w a k
-    → toldRan a k ≡ record { word = given e; moves = m; state = t; relay = r; log = l }
+RowHolds (judged b h k w j) = (v : code-verdict.Verdict) → Judges b h 0 k w v → toldVerdict v ≡ j
+RowHolds (moved b h w t o) = (a : Moved) → Moves b h 0 w a → toldMoved a ≡ (t, o)
+RowHolds (ran b h log w x) = (a : Ran) (k : List ℕ) → Runs b h log w a k → toldRan a k ≡ x
+RowHolds (pressed true b h n t o) = (x : Pressed) → Pushes b h n x → toldPressed x ≡ (t, o)
+RowHolds (pressed false b h n t o) = (x : Pressed) → Releases b h n x → toldPressed x ≡ (t, o)
 RowHolds (prints s x) = sessionText currentEdition s ≡ x
 
 -- H0 .. H6 and the number `80 00`, in the rule book's order; of both H4 boards and H6 as request A4 has them
@@ -291,5 +339,27 @@ shunts =
     ∷ moves bridged (drawn0 pushedBoth) 100 pushedBoth step.dropped
     ∷ []
 
+abbrev pub kept : List Row
+kept =
+    pressed true h1 (keptAt h1 emptyState) 0 (withSets pushed0 (4 ∷ 4 ∷ 3 ∷ []) (4 ∷ 0 ∷ 1 ∷ [])) (given tt)
+    ∷ pressed false h1 (withSets pushed0 (4 ∷ 4 ∷ 3 ∷ []) (4 ∷ 0 ∷ 1 ∷ [])) 0 (withSets emptyState (0 ∷ 4 ∷ 2 ∷ []) [])
+    (given tt)
+    ∷ pressed false doubled (keptAt doubled (drawn0 pushed0)) 0
+    (withSets (drawn0 emptyState) (4 ∷ 4 ∷ 3 ∷ []) (4 ∷ 0 ∷ 1 ∷ [])) (given tt)
+    ∷ moved h3 (withSets emptyState (4 ∷ 4 ∷ 3 ∷ []) (4 ∷ 0 ∷ 1 ∷ [])) 100
+    (withSets (drawn0 emptyState) (0 ∷ 4 ∷ 2 ∷ []) []) (given step.drew)
+    ∷ moved h3 (withSets (drawn0 emptyState) (0 ∷ 4 ∷ 2 ∷ []) []) 100
+    (withSets emptyState (4 ∷ 4 ∷ 3 ∷ []) (4 ∷ 0 ∷ 1 ∷ [])) (given step.dropped)
+    ∷ pressed true h1 (keptAt h1 pushed0) 0 (keptAt h1 pushed0) (refused alreadySo 0)
+    ∷ pressed true h1 (astray h1 pushed0 emptyState) 0 (astray h1 pushed0 emptyState) (refused foreignSets 0)
+    ∷ judged h1 (astray h1 pushed0 emptyState) First 100 (unanswered foreignSets 0)
+    ∷ judged h1 (astray h1 pushed0 emptyState) Second 100 (unanswered foreignSets 0)
+    ∷ judged h1 (withSets pushed0 (4 ∷ 4 ∷ 3 ∷ []) (0 ∷ 0 ∷ 1 ∷ [])) First 100 (unanswered foreignSets 0)
+    ∷ judged h1 (astray h1 pushedBoth emptyState) First 100 (unanswered stateBeyondBoard 0)
+    ∷ moved h1 (astray h1 pushed0 emptyState) 100 (astray h1 pushed0 emptyState) (refused foreignSets 0)
+    ∷ ran h1 (astray h1 pushed0 emptyState) (lent 2) 100 (unrun foreignSets 0 (astray h1 pushed0 emptyState) (lent 2))
+    ∷ judged h0 (astray h0 emptyState pushed0) First 100 (unanswered noSuchWinding 0)
+    ∷ []
+
 abbrev pub Starred : Type 0
-Starred = All RowHolds (starred ++ besides ++ marks ++ shunts)
+Starred = All RowHolds (starred ++ besides ++ marks ++ shunts ++ kept)

@@ -6,7 +6,7 @@ use mathlib.Core.Bool.{true, false}
 use Rattle.refusals.specs.declared.Refusal.{Refusal}
 use Rattle.refusals.specs.Outcomes.{Outcome, refused}
 use Rattle.board.specs.declared.Board.{Board}
-use Rattle.state.specs.declared.State.{State}
+use Rattle.kept.specs.declared.Kept.{Kept}
 use Rattle.presses.specs.declared.Press.the-variants.{Done, Refused}
 use Rattle.presses.specs.declared.Pressed.{Pressed}
 use Rattle.presses.specs.Presses.{pushing, releasing, toldPressed}
@@ -16,34 +16,34 @@ use Rattle.lines.specs.Lines.{event}
 use Rattle.events.specs.declared.Event.{Event}
 use Rattle.events.specs.Events.{Shown, pressing, sessionLog, tells, ranLine, pressedLine, eventLine}
 
-module _ (b : Board) (t : State) (v : Event) where
-  pub pressing-push : v .push ≡ true → pushing b t (v .button) ≡ pressing b t v
+module _ (b : Board) (h : Kept) (v : Event) where
+  pub pressing-push : v .push ≡ true → pushing b h (v .button) ≡ pressing b h v
   unfolding pressing
   pressing-push is = rw is
 
-  pub pressing-release : v .push ≡ false → releasing b t (v .button) ≡ pressing b t v
+  pub pressing-release : v .push ≡ false → releasing b h (v .button) ≡ pressing b h v
   unfolding pressing
   pressing-release is = rw is
 
 module _ (b : Board) (w e : ℕ) where
   -- a run is told by its word, its moves and its drawn relays, whatever its log holds
-  pub run-shown : (t : State) (r : Ran) (log : List ℕ) → Runs b t sessionLog w r log
-      → tells e (toldRan r log) ≡ ranLine b e t w
+  pub run-shown : (h : Kept) (r : Ran) (log : List ℕ) → Runs b h sessionLog w r log
+      → tells e (toldRan r log) ≡ ranLine b e h w
   unfolding ranLine
-  run-shown t r log ran = ap (tells e) ran
+  run-shown h r log ran = ap (tells e) ran
 
   module _ (x : Pressed) where
     pub pressed-refused : (q : Refusal) → x .answer ≡ Refused q
-        → _≡_ {A = Shown} (event e (refused (q .number) (q .place)) 0 (x .state .drawn), x .state)
+        → _≡_ {A = Shown} (event e (refused (q .number) (q .place)) 0 (x .kept .state .drawn), x .kept)
         (pressedLine b e (toldPressed x) w)
     unfolding pressedLine
     pressed-refused q is = rw is
 
-    pub pressed-done : x .answer ≡ Done → ranLine b e (x .state) w ≡ pressedLine b e (toldPressed x) w
+    pub pressed-done : x .answer ≡ Done → ranLine b e (x .kept) w ≡ pressedLine b e (toldPressed x) w
     unfolding pressedLine
     pressed-done done = rw done
 
-  pub event-told : (t : State) (v : Event) (x : Pressed) → toldPressed x ≡ pressing b t v
-      → pressedLine b e (toldPressed x) w ≡ eventLine b e t v w
+  pub event-told : (h : Kept) (v : Event) (x : Pressed) → toldPressed x ≡ pressing b h v
+      → pressedLine b e (toldPressed x) w ≡ eventLine b e h v w
   unfolding eventLine
-  event-told t v x pressed = ap (λ (y : State × Outcome (Unit {0})). pressedLine b e y w) pressed
+  event-told h v x pressed = ap (λ (y : Kept × Outcome (Unit {0})). pressedLine b e y w) pressed

@@ -9,10 +9,10 @@ pub shown-told : Told toldShown
 shown-told = record { untold = untold; back = back; onto = onto }
   where
     untold : Shown → code.Shown
-    untold (l, s) = record { line = line-told .untold l; state = s }
+    untold (l, h) = record { line = line-told .untold l; kept = h }
 
     back : (x : code.Shown) → untold (toldShown x) ≡ x
-    back x = λ i. record { line = line-told .back (x .line) i; state = x .state }
+    back x = λ i. record { line = line-told .back (x .line) i; kept = x .kept }
 
     onto : (y : Shown) → toldShown (untold y) ≡ y
-    onto (l, s) = λ i. (line-told .onto l i, s)
+    onto (l, h) = λ i. (line-told .onto l i, h)

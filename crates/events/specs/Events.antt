@@ -4,18 +4,18 @@
 --     eventOf v                the event of the number v: its button, and whether it pushes or releases it
 --     eventAt ed n s at        the event at a place of the input, by the edition ed: a number (1, 2) that names one of
 --                              n buttons (7)
---     pressing b t v           the event v pushes or releases its button in state t
---     madeLines b t v          the lines of that: those of its push or of its release
+--     pressing b h v           the event v pushes or releases its button, from the state and the kept sets h
+--     madeLines b h v          the lines of that: those of its push or of its release
 --     sessionLog               "a log of 4,096"
---     Shown                    a line, and the state after what it tells
+--     Shown                    a line, and the state with the kept sets after what it tells
 --     tells e r                event e tells what a run answers: its word, its moves and the drawn relays
---     ranLine b e t w          event e tells of a run from state t
+--     ranLine b e h w          event e tells of a run from h
 --     pressedLine b e x w      event e tells of the push or release x: of the run from the state that it leaves, or of
 --                              its refusal
---     eventLine b e t v w      event e, which is v, in state t
+--     eventLine b e h v w      event e, which is v, from h
 --     toldShown                the code's line in the rule book's words
---     RunLine b e t w r        promise: `run_line` of event e on board b in state t, within the allowance w, answers r
---     EventLine b e t v w r    promise: `event_line` of event e, which is v, likewise
+--     RunLine b e h w r        promise: `run_line` of event e on board b from h, within the allowance w, answers r
+--     EventLine b e h v w r    promise: `event_line` of event e, which is v, likewise
 use Prim.Native.Nat.{ℕ, _/_, _%_}
 use mathlib.Core.Path.{_≡_}
 use mathlib.Core.Bool.{cond}
@@ -26,7 +26,7 @@ use Rattle.refusals.specs.Outcomes.{Outcome, given, refused, Found, found, _>>=
 use Rattle.refusals.specs.Refusals.{noSuchName}
 use Rattle.refusals.specs.Order.{Order}
 use Rattle.board.specs.declared.Board.{Board}
-use Rattle.state.specs.declared.State.{State}
+use Rattle.kept.specs.declared.Kept.{Kept}
 use Rattle.presses.specs.Presses.{pushLines, releaseLines, pushing, releasing}
 use Rattle.board_reader.specs.Editions.{Edition}
 use Rattle.board_reader.specs.Reading.{wanted}
@@ -43,36 +43,36 @@ eventAt ed n s at = do
   v ← wanted ed (λ v. ltb (eventOf v .button) n) noSuchName s at
   found (eventOf (v .value)) (v .next)
 
-unfoldable pub pressing : Board → State → Event → State × Outcome (Unit {0})
-pressing b t v = cond (v .push) (pushing b t (v .button)) (releasing b t (v .button))
+unfoldable pub pressing : Board → Kept → Event → Kept × Outcome (Unit {0})
+pressing b h v = cond (v .push) (pushing b h (v .button)) (releasing b h (v .button))
 
-abbrev pub madeLines : Board → State → Event → Order
-madeLines b t v = cond (v .push) (pushLines b t (v .button)) (releaseLines b t (v .button))
+abbrev pub madeLines : Board → Kept → Event → Order
+madeLines b h v = cond (v .push) (pushLines b h (v .button)) (releaseLines b h (v .button))
 
 abbrev pub sessionLog : List ℕ
 sessionLog = replicate 4096 0
 
 abbrev pub Shown : Type 0
-Shown = Line × State
+Shown = Line × Kept
 
 abbrev pub tells : ℕ → Ran → Shown
-tells e r = (event e (r .word) (r .moves) (r .state .drawn), r .state)
+tells e r = (event e (r .word) (r .moves) (r .kept .state .drawn), r .kept)
 
-unfoldable pub ranLine : Board → ℕ → State → ℕ → Shown
-ranLine b e t w = tells e (running b t sessionLog w)
+unfoldable pub ranLine : Board → ℕ → Kept → ℕ → Shown
+ranLine b e h w = tells e (running b h sessionLog w)
 
-unfoldable pub pressedLine : Board → ℕ → State × Outcome (Unit {0}) → ℕ → Shown
-pressedLine b e (t, given u) w = ranLine b e t w
-pressedLine b e (t, refused n p) w = (event e (refused n p) 0 (t .drawn), t)
+unfoldable pub pressedLine : Board → ℕ → Kept × Outcome (Unit {0}) → ℕ → Shown
+pressedLine b e (h, given u) w = ranLine b e h w
+pressedLine b e (h, refused n p) w = (event e (refused n p) 0 (h .state .drawn), h)
 
-unfoldable pub eventLine : Board → ℕ → State → Event → ℕ → Shown
-eventLine b e t v w = pressedLine b e (pressing b t v) w
+unfoldable pub eventLine : Board → ℕ → Kept → Event → ℕ → Shown
+eventLine b e h v w = pressedLine b e (pressing b h v) w
 
 abbrev pub toldShown : code.Shown → Shown
-toldShown r = (toldLine (r .line), r .state)
+toldShown r = (toldLine (r .line), r .kept)
 
-abbrev pub RunLine : Board → ℕ → State → ℕ → code.Shown → Type 0
-RunLine b e t w r = toldShown r ≡ ranLine b e t w
+abbrev pub RunLine : Board → ℕ → Kept → ℕ → code.Shown → Type 0
+RunLine b e h w r = toldShown r ≡ ranLine b e h w
 
-abbrev pub EventLine : Board → ℕ → State → Event → ℕ → code.Shown → Type 0
-EventLine b e t v w r = toldShown r ≡ eventLine b e t v w
+abbrev pub EventLine : Board → ℕ → Kept → Event → ℕ → code.Shown → Type 0
+EventLine b e h v w r = toldShown r ≡ eventLine b e h v w

@@ -4,11 +4,11 @@ ghost use mathlib.Core.Path.{_≡_};
 ghost use Rattle.presses.specs.Presses.{toldPressed};
 ghost use Rattle.events.specs.Events.{pressing, pressedLine, toldShown, RunLine, EventLine};
 use board::Board;
+use kept::Kept;
 use lines::Line;
 use presses::Press;
 use presses::Pressed;
 use runs::Ending;
-use state::State;
 
 // The length of the log of a session's runs: the moves that each may make.
 const LOG_LENGTH: usize = 4_096;
@@ -19,34 +19,34 @@ pub struct Event {
     pub push: bool,
 }
 
-// A line, and the state after what it tells.
+// A line, and the state with the kept sets after what it tells.
 pub struct Shown {
     pub line: Line,
-    pub state: State,
+    pub kept: Kept,
 }
 
 // Runs the board from a state, and tells of it as the event of this number.
-pub fn run_line(board: Board, number: usize, state: State, allowance: u32) -> Shown
-    ensures { λ r. ⌜ RunLine board number state allowance r ⌝ }
+pub fn run_line(board: Board, number: usize, kept: Kept, allowance: u32) -> Shown
+    ensures { λ r. ⌜ RunLine board number kept allowance r ⌝ }
 {
     let mut log = [0u8; LOG_LENGTH];
-    let ran = runs::run(board, state, &mut log, allowance);
+    let ran = runs::run(board, kept, &mut log, allowance);
     let word = ran.word;
-    let after = ran.state;
+    let after = ran.kept;
     Shown {
-        line: Line::Event(number, word, ran.moves, after.drawn),
-        state: after,
+        line: Line::Event(number, word, ran.moves, after.state.drawn),
+        kept: after,
     }
 }
 
 // Pushes or releases the button of an event.
-fn press(board: Board, state: State, event: Event) -> Pressed
-    ensures { λ r. ⌜ toldPressed r ≡ pressing board state event ⌝ }
+fn press(board: Board, kept: Kept, event: Event) -> Pressed
+    ensures { λ r. ⌜ toldPressed r ≡ pressing board kept event ⌝ }
 {
     if event.push {
-        presses::push(board, state, event.button)
+        presses::push(board, kept, event.button)
     } else {
-        presses::release(board, state, event.button)
+        presses::release(board, kept, event.button)
     }
 }
 
@@ -54,21 +54,21 @@ fn press(board: Board, state: State, event: Event) -> Pressed
 fn pressed_line(board: Board, number: usize, pressed: Pressed, allowance: u32) -> Shown
     ensures { λ r. ⌜ toldShown r ≡ pressedLine board number (toldPressed pressed) allowance ⌝ }
 {
-    let state = pressed.state;
+    let kept = pressed.kept;
     let answer = pressed.answer;
     if let Press::Refused(refusal) = answer {
         Shown {
-            line: Line::Event(number, Ending::Refused(refusal), 0, state.drawn),
-            state,
+            line: Line::Event(number, Ending::Refused(refusal), 0, kept.state.drawn),
+            kept,
         }
     } else {
-        run_line(board, number, state, allowance)
+        run_line(board, number, kept, allowance)
     }
 }
 
 // Makes an event in a state, and tells of it under its number.
-pub fn event_line(board: Board, number: usize, state: State, event: Event, allowance: u32) -> Shown
-    ensures { λ r. ⌜ EventLine board number state event allowance r ⌝ }
+pub fn event_line(board: Board, number: usize, kept: Kept, event: Event, allowance: u32) -> Shown
+    ensures { λ r. ⌜ EventLine board number kept event allowance r ⌝ }
 {
-    pressed_line(board, number, press(board, state, event), allowance)
+    pressed_line(board, number, press(board, kept, event), allowance)
 }

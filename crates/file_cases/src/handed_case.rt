@@ -8,9 +8,6 @@ use board::Part;
 use board_writer::LONGEST_FILE;
 use board_writer::Written;
 use kinds::Kind;
-use presses::Press;
-use presses::Pressed;
-use state::State;
 ghost use Prim.Native.Nat.{_≤_};
 ghost use mathlib.Core.Path.{_≡_};
 ghost use lib.ListN.{length};
@@ -18,11 +15,6 @@ ghost use Rattle.refusals.specs.Outcomes.{refused};
 ghost use Rattle.refusals.specs.Refusals.{bufferTooShort};
 ghost use Rattle.board_writer.specs.File.{longestFile};
 ghost use Rattle.board_writer.specs.Writing.{toldWritten};
-
-// A button and a relay that no board has.
-const ABSENT_BUTTON: u32 = 200;
-
-const ABSENT_RELAY: u32 = 40;
 
 // The byte at a place; 0 where none is given.
 fn byte_at(bytes: &[u8], at: usize) -> u8 {
@@ -80,29 +72,6 @@ fn handed_board(bytes: &[u8]) -> Board {
     }
 }
 
-// Prints the name of a push or a release, and what came of it.
-fn print_pressed(name: &[u8], pressed: Pressed) {
-    print::words(name);
-    let answer = pressed.answer;
-    match answer {
-        Press::Done => print::words(b"done"),
-        Press::Refused(refused) => print::call_refusal(b"refused ", refused),
-    }
-}
-
-// Pushes and releases buttons of a board, and prints what came of each.
-fn press_buttons(board: Board) {
-    let fresh = State::fresh(board);
-    let pushed = presses::push(board, fresh, 0);
-    print_pressed(b" push ", pushed);
-    let after = pushed.state;
-    print_pressed(b" again ", presses::push(board, after, 0));
-    print_pressed(b" release ", presses::release(board, fresh, 0));
-    print_pressed(b" absent ", presses::push(board, fresh, ABSENT_BUTTON));
-    let beyond = fresh.draw(ABSENT_RELAY);
-    print_pressed(b" beyond ", presses::push(board, beyond, 0));
-}
-
 // Writes a board into a buffer as long as the longest file: none is refused by 16.
 fn write_any(board: Board, out: &mut [u8]) -> Written
     requires { ⌜ length (now out) ≡ longestFile ⌝ }
@@ -111,12 +80,11 @@ fn write_any(board: Board, out: &mut [u8]) -> Written
     board_writer::write(board, out)
 }
 
-// Writes the board handed in, and pushes and releases its buttons.
+// Writes the board handed in.
 pub fn answer_board(bytes: &[u8]) {
     let board = handed_board(bytes);
     let mut out = [0u8; LONGEST_FILE];
     let answer = write_any(board, &mut out);
     print::written_length(b"write ", answer);
-    press_buttons(board);
     print::words(b"\n");
 }

@@ -1,5 +1,5 @@
 -- Laws of judging by the sets: the winding is dead if it is shunted, else it goes by the chains; and of judging as a
--- call: refused by 15, 14 or 11, in that order, or judged.
+-- call: refused by 15, 14, 18 or 11, in that order, or judged.
 use Prim.Native.Nat.{ℕ, _≤_}
 use native.Mathlib.Omega.{arith}
 use mathlib.Core.Path.{_≡_, refl, sym, ap, ap₂, _∙_}
@@ -21,11 +21,12 @@ use Rattle.board.specs.declared.Board.{Board}
 use Rattle.board.specs.Parts.{partsOf}
 use Rattle.board.specs.Rules.{mostTerminals, boardFine}
 use Rattle.board.proofs.FineLaws.{fine-range}
-use Rattle.state.specs.declared.State.{State}
-use Rattle.state.specs.States.{stateFine, usable}
-use Rattle.state.proofs.StateLaws.{usable-fine, usable-given, usable-lines, usable-next}
+use Rattle.state.specs.States.{stateFine}
 use Rattle.neighbours.specs.declared.Sets.{Sets}
 use Rattle.neighbours.specs.Neighbours.{joined, setsOf}
+use Rattle.kept.specs.declared.Kept.{Kept}
+use Rattle.kept.specs.Kept.{usable}
+use Rattle.kept.proofs.KeptLaws.{kept-sets, usable-given, usable-lines, usable-next}
 use Rattle.chains.specs.ChainList.{chains, shows}
 use Rattle.reach.specs.Floods.{flooded}
 use Rattle.search.specs.declared.Winding.{Winding}
@@ -115,72 +116,85 @@ then-once : {A : Type 0} (o q : Outcome (Unit {0})) (x : Outcome A) → (q >> x)
 then-once (given u) q x once = once
 then-once (refused n p) q x once = refl
 
-module _ (b : Board) (s : State) (r : ℕ) (n : Which) where
-  -- 11 is asked after 15 and 14
-  pub winding-for-asked : windingFor b s r n ≡ (usable b s >> orNoSuchWinding (windingOf n r (partsOf b)))
+module _ (b : Board) (h : Kept) (r : ℕ) (n : Which) where
+  -- 11 is asked after 15, 14 and 18
+  pub winding-for-asked : windingFor b h r n ≡ (usable b h >> orNoSuchWinding (windingOf n r (partsOf b)))
   unfolding windingFor
   winding-for-asked =
-      ap (λ (o : Outcome (Unit {0})). o >> orNoSuchWinding (windingOf n r (partsOf b))) (usable-lines b s _)
-      ∙ then-once (usable b s) (firstNo ((isThere (windingOf n r (partsOf b)), noSuchWinding) ∷ []))
+      ap (λ (o : Outcome (Unit {0})). o >> orNoSuchWinding (windingOf n r (partsOf b))) (usable-lines b h _)
+      ∙ then-once (usable b h) (firstNo ((isThere (windingOf n r (partsOf b)), noSuchWinding) ∷ []))
       (orNoSuchWinding (windingOf n r (partsOf b))) (asked-once (windingOf n r (partsOf b)))
 
-  pub winding-for-unusable : (k p : ℕ) → usable b s ≡ refused k p → windingFor b s r n ≡ refused k p
+  pub winding-for-unusable : (k p : ℕ) → usable b h ≡ refused k p → windingFor b h r n ≡ refused k p
   winding-for-unusable k p unusable = winding-for-asked ∙ rw unusable refl
 
-  pub winding-for-sought : (o : Option Winding) → boardFine b ≡ true → stateFine (b .counts) s ≡ true
-      → windingOf n r (partsOf b) ≡ o → windingFor b s r n ≡ orNoSuchWinding o
-  winding-for-sought o fine fits is = winding-for-asked ∙ rw (usable-fine b s fine fits, is) refl
+  pub winding-for-sought : (o : Option Winding) → usable b h ≡ given tt → windingOf n r (partsOf b) ≡ o
+      → windingFor b h r n ≡ orNoSuchWinding o
+  winding-for-sought o taken is = winding-for-asked ∙ rw (taken, is) refl
 
-  -- where a winding is judged, neither 15 nor 14 holds, and the winding is the relay's
-  pub winding-for-given : (e : Winding) → windingFor b s r n ≡ given e → (boardFine b ≡ true)
-      × (stateFine (b .counts) s ≡ true) × (windingOf n r (partsOf b) ≡ some e)
-  winding-for-given e taken =
+  -- where a winding is judged, neither 15 nor 14 nor 18 holds, and the winding is the relay's
+  pub winding-for-both : (e : Winding) → windingFor b h r n ≡ given e
+      → (usable b h ≡ given tt) × (windingOf n r (partsOf b) ≡ some e)
+  winding-for-both e taken =
       let both =
-      both-given (usable b s) (orNoSuchWinding (windingOf n r (partsOf b))) e (sym winding-for-asked ∙ taken) in
-      let fit = usable-given b s (both .0) in
-      (fit .0, fit .1, asked-given (windingOf n r (partsOf b)) e (both .1))
+      both-given (usable b h) (orNoSuchWinding (windingOf n r (partsOf b))) e (sym winding-for-asked ∙ taken) in
+      (both .0, asked-given (windingOf n r (partsOf b)) e (both .1))
 
-  -- where 11 is given, neither 15 nor 14 holds, and the winding is not there
-  pub winding-for-eleven : windingFor b s r n ≡ refused noSuchWinding 0 → (boardFine b ≡ true)
-      × (stateFine (b .counts) s ≡ true) × (windingOf n r (partsOf b) ≡ none)
+  pub winding-for-given : (e : Winding) → windingFor b h r n ≡ given e → (boardFine b ≡ true)
+      × (stateFine (b .counts) (h .state) ≡ true) × (windingOf n r (partsOf b) ≡ some e)
+  winding-for-given e taken =
+      let both = winding-for-both e taken in
+      let fit = usable-given b h (both .0) in (fit .0, fit .1, both .1)
+
+  winding-for-kept : (e : Winding) → windingFor b h r n ≡ given e → h .sets ≡ setsOf b (h .state)
+  winding-for-kept e taken = kept-sets b h (usable-given b h (winding-for-both e taken .0) .2)
+
+  -- where 11 is given, neither 15 nor 14 nor 18 holds, and the winding is not there
+  pub winding-for-eleven : windingFor b h r n ≡ refused noSuchWinding 0
+      → (usable b h ≡ given tt) × (windingOf n r (partsOf b) ≡ none)
   winding-for-eleven is =
-      let next = usable-next b s (orNoSuchWinding (windingOf n r (partsOf b))) noSuchWinding 0 (λ e. omega arith)
-      (λ e. omega arith) (sym winding-for-asked ∙ is) in
-      (next .0, next .1, asked-refused (windingOf n r (partsOf b)) noSuchWinding 0 (next .2))
+      let next = usable-next b h (orNoSuchWinding (windingOf n r (partsOf b))) noSuchWinding 0 (λ e. omega arith)
+      (λ e. omega arith) (λ e. omega arith) (sym winding-for-asked ∙ is) in
+      (next .0, asked-refused (windingOf n r (partsOf b)) noSuchWinding 0 (next .1))
 
   -- ---- one law for each way out of `winding_for`
 
   pub asked-usable : (a : Against) (x : Outcome Winding) (ws : OfRelay Winding) → a ≡ stands.Nothing
-      → toldAgainst a ≡ usable b s → ws ≡ windingsAt r (partsOf b) → x ≡ orNoSuchWinding (windingNamed n ws)
-      → x ≡ windingFor b s r n
+      → toldAgainst a ≡ usable b h → ws ≡ windingsAt r (partsOf b) → x ≡ orNoSuchWinding (windingNamed n ws)
+      → x ≡ windingFor b h r n
   asked-usable a x ws nothing told found is =
-      let taken : usable b s ≡ given tt = sym told ∙ ap toldAgainst nothing in
-      let fit = usable-given b s taken in
+      let taken : usable b h ≡ given tt = sym told ∙ ap toldAgainst nothing in
       is ∙ ap (λ (q : OfRelay Winding). orNoSuchWinding (windingNamed n q)) found
-      ∙ sym (winding-for-sought (windingNamed n (windingsAt r (partsOf b))) (fit .0) (fit .1)
-      (sym (windings-named b r n (fit .0))))
+      ∙ sym (winding-for-sought (windingNamed n (windingsAt r (partsOf b))) taken
+      (sym (windings-named b r n (usable-given b h taken .0))))
 
-  pub asked-unusable : (a : Against) (x : Refusal) → a ≡ stands.Refused x → toldAgainst a ≡ usable b s
-      → refused (x .number) (x .place) ≡ windingFor b s r n
+  pub asked-unusable : (a : Against) (x : Refusal) → a ≡ stands.Refused x → toldAgainst a ≡ usable b h
+      → refused (x .number) (x .place) ≡ windingFor b h r n
   asked-unusable a x is told = sym (winding-for-unusable (x .number) (x .place) (sym told ∙ ap toldAgainst is))
 
   -- ---- the call
 
   -- its verdict goes by what is judged
-  pub judging-by : (w : ℕ) (o : Outcome Winding) → windingFor b s r n ≡ o → verdictOn b s o w ≡ judging b s r n w
+  pub judging-by : (w : ℕ) (o : Outcome Winding) → windingFor b h r n ≡ o
+      → verdictOn b (h .state) o w ≡ judging b h r n w
   unfolding judging
-  judging-by w o e = ap (λ (q : Outcome Winding). verdictOn b s q w) (sym e)
+  judging-by w o e = ap (λ (q : Outcome Winding). verdictOn b (h .state) q w) (sym e)
 
   -- the verdict on the winding, by the sets k of the board in the state
-  pub judging-given : (w : ℕ) (v : Winding) (k : Sets) → windingFor b s r n ≡ given v → k ≡ setsOf b s
-      → judgedBy k (b .counts .terminals) v w ≡ judging b s r n w
+  pub judging-given : (w : ℕ) (v : Winding) (k : Sets) → windingFor b h r n ≡ given v → k ≡ setsOf b (h .state)
+      → judgedBy k (b .counts .terminals) v w ≡ judging b h r n w
   judging-given w v k taken same =
       ap (λ (q : Sets). judgedBy q (b .counts .terminals) v w) same ∙ judging-by w (given v) taken
 
+  -- so by the kept sets
+  pub judging-kept : (w : ℕ) (v : Winding) → windingFor b h r n ≡ given v
+      → judgedBy (h .sets) (b .counts .terminals) v w ≡ judging b h r n w
+  judging-kept w v taken = judging-given w v (h .sets) taken (winding-for-kept v taken)
+
   -- all the board's terminals are looked at
-  pub judging-weighed : (w : ℕ) (v : Winding) → windingFor b s r n ≡ given v
-      → judging b s r n w ≡ weighed (shows (v .a) (v .b)) (chainsFor (setsOf b s) (b .counts .terminals) v) w
+  pub judging-weighed : (w : ℕ) (v : Winding) → windingFor b h r n ≡ given v
+      → judging b h r n w ≡ weighed (shows (v .a) (v .b)) (chainsFor (setsOf b (h .state)) (b .counts .terminals) v) w
   judging-weighed w v taken =
       sym (judging-by w (given v) taken)
-      ∙ judged-all (setsOf b s) (b .counts .terminals) v w
+      ∙ judged-all (setsOf b (h .state)) (b .counts .terminals) v w
       (fine-range b (winding-for-given v taken .0) .most-terminals)

@@ -1,5 +1,5 @@
 // A relay's windings, found in one scan of the parts, and judging: a winding by the sets of neighbours, shunted or by
-// the chains, and as a call on any board and state handed in, with refusals 15, 14 and 11.
+// the chains, and as a call on any board, state and kept sets handed in, with refusals 15, 14, 18 and 11.
 ghost use mathlib.Core.Path.{_≡_};
 ghost use Rattle.board.specs.Sorts.{carries};
 ghost use Rattle.search.specs.Verdicts.{toldFinding, toldVerdict};
@@ -9,6 +9,7 @@ ghost use Rattle.judge.specs.Judging.{shunted, atOnce, windingFor, Judge
 use board::Board;
 use board::MOST_PARTS;
 use board::Part;
+use kept::Kept;
 use kinds::DRAWING_KIND;
 use kinds::DROPPING_KIND;
 use kinds::Kind;
@@ -20,7 +21,6 @@ use refusals::Refusal;
 use search::Finding;
 use search::Verdict;
 use search::Winding;
-use state::State;
 
 // Which winding of a relay: its first, the regular or the drawing one, or its second, the dropping one.
 pub enum Which {
@@ -148,11 +148,11 @@ fn asked_of(windings: Windings, which: Which) -> Asked
     }
 }
 
-// The winding that a call judges, after 15, 14 and 11.
-fn winding_for(board: Board, state: State, relay: u32, which: Which) -> Asked
-    ensures { λ r. ⌜ toldAsked r ≡ windingFor board state relay which ⌝ }
+// The winding that a call judges, after 15, 14, 18 and 11.
+fn winding_for(board: Board, kept: Kept, relay: u32, which: Which) -> Asked
+    ensures { λ r. ⌜ toldAsked r ≡ windingFor board kept relay which ⌝ }
 {
-    let usable = state::usable(board, state);
+    let usable = kept::usable(board, kept);
     match usable {
         Against::Nothing => asked_of(find_windings(board, relay), which),
         Against::Refused(refusal) => Asked::Refused(refusal),
@@ -193,14 +193,14 @@ pub fn judge_by(sets: Sets, terminals: u8, winding: Winding, allowance: u32) -> 
     }
 }
 
-// Judges that winding of this relay within the allowance.
-pub fn judge(board: Board, state: State, relay: u32, which: Which, allowance: u32) -> Verdict
-    ensures { λ r. ⌜ Judges board state relay which allowance r ⌝ }
+// Judges that winding of this relay within the allowance, by the kept sets.
+pub fn judge(board: Board, kept: Kept, relay: u32, which: Which, allowance: u32) -> Verdict
+    ensures { λ r. ⌜ Judges board kept relay which allowance r ⌝ }
 {
-    let asked = winding_for(board, state, relay, which);
+    let asked = winding_for(board, kept, relay, which);
     match asked {
         Asked::Given(winding) => {
-            let sets = neighbours::neighbours(board, state);
+            let sets = kept.sets;
             judge_by(sets, board.counts.terminals, winding, allowance)
         }
         Asked::Refused(refusal) => at_once(Finding::Refused(refusal)),

@@ -13,6 +13,7 @@ use Rattle.board.specs.declared.Board.{Board}
 use Rattle.board.specs.BreaksNoRule.{BoardFits}
 use Rattle.board.proofs.BreaksNoRule.{fine-fits}
 use Rattle.state.specs.declared.State.{State}
+use Rattle.kept.specs.declared.Kept.{Kept}
 use Rattle.chains.specs.ChainList.{chains, shows}
 use Rattle.search.specs.declared.Winding.{Winding}
 use Rattle.search.specs.declared.Verdict.{Verdict}
@@ -104,45 +105,45 @@ winding-effort-some b s e fits inside apart =
 -- ---- over the call
 
 -- a refused call settles nothing
-refused-unsettled : (b : Board) (s : State) (r : ℕ) (n : Which) (w : ℕ) (v : Verdict) (k p : ℕ) → Judges b s r n w v
-    → windingFor b s r n ≡ refused k p → Settled v → ⊥
-refused-unsettled b s r n w v k p told off =
-    let refusal = ap (λ (j : verdict.Verdict). j .finding) (judging-by b s r n w (refused k p) off ∙ sym told) in
-    ⊎-elim (λ h. refused-never k p verdict.live (refusal ∙ ap verdict.toldFinding h))
-    (λ h. refused-never k p verdict.dead (refusal ∙ ap verdict.toldFinding h))
+refused-unsettled : (b : Board) (h : Kept) (r : ℕ) (n : Which) (w : ℕ) (v : Verdict) (k p : ℕ) → Judges b h r n w v
+    → windingFor b h r n ≡ refused k p → Settled v → ⊥
+refused-unsettled b h r n w v k p told off =
+    let refusal = ap (λ (j : verdict.Verdict). j .finding) (judging-by b h r n w (refused k p) off ∙ sym told) in
+    ⊎-elim (λ is. refused-never k p verdict.live (refusal ∙ ap verdict.toldFinding is))
+    (λ is. refused-never k p verdict.dead (refusal ∙ ap verdict.toldFinding is))
 
-call-turns : (b : Board) (s : State) (r : ℕ) (n : Which) (w x : ℕ) (v u : Verdict) → Judges b s r n w v
-    → Judges b s r n x u → Settled v → (v .effort ≤ w) × Turned x v u
-call-turns b s r n w x v u told also settled = by-call (windingFor b s r n) refl
+call-turns : (b : Board) (h : Kept) (r : ℕ) (n : Which) (w x : ℕ) (v u : Verdict) → Judges b h r n w v
+    → Judges b h r n x u → Settled v → (v .effort ≤ w) × Turned x v u
+call-turns b h r n w x v u told also settled = by-call (windingFor b h r n) refl
   where
-    by-call : (o : Outcome Winding) → windingFor b s r n ≡ o → (v .effort ≤ w) × Turned x v u
+    by-call : (o : Outcome Winding) → windingFor b h r n ≡ o → (v .effort ≤ w) × Turned x v u
     by-call (given e) taken =
-        settled-turns _ _ x u (verdict-finding b s r n x e u also taken) w v (verdict-finding b s r n w e v told taken)
+        settled-turns _ _ x u (verdict-finding b h r n x e u also taken) w v (verdict-finding b h r n w e v told taken)
         settled
-    by-call (refused k p) off = absurd (refused-unsettled b s r n w v k p told off settled)
+    by-call (refused k p) off = absurd (refused-unsettled b h r n w v k p told off settled)
 
 -- ---- the theorems, of a judge that keeps the promise
 
 module _ (J : Judge) (keeps : Keeps J) where
   pub larger-allowance : LargerAllowance J
-  larger-allowance b s r n w x v u told also more settled =
+  larger-allowance b h r n w x v u told also more settled =
       let turned =
-      call-turns b s r n w x v u (keeps b s r n w v told) (keeps b s r n x u also) settled in
+      call-turns b h r n w x v u (keeps b h r n w v told) (keeps b h r n x u also) settled in
       turned .1 .enough (omega (arith, more, turned .0))
 
   pub turns-at-effort : TurnsAtEffort J
-  turns-at-effort b s r n w x v u told also settled =
+  turns-at-effort b h r n w x v u told also settled =
       let turned =
-      call-turns b s r n w x v u (keeps b s r n w v told) (keeps b s r n x u also) settled in
+      call-turns b h r n w x v u (keeps b h r n w v told) (keeps b h r n x u also) settled in
       (turned .1 .enough, turned .1 .short)
 
   pub effort-some-always : EffortSome J
   effort-some-always = (
     winding-effort-some,
-    λ b s r n w e v told taken settled apart.
-        let fit = winding-for-given b s r n e taken in
+    λ b h r n w e v told taken settled apart.
+        let fit = winding-for-given b h r n e taken in
         let fits = fine-fits b (fit .0) in
-        let comes = verdict-finding b s r n w e v (keeps b s r n w v told) taken in
-        subst (λ (k : ℕ). 1 ≤ k) (sym (effort-on b s e) ∙ settled-effort _ _ w v comes settled)
-        (winding-effort-some b s e fits (found-on-board b r n e fits (fit .2)) apart),
+        let comes = verdict-finding b h r n w e v (keeps b h r n w v told) taken in
+        subst (λ (k : ℕ). 1 ≤ k) (sym (effort-on b (h .state) e) ∙ settled-effort _ _ w v comes settled)
+        (winding-effort-some b (h .state) e fits (found-on-board b r n e fits (fit .2)) apart),
   )

@@ -24,7 +24,8 @@ use Rattle.board.specs.Parts.{partsOf}
 use Rattle.board.specs.Rules.{boardFine}
 use Rattle.board.specs.Sorts.{carries, countOf, isRegular, isSteel}
 use Rattle.board.proofs.FineLaws.{fine-parts-fit, fine-relays-wound}
-use Rattle.state.specs.declared.State.{State}
+use Rattle.kept.specs.declared.Kept.{Kept}
+use Rattle.kept.proofs.KeptLaws.{usable-can, can-usable}
 use Rattle.search.specs.declared.Winding.{Winding}
 use Rattle.search.specs.declared.Verdict.{Verdict}
 use Rattle.search.specs.declared.Finding.{Finding}
@@ -37,7 +38,7 @@ use Rattle.judge.specs.Judging.{windingFor, Judges}
 use Rattle.judge.proofs.WoundLaws.{its, these, first-sum, second-sum, windings-counted, sorted-most, sorted-none}
 use Rattle.judge.proofs.WoundLaws.{regular-second, beyond-none, Found, sought, missing-counted, counted-missing}
 use Rattle.judge.proofs.WoundLaws.{some-found}
-use Rattle.judge.proofs.JudgeLaws.{winding-for-sought, winding-for-given, winding-for-eleven, judging-by}
+use Rattle.judge.proofs.JudgeLaws.{winding-for-sought, winding-for-both, winding-for-eleven, judging-by}
 use Rattle.judge_means.specs.Eleven.{LineEleven, ElevenExactly, ItsWinding, TheWinding, RegularWound, SteelWound}
 use Rattle.judge_means.specs.Eleven.{EveryRelayWound}
 use Rattle.judge_means.proofs.Exactness.{FindingBy, live-by, dead-by, undecided-by, verdict-finding}
@@ -201,37 +202,39 @@ finding-by-said t cs w v said.Undecided k p (undecided-by short is) says =
     refused-never k p verdict.undecided (sym says)
 
 -- what is judged is refused exactly as the call says
-module _ (b : Board) (s : State) (r : ℕ) (n : Which) (w : ℕ) (v : Verdict) (told : Judges b s r n w v) where
-  refused-said : (k p : ℕ) → windingFor b s r n ≡ refused k p → verdict.toldFinding (v .finding) ≡ refused k p
+module _ (b : Board) (h : Kept) (r : ℕ) (n : Which) (w : ℕ) (v : Verdict) (told : Judges b h r n w v) where
+  refused-said : (k p : ℕ) → windingFor b h r n ≡ refused k p → verdict.toldFinding (v .finding) ≡ refused k p
   refused-said k p off =
-      ap (λ (j : verdict.Verdict). j .finding) (told ∙ sym (judging-by b s r n w (refused k p) off))
+      ap (λ (j : verdict.Verdict). j .finding) (told ∙ sym (judging-by b h r n w (refused k p) off))
 
-  said-refused : (k p : ℕ) → verdict.toldFinding (v .finding) ≡ refused k p → windingFor b s r n ≡ refused k p
-  said-refused k p says = by-call (windingFor b s r n) refl
+  said-refused : (k p : ℕ) → verdict.toldFinding (v .finding) ≡ refused k p → windingFor b h r n ≡ refused k p
+  said-refused k p says = by-call (windingFor b h r n) refl
     where
-      by-call : (o : Outcome Winding) → windingFor b s r n ≡ o → windingFor b s r n ≡ refused k p
+      by-call : (o : Outcome Winding) → windingFor b h r n ≡ o → windingFor b h r n ≡ refused k p
       by-call (given e) taken =
-          absurd (finding-by-said _ _ w v (v .finding) k p (verdict-finding b s r n w e v told taken) says)
+          absurd (finding-by-said _ _ w v (v .finding) k p (verdict-finding b h r n w e v told taken) says)
       by-call (refused m q) off = let same = sym (refused-said m q off) ∙ says in cc
 
 -- ---- the theorems
 
 pub eleven-exactly : ElevenExactly
-eleven-exactly b s r n w v told = (
+eleven-exactly b h r n w v told = (
   λ says.
-      let last = winding-for-eleven b s r n (said-refused b s r n w v told noSuchWinding 0 says) in
-      (last .0, last .1, missing-exactly b r n (last .0) .0 (last .2)),
-  λ (fine, fits, line).
-      refused-said b s r n w v told noSuchWinding 0
-      (winding-for-sought b s r n none fine fits (missing-exactly b r n fine .1 line)),
+      let last = winding-for-eleven b h r n (said-refused b h r n w v told noSuchWinding 0 says) in
+      let can = usable-can b h (last .0) in
+      (can, missing-exactly b r n (can .0) .0 (last .1)),
+  λ (can, line).
+      refused-said b h r n w v told noSuchWinding 0
+      (winding-for-sought b h r n none (can-usable b h can) (missing-exactly b r n (can .0) .1 line)),
 )
 
 pub the-winding : TheWinding
-the-winding b s r n e = (
+the-winding b h r n e = (
   λ accepted.
-      let answer = winding-for-given b s r n e accepted in
-      (answer .0, answer .1, found-its b r n (fine-most b r n (answer .0)) e (answer .2)),
-  λ (fine, fits, i). winding-for-sought b s r n (some e) fine fits (its-found b r n e i),
+      let answer = winding-for-both b h r n e accepted in
+      let can = usable-can b h (answer .0) in
+      (can, found-its b r n (fine-most b r n (can .0)) e (answer .1)),
+  λ (can, i). winding-for-sought b h r n (some e) (can-usable b h can) (its-found b r n e i),
 )
 
 pub every-relay-wound : EveryRelayWound

@@ -17,6 +17,7 @@ use Rattle.board.specs.declared.Board.{Board}
 use Rattle.board.specs.BreaksNoRule.{BoardFits}
 use Rattle.board.proofs.BreaksNoRule.{fine-fits}
 use Rattle.state.specs.declared.State.{State}
+use Rattle.kept.specs.declared.Kept.{Kept}
 use Rattle.neighbours.specs.Neighbours.{Joined, joined, neighbours, setsOf}
 use Rattle.neighbours.proofs.JoinedLaws.{joined-part, part-joined}
 use Rattle.chains.specs.Chains.{Before, Sorted, Shows}
@@ -36,13 +37,14 @@ use Rattle.search.proofs.VerdictLaws.{first-shown-none, effort-none, told-verdi
 use Rattle.judge.specs.declared.Which.{Which}
 use Rattle.judge.specs.Judging.{shunted, Judges}
 use Rattle.judge.proofs.JudgeLaws.{chainsFor, chains-none, chains-all, effort-nothing, winding-for-given}
-use Rattle.judge.proofs.JudgeLaws.{judging-weighed}
+use Rattle.judge.proofs.JudgeLaws.{judging-given, judging-weighed}
 use Rattle.judge_means.specs.Circuits.{WindingCarries}
 use Rattle.judge_means.specs.Shunts.{Shunted, OnBoard}
 use Rattle.judge_means.specs.Exactness.{Judge, Keeps, AcceptedWinding, chainsOf, ChainOf, IsShown, IsLive}
 use Rattle.judge_means.specs.Exactness.{effortOf, TheChains, FirstShowing, EffortNumbers, OfEveryVerdict}
-use Rattle.judge_means.specs.Exactness.{LiveExactly, DeadExactly, UndecidedExactly, FirstChain, LiveShows}
-use Rattle.judge_means.specs.Exactness.{ShowsNone, ShuntedDead, DeadCounts, UndecidedReports, AsPublished}
+use Rattle.judge_means.specs.Exactness.{AsAfresh, LiveExactly, DeadExactly, UndecidedExactly, FirstChain}
+use Rattle.judge_means.specs.Exactness.{LiveShows, ShowsNone, ShuntedDead, DeadCounts, UndecidedReports}
+use Rattle.judge_means.specs.Exactness.{AsPublished}
 use Rattle.judge_means.proofs.Circuits.{live-is-carrying}
 use Rattle.judge_means.proofs.Shunts.{found-on-board, shunted-exactly}
 
@@ -121,10 +123,10 @@ unfolding effortOf chainsFor
 effort-on b s e =
     by-test (shunted (setsOf b s) e) (λ is. rw is (effort-nothing (shows (e .a) (e .b)))) (λ off. rw off refl)
 
-pub verdict-finding : (b : Board) (s : State) (r : ℕ) (n : Which) (w : ℕ) (e : Winding) (v : Verdict)
-    → Judges b s r n w v → AcceptedWinding b s r n e
-    → FindingBy (shows (e .a) (e .b)) (chainsOn b s e) w v (v .finding)
-verdict-finding b s r n w e v told taken = weighed-finding _ _ w v (told ∙ judging-weighed b s r n w e taken)
+pub verdict-finding : (b : Board) (h : Kept) (r : ℕ) (n : Which) (w : ℕ) (e : Winding) (v : Verdict)
+    → Judges b h r n w v → AcceptedWinding b h r n e
+    → FindingBy (shows (e .a) (e .b)) (chainsOn b (h .state) e) w v (v .finding)
+verdict-finding b h r n w e v told taken = weighed-finding _ _ w v (told ∙ judging-weighed b h r n w e taken)
 
 -- ---- live and listed are one, and the effort is a number in the list
 
@@ -225,19 +227,23 @@ sorted-after (d ∷ k) c l h = sorted-after k c l (h .1)
 
 -- ---- the theorems
 
-module _ (b : Board) (s : State) (r : ℕ) (n : Which) (w : ℕ) (e : Winding) (v : Verdict) (told : Judges b s r n w v)
-    (taken : AcceptedWinding b s r n e) where
+module _ (b : Board) (k : Kept) (r : ℕ) (n : Which) (w : ℕ) (e : Winding) (v : Verdict) (told : Judges b k r n w v)
+    (taken : AcceptedWinding b k r n e) where
+  -- the state in which it is judged
+  abbrev s : State
+  s = k .state
+
   fits : BoardFits b
-  fits = fine-fits b (winding-for-given b s r n e taken .0)
+  fits = fine-fits b (winding-for-given b k r n e taken .0)
 
   inside : OnBoard b e
-  inside = found-on-board b r n e fits (winding-for-given b s r n e taken .2)
+  inside = found-on-board b r n e fits (winding-for-given b k r n e taken .2)
 
   abbrev ComesTo : Finding → Type 0
   ComesTo f = FindingBy (shows (e .a) (e .b)) (chainsOn b s e) w v f
 
   comes-to : ComesTo (v .finding)
-  comes-to = verdict-finding b s r n w e v told taken
+  comes-to = verdict-finding b k r n w e v told taken
 
   comes-to-this : (f : Finding) → v .finding ≡ f → ComesTo f
   comes-to-this f h = subst ComesTo h comes-to
@@ -393,12 +399,16 @@ module _ (b : Board) (s : State) (r : ℕ) (n : Which) (w : ℕ) (e : Winding) (
 -- ---- the theorems, of a judge that keeps the promise
 
 pub judges-keep : Keeps Judges
-judges-keep b s r n w v told = told
+judges-keep b h r n w v told = told
 
 module _ (J : Judge) (keeps : Keeps J) where
   -- what holds of the verdicts that the promise allows holds of its verdicts
   kept : (P : Board → State → ℕ → Winding → Verdict → Type 0) → OfEveryVerdict Judges P → OfEveryVerdict J P
-  kept P all b s r n w e v told = all b s r n w e v (keeps b s r n w v told)
+  kept P all b h r n w e v told = all b h r n w e v (keeps b h r n w v told)
+
+  pub as-afresh : AsAfresh J
+  as-afresh =
+      kept _ (λ b h r n w e v told taken. told ∙ sym (judging-given b h r n w e (setsOf b (h .state)) taken refl))
 
   pub live-exactly : LiveExactly J
   live-exactly = kept _ its-live

@@ -13,6 +13,7 @@ use mathlib.Core.Logic.{_⊎_}
 use Rattle.board.specs.declared.Board.{Board}
 use Rattle.board.specs.BreaksNoRule.{BoardFits}
 use Rattle.state.specs.declared.State.{State}
+use Rattle.kept.specs.declared.Kept.{Kept}
 use Rattle.search.specs.declared.Winding.{Winding}
 use Rattle.search.specs.declared.Verdict.{Verdict}
 use Rattle.search.specs.declared.Finding.the-variants as said
@@ -25,18 +26,18 @@ Settled v = (v .finding ≡ said.Live) ⊎ (v .finding ≡ said.Dead)
 
 abbrev pub LargerAllowance : Judge → Type 0
 LargerAllowance J =
-    (b : Board) (s : State) (r : ℕ) (n : Which) (w x : ℕ) (v u : Verdict)
-    → J b s r n w v
-    → J b s r n x u
+    (b : Board) (h : Kept) (r : ℕ) (n : Which) (w x : ℕ) (v u : Verdict)
+    → J b h r n w v
+    → J b h r n x u
     → w ≤ x
     → Settled v
     → u ≡ v
 
 abbrev pub TurnsAtEffort : Judge → Type 0
 TurnsAtEffort J =
-    (b : Board) (s : State) (r : ℕ) (n : Which) (w x : ℕ) (v u : Verdict)
-    → J b s r n w v
-    → J b s r n x u
+    (b : Board) (h : Kept) (r : ℕ) (n : Which) (w x : ℕ) (v u : Verdict)
+    → J b h r n w v
+    → J b h r n x u
     → Settled v
     → (v .effort ≤ x → u ≡ v) × (x < v .effort → u .finding ≡ said.Undecided)
 

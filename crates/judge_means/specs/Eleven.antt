@@ -4,11 +4,11 @@
 -- winding (the regular or the drawing one) or its second (the dropping one)"; "Every relay is regular, with exactly one
 -- part of kind 4, or steel-core, with exactly one of kind 5 and one of kind 6."
 --     LineEleven b r n      the line of 11 holds: board b has no relay r, or n is the second winding and r is regular
---     ElevenExactly         `judge` refuses by 11 exactly if neither 15 nor 14 holds and the line of 11 does
+--     ElevenExactly         `judge` refuses by 11 exactly if none of 15, 14 and 18 holds and the line of 11 does
 --     ItsWinding b r n e    a part of board b is winding n of relay r, between the ends of e, and no other part is: its
 --                           kind is regular or drawing where n is the first, dropping where n is the second
 --                           (`isWinding`), and it carries r
---     TheWinding            the call is not refused and judges e exactly if neither 15 nor 14 holds and e is that
+--     TheWinding            the call is not refused and judges e exactly if none of 15, 14 and 18 holds and e is that
 --                           winding of the relay
 --     RegularWound b r      relay r has a first winding, of kind regular, and no second
 --     SteelWound b r        relay r has a first winding, of kind drawing, and a second, of kind dropping
@@ -24,10 +24,9 @@ use Rattle.kinds.specs.declared.Kind.the-variants.{Regular, Drawing, Dropping}
 use Rattle.board.specs.declared.Part.{Part}
 use Rattle.board.specs.declared.Board.{Board}
 use Rattle.board.specs.Parts.{partsOf}
-use Rattle.board.specs.Rules.{boardFine}
 use Rattle.board.specs.Sorts.{isRegular, isSteel}
-use Rattle.state.specs.declared.State.{State}
-use Rattle.state.specs.States.{stateFine}
+use Rattle.kept.specs.declared.Kept.{Kept}
+use Rattle.kept.specs.Kept.{CanUse}
 use Rattle.search.specs.declared.Winding.{Winding}
 use Rattle.search.specs.declared.Verdict.{Verdict}
 use Rattle.search.specs.Verdicts.{toldFinding}
@@ -42,10 +41,10 @@ LineEleven b r n = (b .counts .relays ≤ r) ⊎ ((n ≡ Second) × isRegular r 
 
 abbrev pub ElevenExactly : Type 0
 ElevenExactly =
-    (b : Board) (s : State) (r : ℕ) (n : Which) (w : ℕ) (v : Verdict)
-    → Judges b s r n w v
+    (b : Board) (h : Kept) (r : ℕ) (n : Which) (w : ℕ) (v : Verdict)
+    → Judges b h r n w v
     → toldFinding (v .finding) ≡ refused noSuchWinding 0
-    ↔ (boardFine b ≡ true) × (stateFine (b .counts) s ≡ true) × LineEleven b r n
+    ↔ CanUse b h × LineEleven b r n
 
 pub record ItsWinding (b : Board) (r : ℕ) (n : Which) (e : Winding) : Type 0 where
   pub part : Part
@@ -56,8 +55,8 @@ pub record ItsWinding (b : Board) (r : ℕ) (n : Which) (e : Winding) : Type 0 w
 
 abbrev pub TheWinding : Type 0
 TheWinding =
-    (b : Board) (s : State) (r : ℕ) (n : Which) (e : Winding)
-    → AcceptedWinding b s r n e ↔ (boardFine b ≡ true) × (stateFine (b .counts) s ≡ true) × ItsWinding b r n e
+    (b : Board) (h : Kept) (r : ℕ) (n : Which) (e : Winding)
+    → AcceptedWinding b h r n e ↔ CanUse b h × ItsWinding b r n e
 
 pub record RegularWound (b : Board) (r : ℕ) : Type 0 where
   pub winding : Winding

@@ -5,10 +5,10 @@
 -- 0, and a shunted winding is called dead at every allowance, however many chains there are." Rule book: "Live, with
 -- the first such chain shown, exactly if the winding is live and its effort is at most W. Dead exactly if it is dead
 -- and its effort is at most W. Undecided otherwise."
---     Judge                        which verdicts a judge can answer on a board, a state, a winding of a relay and an
---                                  allowance
+--     Judge                        which verdicts a judge can answer on a board, a state with its kept sets, a winding
+--                                  of a relay and an allowance
 --     Keeps J                      the judge J answers nothing that the promise of `judge` does not allow
---     AcceptedWinding b s r n e    the call is not refused, and e is the winding judged
+--     AcceptedWinding b h r n e    the call is not refused, and e is the winding judged
 --     chainsOf b s                 the list of all chains of board b in state s
 --     ChainOf b s c                c is a chain of board b in state s
 --     AllChains b s                that list holds exactly the rule book's chains, in dictionary order, each once
@@ -23,6 +23,8 @@
 --                                  all chains
 --     OfEveryVerdict J P           P holds of every verdict v of J, within the allowance w, on a winding e that is
 --                                  judged
+--     AsAfresh J                   a verdict is the one by the sets worked out from board and state, effort and chain
+--                                  included. Request A5: "judgements from them are the old ones, efforts included"
 --     LiveExactly J                live exactly if it is so and its effort is at most W
 --     DeadExactly J                dead exactly if it is shunted, or no chain shows it and all chains lie within W
 --     UndecidedExactly J           undecided exactly if its effort is larger than W
@@ -48,6 +50,7 @@ use Rattle.board.specs.declared.Board.{Board}
 use Rattle.board.specs.BreaksNoRule.{BoardFits}
 use Rattle.state.specs.declared.State.{State}
 use Rattle.neighbours.specs.Neighbours.{Joined, joined, neighbours, setsOf}
+use Rattle.kept.specs.declared.Kept.{Kept}
 use Rattle.chains.specs.Chains.{IsChain, Before, Sorted, Shows, Live}
 use Rattle.chains.specs.ChainList.{chains, shows}
 use Rattle.search.specs.declared.Winding.{Winding}
@@ -55,18 +58,18 @@ use Rattle.search.specs.declared.Verdict.{Verdict}
 use Rattle.search.specs.declared.Finding.the-variants as said
 use Rattle.search.specs.Verdicts.{effort, places}
 use Rattle.judge.specs.declared.Which.{Which}
-use Rattle.judge.specs.Judging.{shunted, windingFor, Judges}
+use Rattle.judge.specs.Judging.{shunted, windingFor, JudgesBy, Judges}
 use Rattle.judge_means.specs.Circuits.{WindingCarries}
 use Rattle.judge_means.specs.Shunts.{Shunted, OnBoard}
 
 abbrev pub Judge : Type 1
-Judge = Board → State → ℕ → Which → ℕ → Verdict → Type 0
+Judge = Board → Kept → ℕ → Which → ℕ → Verdict → Type 0
 
 abbrev pub Keeps : Judge → Type 0
-Keeps J = (b : Board) (s : State) (r : ℕ) (n : Which) (w : ℕ) (v : Verdict) → J b s r n w v → Judges b s r n w v
+Keeps J = (b : Board) (h : Kept) (r : ℕ) (n : Which) (w : ℕ) (v : Verdict) → J b h r n w v → Judges b h r n w v
 
-abbrev pub AcceptedWinding : Board → State → ℕ → Which → Winding → Type 0
-AcceptedWinding b s r n e = windingFor b s r n ≡ given e
+abbrev pub AcceptedWinding : Board → Kept → ℕ → Which → Winding → Type 0
+AcceptedWinding b h r n e = windingFor b h r n ≡ given e
 
 abbrev pub chainsOf : Board → State → List (List ℕ)
 chainsOf b s = chains (joined (neighbours b s)) (b .counts .terminals)
@@ -111,10 +114,13 @@ EffortNumbers =
 
 abbrev pub OfEveryVerdict : Judge → (Board → State → ℕ → Winding → Verdict → Type 0) → Type 0
 OfEveryVerdict J P =
-    (b : Board) (s : State) (r : ℕ) (n : Which) (w : ℕ) (e : Winding) (v : Verdict)
-    → J b s r n w v
-    → AcceptedWinding b s r n e
-    → P b s w e v
+    (b : Board) (h : Kept) (r : ℕ) (n : Which) (w : ℕ) (e : Winding) (v : Verdict)
+    → J b h r n w v
+    → AcceptedWinding b h r n e
+    → P b (h .state) w e v
+
+abbrev pub AsAfresh : Judge → Type 0
+AsAfresh J = OfEveryVerdict J λ b s w e v. JudgesBy (setsOf b s) (b .counts .terminals) e w v
 
 abbrev pub LiveExactly : Judge → Type 0
 LiveExactly J = OfEveryVerdict J λ b s w e v. v .finding ≡ said.Live ↔ IsLive b s e × (effortOf b s e ≤ w)

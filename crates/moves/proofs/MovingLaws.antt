@@ -1,10 +1,9 @@
--- Laws of the single move as a call: what stands against it, 15, 14 or 11, in that order, and what it comes to where
--- nothing does; and that an answer is known by what it tells.
+-- Laws of the single move as a call: what stands against it, 15, 14, 18 or 11, in that order, and what it comes to
+-- where nothing does; and that an answer is known by what it tells.
 use Prim.Native.Nat.{ℕ, _≤_, _<_}
 use native.Mathlib.Omega.{arith}
 use mathlib.Core.Path.{_≡_, refl, sym, ap, _∙_}
 use mathlib.Core.Bool.{Bool, true, false}
-use mathlib.Core.List.{[], _∷_, _++_}
 use lib.Dec.{ltb}
 use borrow.Author.Tests.{le-ltb, ltb-true, ltb-false}
 use Rattle.refusals.specs.declared.Refusal.{Refusal}
@@ -18,66 +17,83 @@ use Rattle.refusals.proofs.OrderLaws.{asks-first, asks-then}
 use Rattle.refusals.proofs.Told.{Told, answerOf, given-or-refused, beside-told}
 use Rattle.board.specs.declared.Board.{Board}
 use Rattle.board.specs.Rules.{boardFine}
-use Rattle.state.specs.declared.State.{State}
-use Rattle.state.specs.States.{stateFine, usableLines, usable, left}
-use Rattle.state.proofs.StateLaws.{usable-given, usable-lines, usable-next}
+use Rattle.state.specs.States.{isDrawn, stateFine}
+use Rattle.kept.specs.declared.Kept.{Kept}
+use Rattle.kept.specs.Kept.{keptAt, usableLines, usable, left}
+use Rattle.kept.proofs.KeptLaws.{kept-sets, usable-given, usable-lines, usable-next}
 use Rattle.moves.specs.declared.Move as code-move
 use Rattle.moves.specs.declared.Move.the-variants.{Drew, Dropped, Rests, Undecided, Conflict}
 use Rattle.moves.specs.declared.MoveAnswer.{MoveAnswer}
 use Rattle.moves.specs.declared.MoveAnswer.the-variants.{Says, Refused}
-use Rattle.moves.specs.Steps.{Move, drew, dropped, rests, undecided, conflict, stepOf, made, toldMove}
+use Rattle.moves.specs.Steps.{Move, drew, dropped, rests, undecided, conflict, stepBy, stepOf, made, keptMade}
+use Rattle.moves.specs.Steps.{toldMove}
 use Rattle.moves.specs.Moving.{movable, moving, toldMoveAnswer, toldMoved}
+use Rattle.moves.proofs.StepLaws.{step-by, kept-made}
 
-module _ (b : Board) (s : State) (r : ℕ) where
-  -- 11 is asked after 15 and 14
-  movable-next : movable b s r ≡ (usable b s >> unless (ltb r (b .counts .relays)) noSuchWinding 0)
+module _ (b : Board) (h : Kept) (r : ℕ) where
+  -- 11 is asked after 15, 14 and 18
+  movable-next : movable b h r ≡ (usable b h >> unless (ltb r (b .counts .relays)) noSuchWinding 0)
   unfolding movable
-  movable-next = usable-lines b s _ ∙ ap (λ (o : Outcome (Unit {0})). usable b s >> o) (asks-first _ noSuchWinding)
+  movable-next = usable-lines b h _ ∙ ap (λ (o : Outcome (Unit {0})). usable b h >> o) (asks-first _ noSuchWinding)
 
-  pub movable-lacking : usable b s ≡ given tt → b .counts .relays ≤ r → movable b s r ≡ refused noSuchWinding 0
+  pub movable-lacking : usable b h ≡ given tt → b .counts .relays ≤ r → movable b h r ≡ refused noSuchWinding 0
   movable-lacking fine past = movable-next ∙ rw (fine, le-ltb r (b .counts .relays) past) refl
 
-  -- where a relay is moved, the board breaks no rule, the state fits it and the relay is there
-  pub movable-given : movable b s r ≡ given tt → (boardFine b ≡ true) × (stateFine (b .counts) s ≡ true)
-      × (r < b .counts .relays)
+  -- where a relay is moved, the board breaks no rule, the state fits it, the sets belong to both and the relay is there
+  movable-given : movable b h r ≡ given tt → (usable b h ≡ given tt) × (r < b .counts .relays)
   movable-given taken =
-      let both = both-given (usable b s) _ tt (sym movable-next ∙ taken) in
-      let fine = usable-given b s (both .0) in
-      (fine .0, fine .1, ltb-true r (b .counts .relays) (asked (ltb r (b .counts .relays)) noSuchWinding 0 (both .1)))
+      let both = both-given (usable b h) _ tt (sym movable-next ∙ taken) in
+      (both .0, ltb-true r (b .counts .relays) (asked (ltb r (b .counts .relays)) noSuchWinding 0 (both .1)))
 
-  -- where 11 is given, neither 15 nor 14 holds, and the relay is not there
-  pub movable-eleven : movable b s r ≡ refused noSuchWinding 0 → (boardFine b ≡ true)
-      × (stateFine (b .counts) s ≡ true) × (b .counts .relays ≤ r)
+  pub movable-fine : movable b h r ≡ given tt → (boardFine b ≡ true) × (stateFine (b .counts) (h .state) ≡ true)
+      × (r < b .counts .relays)
+  movable-fine taken =
+      let both = movable-given taken in
+      let fine = usable-given b h (both .0) in (fine .0, fine .1, both .1)
+
+  pub movable-kept : movable b h r ≡ given tt → h ≡ keptAt b (h .state)
+  movable-kept taken = usable-given b h (movable-given taken .0) .2
+
+  -- where 11 is given, neither 15 nor 14 nor 18 holds, and the relay is not there
+  pub movable-eleven : movable b h r ≡ refused noSuchWinding 0 → (usable b h ≡ given tt) × (b .counts .relays ≤ r)
   movable-eleven is =
-      let next = usable-next b s (unless (ltb r (b .counts .relays)) noSuchWinding 0) noSuchWinding 0
-      (λ e. omega arith) (λ e. omega arith) (sym movable-next ∙ is) in
-      (next .0, next .1, past (ltb r (b .counts .relays)) refl (next .2))
+      let next = usable-next b h (unless (ltb r (b .counts .relays)) noSuchWinding 0) noSuchWinding 0
+      (λ e. omega arith) (λ e. omega arith) (λ e. omega arith) (sym movable-next ∙ is) in
+      (next .0, past (ltb r (b .counts .relays)) refl (next .1))
     where
       past : (t : Bool) → ltb r (b .counts .relays) ≡ t → unless t noSuchWinding 0 ≡ refused noSuchWinding 0
           → b .counts .relays ≤ r
       past true below refusal = absurd (refused-never noSuchWinding 0 tt (sym refusal))
       past false beyond refusal = ltb-false r (b .counts .relays) beyond
 
-  pub moving-refused : (w k p : ℕ) → movable b s r ≡ refused k p → (s, refused k p) ≡ moving b s r w
+  pub moving-refused : (w k p : ℕ) → movable b h r ≡ refused k p → (h, refused k p) ≡ moving b h r w
   unfolding moving left
   moving-refused w k p e = rw e refl
 
-  pub moving-moved : (w : ℕ) (m : Move) (t : State) → movable b s r ≡ given tt → m ≡ stepOf b s r w → t ≡ made s r m
-      → (t, given m) ≡ moving b s r w
+  pub moving-given : (w : ℕ) (m : Move) → movable b h r ≡ given tt → m ≡ stepOf b (h .state) r w
+      → (keptAt b (made (h .state) r m), given m) ≡ moving b h r w
   unfolding moving left
-  moving-moved w m t e is leaves = rw (e, leaves, is) refl
+  moving-given w m e is = rw (e, is) refl
+
+  -- by the step m that the kept sets let see, and what is kept after it
+  pub moving-moved : (w : ℕ) (m : Move) (t : Kept) → movable b h r ≡ given tt
+      → m ≡ stepBy (h .sets) b (isDrawn (h .state) r) r w → t ≡ keptMade b h r m → (t, given m) ≡ moving b h r w
+  moving-moved w m t e is leaves =
+      let own = movable-kept e in
+      ap (λ (k : Kept). (k, given m)) (leaves ∙ kept-made b h r m own)
+      ∙ moving-given w m e (step-by b (h .state) r w (h .sets) m (kept-sets b h own) is)
 
 -- what the code has asked, a, by the test t after o: its lines are those of the definition
-module _ (b : Board) (s : State) (r : ℕ) {t : Bool} {o : Outcome (Unit {0})} {a : Against} (first : o ≡ usable b s)
+module _ (b : Board) (h : Kept) (r : ℕ) {t : Bool} {o : Outcome (Unit {0})} {a : Against} (first : o ≡ usable b h)
     (there : t ≡ ltb r (b .counts .relays)) (next : toldAgainst a ≡ (o >> unless t noSuchWinding 0)) where
-  movable-asked : (x : Against) → a ≡ x → movable b s r ≡ toldAgainst x
+  movable-asked : (x : Against) → a ≡ x → movable b h r ≡ toldAgainst x
   unfolding movable usable
-  movable-asked x is = sym (asks-then (usableLines b s) noSuchWinding first there next) ∙ ap toldAgainst is
+  movable-asked x is = sym (asks-then (usableLines b h) noSuchWinding first there next) ∙ ap toldAgainst is
 
-  pub movable-nothing : a ≡ stands.Nothing → movable b s r ≡ given tt
+  pub movable-nothing : a ≡ stands.Nothing → movable b h r ≡ given tt
   movable-nothing is = movable-asked stands.Nothing is
 
-  pub movable-refused : (x : Refusal) → a ≡ stands.Refused x → movable b s r ≡ refused (x .number) (x .place)
+  pub movable-refused : (x : Refusal) → a ≡ stands.Refused x → movable b h r ≡ refused (x .number) (x .place)
   movable-refused x is = movable-asked (stands.Refused x) is
 
 -- ---- answers and what they tell
@@ -117,5 +133,5 @@ move-answer-told =
 
 pub moved-told : Told toldMoved
 moved-told =
-    beside-told toldMoveAnswer move-answer-told (λ s a. record { state = s; answer = a })
-    (λ x. x .state) (λ x. x .answer) (λ x. refl) (λ s a. refl)
+    beside-told toldMoveAnswer move-answer-told (λ h a. record { kept = h; answer = a })
+    (λ x. x .kept) (λ x. x .answer) (λ x. refl) (λ s a. refl)

@@ -16,6 +16,12 @@ use Rattle.state.specs.States.{isDrawn, isPushed, withDrawn, withDropped, state
 use Rattle.state.proofs.StateLaws.{drawn-draw-other, drawn-drop-other, state-fits-draw, state-fits-drop}
 use Rattle.neighbours.specs.declared.Sets.{Sets}
 use Rattle.neighbours.specs.Neighbours.{setsOf}
+use Rattle.kept.specs.declared.Kept.{Kept}
+use Rattle.kept.specs.declared.Change.the-variants.{Relay}
+use Rattle.kept.specs.Upkeep.{changedTo}
+use Rattle.kept.specs.Kept.{keptAt}
+use Rattle.kept.proofs.KeptLaws.{usable-fine}
+use Rattle.kept.proofs.UpkeepLaws.{relay-kept}
 use Rattle.search.specs.declared.Winding.{Winding}
 use Rattle.search.specs.Verdicts as verdict
 use Rattle.judge.specs.declared.Which.{Which}
@@ -26,9 +32,11 @@ use Rattle.judge.specs.RelayWindings.{OfRelay, regular, steel, absent, windingO
 use Rattle.judge.specs.RelayWindings.{toldWindings, FindsWindings}
 use Rattle.judge.specs.Judging.{judging}
 use Rattle.judge.proofs.WoundLaws.{windings-named}
-use Rattle.judge.proofs.JudgeLaws.{judged-larger, winding-for-sought, judging-given}
+use Rattle.judge.proofs.JudgeLaws.{judged-larger, winding-for-sought, judging-kept}
 use Rattle.moves.specs.Steps.{Move, drew, dropped, rests, undecided, conflict, decide, findingsBy, findingOn}
-use Rattle.moves.specs.Steps.{findingsOn, stepBy, stepOf, made}
+use Rattle.moves.specs.declared.Move as code-move
+use Rattle.moves.specs.declared.Move.the-variants.{Drew, Dropped}
+use Rattle.moves.specs.Steps.{findingsOn, stepBy, stepOf, made, keptMade, toldMove}
 use Rattle.moves.proofs.MoveLaws.{decide-larger}
 
 -- ---- what is found on the windings of relay r
@@ -59,11 +67,11 @@ module _ (k : Sets) (b : Board) (r w : ℕ) (z : Windings) (finds : FindsWinding
 
 -- ---- the step
 
--- by the sets that were gathered in the state
+-- by the sets of the state
 pub step-by : (b : Board) (s : State) (r w : ℕ) (k : Sets) (m : Move) → k ≡ setsOf b s
     → m ≡ stepBy k b (isDrawn s r) r w → m ≡ stepOf b s r w
 unfolding stepOf
-step-by b s r w k m gathered is = rw gathered at is
+step-by b s r w k m own is = rw own at is
 
 -- by what was found, f, of a relay that is drawn if e
 pub step-findings : (k : Sets) (b : Board) (d e : Bool) (r w : ℕ) (f : OfRelay (Outcome verdict.Finding)) (m : Move)
@@ -79,20 +87,23 @@ step-windings b w s r x is =
     (step-by b s r w (setsOf b s) _ refl
     (step-findings (setsOf b s) b (isDrawn s r) (isDrawn s r) r w _ _ refl (findings-at (setsOf b s) b r w x is) refl))
 
--- so, on a board and in a state that are not refused, a step goes by what the call `judge` says of each winding
+-- so, on a board and in a state that are not refused, with their sets, a step goes by what the call `judge` says of
+-- each winding
 abbrev pub saidOf : Board → State → ℕ → ℕ → OfRelay Winding → OfRelay (Outcome verdict.Finding)
-saidOf b s r w (regular v) = regular (judging b s r First w .finding)
-saidOf b s r w (steel v u) = steel (judging b s r First w .finding) (judging b s r Second w .finding)
+saidOf b s r w (regular v) = regular (judging b (keptAt b s) r First w .finding)
+saidOf b s r w (steel v u) =
+    steel (judging b (keptAt b s) r First w .finding) (judging b (keptAt b s) r Second w .finding)
 saidOf b s r w absent = absent
 
 module _ (b : Board) (w : ℕ) (s : State) (r : ℕ) (fine : boardFine b ≡ true)
     (fits : stateFine (b .counts) s ≡ true) where
   finding-judging : (x : OfRelay Winding) → windingsAt r (partsOf b) ≡ x → (n : Which) (v : Winding)
-      → windingNamed n x ≡ some v → findingOn (setsOf b s) b w v ≡ judging b s r n w .finding
+      → windingNamed n x ≡ some v → findingOn (setsOf b s) b w v ≡ judging b (keptAt b s) r n w .finding
   finding-judging x has n v is =
       let its : windingOf n r (partsOf b) ≡ some v = sym (windings-named b r n fine) ∙ ap (windingNamed n) has ∙ is in
       ap (λ (j : verdict.Verdict). j .finding)
-      (judging-given b s r n w v (setsOf b s) (winding-for-sought b s r n (some v) fine fits its) refl)
+      (judging-kept b (keptAt b s) r n w v
+      (winding-for-sought b (keptAt b s) r n (some v) (usable-fine b s fine fits) its))
 
   findings-said : (x : OfRelay Winding) → windingsAt r (partsOf b) ≡ x
       → findingsBy (findingOn (setsOf b s) b w) x ≡ saidOf b s r w x
@@ -143,3 +154,28 @@ pub made-fits : (c : Counts) (s : State) (r : ℕ) (m : Move) → stateFine c s 
     → stateFine c (made s r m) ≡ true
 made-fits c s r m fine below =
     made-holds (λ t. stateFine c t ≡ true) s r m (state-fits-draw c s r fine below) (state-fits-drop c s r fine) fine
+
+-- sets that belong to a state belong to the state after the move
+pub kept-made : (b : Board) (h : Kept) (r : ℕ) (m : Move) → h ≡ keptAt b (h .state)
+    → keptMade b h r m ≡ keptAt b (made (h .state) r m)
+kept-made b h r m own = ap (λ (k : Kept). keptMade b k r m) own ∙ by m
+  where
+    by : (m : Move) → keptMade b (keptAt b (h .state)) r m ≡ keptAt b (made (h .state) r m)
+    by drew =
+        relay-kept b (h .state) (withDrawn (h .state) r) r (made-other (h .state) r drew)
+        (made-pushed (h .state) r drew)
+    by dropped =
+        relay-kept b (h .state) (withDropped (h .state) r) r (made-other (h .state) r dropped)
+        (made-pushed (h .state) r dropped)
+    by rests = refl
+    by undecided = refl
+    by conflict = refl
+
+-- one law for each way out of `after` that moves: the state t that was made, and what is kept beside it, x
+module _ (b : Board) (h : Kept) (r : ℕ) (m : code-move.Move) (t : State) (x : Kept)
+    (kept : x ≡ changedTo h b (Relay r) t) where
+  pub after-drew : m ≡ Drew → t ≡ withDrawn (h .state) r → x ≡ keptMade b h r (toldMove m)
+  after-drew is made = kept ∙ rw (is, made) refl
+
+  pub after-dropped : m ≡ Dropped → t ≡ withDropped (h .state) r → x ≡ keptMade b h r (toldMove m)
+  after-dropped is made = kept ∙ rw (is, made) refl

@@ -1,12 +1,13 @@
--- A single move of a named relay, as a call. Rule book, calls: "15, 14, 13, 11, 7, 12, 16, those that apply"; "A single
--- move of a named relay answers drew, dropped, rests, undecided or conflict, and changes the state only for the first
--- two"; "A refused call returns the number, place 0 and the state it was given".
---     moveLines b s r              the lines of moving relay r of board b in state s: 15, 14, 11
---     movable b s r                what stands against it
---     moving b s r w               the call
+-- A single move of a named relay, as a call. Calls, since request A5: 15, 14, 18, 13, 11, 7, 12, 16, those that apply;
+-- "A single move of a named relay answers drew, dropped, rests, undecided or conflict, and changes the state only for
+-- the first two"; "A refused call returns the number, place 0 and the state it was given", and the kept sets.
+--     moveLines b h r              the lines of moving relay r of board b from h: 15, 14, 18, 11
+--     movable b h r                what stands against it
+--     moving b h r w               the call: where it is not refused, it leaves the state that the relay's step makes,
+--                                  with the sets of the board in that state
 --     toldMoveAnswer, toldMoved    the answer's cases in the rule book's words and numbers
---     Moves b s r w a              promise: `move_relay` of relay r of board b in state s, within the allowance w,
---                                  answers a
+--     Moves b h r w a              promise: `move_relay` of relay r of board b from h, within the allowance w, answers
+--                                  a
 use Prim.Native.Nat.{ℕ}
 use mathlib.Core.Path.{_≡_}
 use mathlib.Core.List.{[], _∷_, _++_}
@@ -15,28 +16,29 @@ use Rattle.refusals.specs.Outcomes.{Outcome, given, refused, _>>_}
 use Rattle.refusals.specs.Refusals.{noSuchWinding}
 use Rattle.refusals.specs.Order.{Order, firstNo}
 use Rattle.board.specs.declared.Board.{Board}
-use Rattle.state.specs.declared.State.{State}
-use Rattle.state.specs.States.{usableLines, left}
+use Rattle.kept.specs.declared.Kept.{Kept}
+use Rattle.kept.specs.Kept.{keptAt, usableLines, left}
 use Rattle.moves.specs.declared.MoveAnswer.{MoveAnswer}
 use Rattle.moves.specs.declared.MoveAnswer.the-variants.{Says, Refused}
 use Rattle.moves.specs.declared.Moved.{Moved}
 use Rattle.moves.specs.Steps.{Move, stepOf, made, toldMove}
 
-abbrev pub moveLines : Board → State → ℕ → Order
-moveLines b s r = usableLines b s ++ ((ltb r (b .counts .relays), noSuchWinding) ∷ [])
+abbrev pub moveLines : Board → Kept → ℕ → Order
+moveLines b h r = usableLines b h ++ ((ltb r (b .counts .relays), noSuchWinding) ∷ [])
 
-unfoldable pub movable : Board → State → ℕ → Outcome (Unit {0})
-movable b s r = firstNo (moveLines b s r)
+unfoldable pub movable : Board → Kept → ℕ → Outcome (Unit {0})
+movable b h r = firstNo (moveLines b h r)
 
-unfoldable pub moving : Board → State → ℕ → ℕ → State × Outcome Move
-moving b s r w = left s (made s r) (movable b s r >> given (stepOf b s r w))
+unfoldable pub moving : Board → Kept → ℕ → ℕ → Kept × Outcome Move
+moving b h r w =
+    left h (λ m. keptAt b (made (h .state) r m)) (movable b h r >> given (stepOf b (h .state) r w))
 
 abbrev pub toldMoveAnswer : MoveAnswer → Outcome Move
 toldMoveAnswer (Says m) = given (toldMove m)
 toldMoveAnswer (Refused r) = refused (r .number) (r .place)
 
-abbrev pub toldMoved : Moved → State × Outcome Move
-toldMoved r = (r .state, toldMoveAnswer (r .answer))
+abbrev pub toldMoved : Moved → Kept × Outcome Move
+toldMoved r = (r .kept, toldMoveAnswer (r .answer))
 
-abbrev pub Moves : Board → State → ℕ → ℕ → Moved → Type 0
-Moves b s r w a = toldMoved a ≡ moving b s r w
+abbrev pub Moves : Board → Kept → ℕ → ℕ → Moved → Type 0
+Moves b h r w a = toldMoved a ≡ moving b h r w

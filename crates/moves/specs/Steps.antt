@@ -19,11 +19,12 @@
 --                               laws alone
 --     stepper b w               the steps of board b within the allowance w, of every relay in every state
 --     made s r m                the state after relay r came to m: "A move changes that relay and nothing else"
+--     keptMade b h r m          the same with the kept sets: where it moved, they are kept up with it (request A5)
 --     toldFindings, toldMove    what was found, and the answer's cases, in the rule book's words
 --     Decides d f m             promise: `decide` of a relay that is drawn if d, by what was found, f, answers m
---     StepsRelay k b s r w m    promise: `step` of relay r of board b in state s, by the sets k and within the
+--     StepsRelay b h r w m      promise: `step` of relay r of board b in the state and by the sets of h, within the
 --                               allowance w, answers m
---     AfterMove s r m t         promise: `after` relay r came to m in state s answers t
+--     AfterMove b h r m t       promise: `after` relay r of board b came to m from h answers t
 use Prim.Native.Nat.{ℕ}
 use mathlib.Core.Path.{_≡_}
 use mathlib.Core.Bool.{Bool, true, false, not, cond, _&&_, _||_}
@@ -34,6 +35,9 @@ use Rattle.state.specs.declared.State.{State}
 use Rattle.state.specs.States.{isDrawn, withDrawn, withDropped}
 use Rattle.neighbours.specs.declared.Sets.{Sets}
 use Rattle.neighbours.specs.Neighbours.{setsOf}
+use Rattle.kept.specs.declared.Kept.{Kept}
+use Rattle.kept.specs.declared.Change.the-variants.{Relay}
+use Rattle.kept.specs.Upkeep.{changedTo}
 use Rattle.search.specs.declared.Winding.{Winding}
 use Rattle.search.specs.Verdicts as verdict
 use Rattle.judge.specs.RelayWindings.{OfRelay, regular, steel, absent, windingsAt}
@@ -104,6 +108,13 @@ made s r rests = s
 made s r undecided = s
 made s r conflict = s
 
+abbrev pub keptMade : Board → Kept → ℕ → Move → Kept
+keptMade b h r drew = changedTo h b (Relay r) (withDrawn (h .state) r)
+keptMade b h r dropped = changedTo h b (Relay r) (withDropped (h .state) r)
+keptMade b h r rests = h
+keptMade b h r undecided = h
+keptMade b h r conflict = h
+
 abbrev pub toldFindings : Findings → OfRelay (Outcome verdict.Finding)
 toldFindings (finds.Regular x) = regular (verdict.toldFinding x)
 toldFindings (finds.Steel x y) = steel (verdict.toldFinding x) (verdict.toldFinding y)
@@ -119,8 +130,8 @@ toldMove said.Conflict = conflict
 abbrev pub Decides : Bool → Findings → code-move.Move → Type 0
 Decides d f m = toldMove m ≡ decide d (toldFindings f)
 
-abbrev pub StepsRelay : Sets → Board → State → ℕ → ℕ → code-move.Move → Type 0
-StepsRelay k b s r w m = toldMove m ≡ stepBy k b (isDrawn s r) r w
+abbrev pub StepsRelay : Board → Kept → ℕ → ℕ → code-move.Move → Type 0
+StepsRelay b h r w m = toldMove m ≡ stepBy (h .sets) b (isDrawn (h .state) r) r w
 
-abbrev pub AfterMove : State → ℕ → code-move.Move → State → Type 0
-AfterMove s r m t = t ≡ made s r (toldMove m)
+abbrev pub AfterMove : Board → Kept → ℕ → code-move.Move → Kept → Type 0
+AfterMove b h r m t = t ≡ keptMade b h r (toldMove m)

@@ -9,13 +9,14 @@ ghost use Rattle.moves.specs.Steps.{toldMove, regularMove, steelMove, fi
 ghost use Rattle.moves.specs.Moving.{Moves};
 use board::Board;
 use judge::Windings;
+use kept::Change;
+use kept::Kept;
 use neighbours::Sets;
 use refusals::Against;
 use refusals::NO_SUCH_WINDING;
 use refusals::Refusal;
 use search::Finding;
 use search::Winding;
-use state::State;
 
 // What was found on a relay's windings: on the one of a regular relay, on the two of a steel one, or that the board has
 // no such relay.
@@ -40,9 +41,9 @@ pub enum MoveAnswer {
     Refused(Refusal),
 }
 
-// The answer to a single move, with the state that it leaves.
+// The answer to a single move, with the state and the kept sets that it leaves.
 pub struct Moved {
-    pub state: State,
+    pub kept: Kept,
     pub answer: MoveAnswer,
 }
 
@@ -160,46 +161,49 @@ fn findings_on(sets: Sets, board: Board, relay: u32, allowance: u32) -> Findings
     }
 }
 
-// What a relay does in this state, by the sets of neighbours within the allowance.
-pub fn step(sets: Sets, board: Board, state: State, relay: u32, allowance: u32) -> Move
-    ensures { λ r. ⌜ StepsRelay sets board state relay allowance r ⌝ }
+// What a relay does in this state, by the kept sets and within the allowance.
+pub fn step(board: Board, kept: Kept, relay: u32, allowance: u32) -> Move
+    ensures { λ r. ⌜ StepsRelay board kept relay allowance r ⌝ }
 {
+    let state = kept.state;
+    let sets = kept.sets;
     let drawn = state.is_drawn(relay);
     let findings = findings_on(sets, board, relay, allowance);
     decide(drawn, findings)
 }
 
-// The state after a relay came to this: drawn, dropped, or as it was.
-pub fn after(state: State, relay: u32, motion: Move) -> State
-    ensures { λ r. ⌜ AfterMove state relay motion r ⌝ }
+// The state and the kept sets after a relay came to this: drawn or dropped, with the sets kept up with it, or as they
+// were.
+pub fn after(board: Board, kept: Kept, relay: u32, motion: Move) -> Kept
+    ensures { λ r. ⌜ AfterMove board kept relay motion r ⌝ }
 {
+    let state = kept.state;
     match motion {
-        Move::Drew => state.draw(relay),
-        Move::Dropped => state.drop(relay),
-        Move::Rests => state,
-        Move::Undecided => state,
-        Move::Conflict => state,
+        Move::Drew => kept.changed(board, Change::Relay(relay), state.draw(relay)),
+        Move::Dropped => kept.changed(board, Change::Relay(relay), state.drop(relay)),
+        Move::Rests => kept,
+        Move::Undecided => kept,
+        Move::Conflict => kept,
     }
 }
 
-// Moves a named relay, if it can move: refusals 15, 14 and 11.
-pub fn move_relay(board: Board, state: State, relay: u32, allowance: u32) -> Moved
-    ensures { λ r. ⌜ Moves board state relay allowance r ⌝ }
+// Moves a named relay, if it can move: refusals 15, 14, 18 and 11.
+pub fn move_relay(board: Board, kept: Kept, relay: u32, allowance: u32) -> Moved
+    ensures { λ r. ⌜ Moves board kept relay allowance r ⌝ }
 {
-    let usable = state::usable(board, state);
+    let usable = kept::usable(board, kept);
     let there = relay < bits::wide(board.counts.relays);
     let against = usable.unless(there, NO_SUCH_WINDING);
     match against {
         Against::Nothing => {
-            let sets = neighbours::neighbours(board, state);
-            let motion = step(sets, board, state, relay, allowance);
-            let state = after(state, relay, motion);
+            let motion = step(board, kept, relay, allowance);
+            let kept = after(board, kept, relay, motion);
             let answer = MoveAnswer::Says(motion);
-            Moved { state, answer }
+            Moved { kept, answer }
         }
         Against::Refused(refusal) => {
             let answer = MoveAnswer::Refused(refusal);
-            Moved { state, answer }
+            Moved { kept, answer }
         }
     }
 }

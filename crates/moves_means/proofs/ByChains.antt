@@ -22,7 +22,7 @@ use Rattle.judge_means.specs.Exactness.{IsLive}
 use Rattle.judge_means.specs.Eleven.{ItsWinding}
 use Rattle.judge_means.proofs.Eleven.{its-winding-unique}
 use Rattle.moves.specs.Steps.{Move, drew, dropped, rests, undecided, conflict}
-use Rattle.moves.proofs.MovingLaws.{movable-given}
+use Rattle.moves.proofs.MovingLaws.{movable-fine}
 use Rattle.moves_means.specs.Guards.{CurrentThrough}
 use Rattle.moves_means.specs.SingleMoves.{NeedsMore, Comes}
 use Rattle.moves_means.specs.ByChains.{Undecided, Decided, RegularComes, SteelComes, RegularByChains}
@@ -181,17 +181,18 @@ module _ (b : Board) (w : ℕ) (s : State) (r : ℕ) (fits : BoardFits b) (below
 -- ---- the theorems
 
 pub regular-by-chains : RegularByChains
-regular-by-chains b s r w a e m moves taken regular first =
-    let fit = movable-given b s r taken in
-    let exactly = move-exactly b s r w a m moves taken .0 in (
-      λ says. regular-chains b w s r (fine-fits b (fit .0)) (fit .2) regular e first m (exactly .0 says),
-      λ comes. exactly .1 (chains-regular b w s r (fine-fits b (fit .0)) (fit .2) regular e first m comes),
+regular-by-chains b h r w a e m moves taken regular first =
+    let fit = movable-fine b h r taken in
+    let exactly = move-exactly b h r w a m moves taken .0 in (
+      λ says. regular-chains b w (h .state) r (fine-fits b (fit .0)) (fit .2) regular e first m (exactly .0 says),
+      λ comes. exactly .1 (chains-regular b w (h .state) r (fine-fits b (fit .0)) (fit .2) regular e first m comes),
     )
 
 pub steel-by-chains : SteelByChains
-steel-by-chains b s r w a e f m moves taken steel first second =
-    let fit = movable-given b s r taken in
-    let exactly = move-exactly b s r w a m moves taken .0 in (
-      λ says. steel-chains b w s r (fine-fits b (fit .0)) (fit .2) steel e f first second m (exactly .0 says),
-      λ comes. exactly .1 (chains-steel b w s r (fine-fits b (fit .0)) (fit .2) steel e f first second m comes),
+steel-by-chains b h r w a e f m moves taken steel first second =
+    let fit = movable-fine b h r taken in
+    let exactly = move-exactly b h r w a m moves taken .0 in (
+      λ says. steel-chains b w (h .state) r (fine-fits b (fit .0)) (fit .2) steel e f first second m (exactly .0 says),
+      λ comes. exactly .1
+          (chains-steel b w (h .state) r (fine-fits b (fit .0)) (fit .2) steel e f first second m comes),
     )

@@ -12,10 +12,11 @@ use Rattle.board.proofs.FineLaws.{fine-range}
 use Rattle.state.specs.declared.State.{State}
 use Rattle.state.specs.States.{isDrawn}
 use Rattle.state.proofs.StateLaws.{drawn-draw, drawn-drop}
+use Rattle.kept.specs.declared.Kept.{Kept}
 use Rattle.moves.specs.Steps.{Move, drew, dropped, rests, undecided, conflict, stepOf, made}
 use Rattle.moves.specs.Moving.{movable, moving}
 use Rattle.moves.proofs.StepLaws.{made-other, made-pushed}
-use Rattle.moves.proofs.MovingLaws.{movable-given, moving-refused, moving-moved}
+use Rattle.moves.proofs.MovingLaws.{movable-fine, moving-refused, moving-given}
 use Rattle.moves_means.specs.Guards.{CanDraw, CanDrop}
 use Rattle.moves_means.specs.SingleMoves.{Comes}
 use Rattle.moves_means.specs.OneRelay.{ElseAsBefore, Changes, ChangesOneRelay}
@@ -41,19 +42,20 @@ module _ (b : Board) (s : State) (r : ℕ) where
   made-changes undecided w fits comes = refl
   made-changes conflict w fits comes = refl
 
-  -- what the call leaves, by what stands against it
-  moving-changes : (w : ℕ) (o : Outcome (Unit {0})) → movable b s r ≡ o
-      → Changes s r (moving b s r w .1) (moving b s r w .0)
-  moving-changes w (given u) taken =
-      let fit = movable-given b s r taken in
+-- what the call leaves, by what stands against it
+module _ (b : Board) (h : Kept) (r w : ℕ) where
+  abbrev ChangesTo : Kept × Outcome Move → Type 0
+  ChangesTo x = Changes (h .state) r (x .1) (x .0 .state)
+
+  moving-changes : (o : Outcome (Unit {0})) → movable b h r ≡ o → ChangesTo (moving b h r w)
+  moving-changes (given u) taken =
+      let fit = movable-fine b h r taken in
       let few = fine-range b (fit .0) .most-relays in
-      subst (λ (x : State × Outcome Move). Changes s r (x .1) (x .0))
-      (moving-moved b s r w (stepOf b s r w) (made s r (stepOf b s r w)) taken refl refl)
-      (made-changes (stepOf b s r w) w (omega (arith, fit .2, few)) (step-means b w s r (fit .0) (fit .2)))
-  moving-changes w (refused n p) off =
-      subst (λ (x : State × Outcome Move). Changes s r (x .1) (x .0)) (moving-refused b s r w n p off) refl
+      let m = stepOf b (h .state) r w in
+      subst ChangesTo (moving-given b h r w m taken refl)
+      (made-changes b (h .state) r m w (omega (arith, fit .2, few)) (step-means b w (h .state) r (fit .0) (fit .2)))
+  moving-changes (refused n p) off = subst ChangesTo (moving-refused b h r w n p off) refl
 
 pub changes-one-relay : ChangesOneRelay
-changes-one-relay b s r w a moves =
-    subst (λ (x : State × Outcome Move). Changes s r (x .1) (x .0)) (sym moves)
-    (moving-changes b s r w (movable b s r) refl)
+changes-one-relay b h r w a moves =
+    subst (ChangesTo b h r w) (sym moves) (moving-changes b h r w (movable b h r) refl)

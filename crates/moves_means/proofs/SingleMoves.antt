@@ -17,8 +17,10 @@ use Rattle.board.proofs.FineLaws.{fine-relays-wound}
 use Rattle.board.proofs.BreaksNoRule.{fine-fits}
 use Rattle.state.specs.declared.State.{State}
 use Rattle.state.specs.States.{isDrawn}
-use Rattle.state.proofs.StateLaws.{usable-fine}
 use Rattle.neighbours.specs.Neighbours.{setsOf}
+use Rattle.kept.specs.declared.Kept.{Kept}
+use Rattle.kept.specs.Kept.{keptAt}
+use Rattle.kept.proofs.KeptLaws.{usable-can, can-usable}
 use Rattle.search.specs.declared.Winding.{Winding}
 use Rattle.search.specs.Verdicts.{Finding}
 use Rattle.judge.specs.RelayWindings.{OfRelay, regular, steel, windingsAt}
@@ -26,7 +28,7 @@ use Rattle.moves.specs.Steps.{Move, decide, findingsBy, findingOn, stepOf, made
 use Rattle.moves.specs.declared.Moved.{Moved}
 use Rattle.moves.specs.Moving.{movable, toldMoveAnswer, toldMoved, Moves}
 use Rattle.moves.proofs.StepLaws.{step-windings}
-use Rattle.moves.proofs.MovingLaws.{movable-given, movable-lacking, movable-eleven, moving-refused, moving-moved}
+use Rattle.moves.proofs.MovingLaws.{movable-fine, movable-lacking, movable-eleven, moving-refused, moving-given}
 use Rattle.moves_means.specs.SingleMoves.{Comes, StepExactly, MoveExactly, MoveElevenExactly}
 use Rattle.moves_means.proofs.FindingLaws.{regular-finding, drawing-finding, dropping-finding, second-within}
 use Rattle.moves_means.proofs.FindingLaws.{regular-windings, steel-windings}
@@ -73,21 +75,24 @@ step-means b w s r fine below = sorted-means b w s r (fine-fits b fine) below (f
 -- ---- over the call
 
 -- what it tells, where it is known whether the relay is moved
-module _ (b : Board) (s : State) (r w : ℕ) (a : Moved) (moves : Moves b s r w a) where
-  call-moved : movable b s r ≡ given tt → toldMoved a ≡ (made s r (stepOf b s r w), given (stepOf b s r w))
-  call-moved taken =
-      moves ∙ sym (moving-moved b s r w (stepOf b s r w) (made s r (stepOf b s r w)) taken refl refl)
+module _ (b : Board) (h : Kept) (r w : ℕ) (a : Moved) (moves : Moves b h r w a) where
+  -- what the relay's step comes to
+  abbrev comes : Move
+  comes = stepOf b (h .state) r w
 
-  call-refused : (k p : ℕ) → movable b s r ≡ refused k p → toldMoved a ≡ (s, refused k p)
-  call-refused k p off = moves ∙ sym (moving-refused b s r w k p off)
+  call-moved : movable b h r ≡ given tt → toldMoved a ≡ (keptAt b (made (h .state) r comes), given comes)
+  call-moved taken = moves ∙ sym (moving-given b h r w comes taken refl)
 
-  refused-call : (k p : ℕ) → toldMoveAnswer (a .answer) ≡ refused k p → movable b s r ≡ refused k p
-  refused-call k p says = by-call (movable b s r) refl
+  call-refused : (k p : ℕ) → movable b h r ≡ refused k p → toldMoved a ≡ (h, refused k p)
+  call-refused k p off = moves ∙ sym (moving-refused b h r w k p off)
+
+  refused-call : (k p : ℕ) → toldMoveAnswer (a .answer) ≡ refused k p → movable b h r ≡ refused k p
+  refused-call k p says = by-call (movable b h r) refl
     where
-      by-call : (o : Outcome (Unit {0})) → movable b s r ≡ o → movable b s r ≡ refused k p
-      by-call (given tt) taken = absurd (refused-never k p (stepOf b s r w) (sym says ∙ λ i. call-moved taken i .1))
+      by-call : (o : Outcome (Unit {0})) → movable b h r ≡ o → movable b h r ≡ refused k p
+      by-call (given tt) taken = absurd (refused-never k p comes (sym says ∙ λ i. call-moved taken i .1))
       by-call (refused m q) off =
-          let same = sym (ap (λ (x : State × Outcome Move). x .1) (call-refused m q off)) ∙ says in
+          let same = sym (ap (λ (x : Kept × Outcome Move). x .1) (call-refused m q off)) ∙ says in
           cc
 
 -- ---- the theorems
@@ -100,21 +105,24 @@ step-exactly b w s r m fine below =
     )
 
 pub move-exactly : MoveExactly
-move-exactly b s r w a m moves taken =
-    let fit = movable-given b s r taken in
-    let exactly = step-exactly b w s r m (fit .0) (fit .2) in
-    let told = call-moved b s r w a moves taken in
-    let answers : toldMoveAnswer (a .answer) ≡ given (stepOf b s r w) = λ i. told i .1 in
-    let leaves : a .state ≡ made s r (stepOf b s r w) = λ i. told i .0 in
-    let same : toldMoveAnswer (a .answer) ≡ given m → stepOf b s r w ≡ m =
-    λ says. given-injective (stepOf b s r w) m (sym answers ∙ says) in (
+move-exactly b h r w a m moves taken =
+    let fit = movable-fine b h r taken in
+    let exactly = step-exactly b w (h .state) r m (fit .0) (fit .2) in
+    let told = call-moved b h r w a moves taken in
+    let step = stepOf b (h .state) r w in
+    let answers : toldMoveAnswer (a .answer) ≡ given step = λ i. told i .1 in
+    let leaves : a .kept ≡ keptAt b (made (h .state) r step) = λ i. told i .0 in
+    let same : toldMoveAnswer (a .answer) ≡ given m → step ≡ m =
+    λ says. given-injective step m (sym answers ∙ says) in (
       (λ says. exactly .0 (same says), λ comes. answers ∙ ap given (exactly .1 comes)),
-      λ says. leaves ∙ ap (made s r) (same says),
+      λ says. leaves ∙ ap (λ (n : Move). keptAt b (made (h .state) r n)) (same says),
     )
 
 pub move-eleven-exactly : MoveElevenExactly
-move-eleven-exactly b s r w a moves = (
-  λ says. movable-eleven b s r (refused-call b s r w a moves noSuchWinding 0 says),
-  λ (fine, fits, past) i.
-      call-refused b s r w a moves noSuchWinding 0 (movable-lacking b s r (usable-fine b s fine fits) past) i .1,
+move-eleven-exactly b h r w a moves = (
+  λ says.
+      let last = movable-eleven b h r (refused-call b h r w a moves noSuchWinding 0 says) in
+      (usable-can b h (last .0), last .1),
+  λ (can, past) i.
+      call-refused b h r w a moves noSuchWinding 0 (movable-lacking b h r (can-usable b h can) past) i .1,
 )

@@ -23,6 +23,7 @@ use Rattle.board.specs.Parts.{partsOf}
 use Rattle.board.specs.Sorts.{isRegular, isSteel}
 use Rattle.state.specs.declared.State.{State}
 use Rattle.state.specs.States.{isDrawn}
+use Rattle.kept.specs.declared.Kept.{Kept}
 use Rattle.search.specs.declared.Winding.{Winding}
 use Rattle.judge.specs.declared.Which.the-variants.{First, Second}
 use Rattle.judge_means.specs.Exactness.{IsLive, effortOf}
@@ -58,19 +59,19 @@ SteelComes b s r e f rests w =
 
 abbrev pub RegularByChains : Type 0
 RegularByChains =
-    (b : Board) (s : State) (r w : ℕ) (a : Moved) (e : Winding) (m : Move)
-    → Moves b s r w a
-    → movable b s r ≡ given tt
+    (b : Board) (h : Kept) (r w : ℕ) (a : Moved) (e : Winding) (m : Move)
+    → Moves b h r w a
+    → movable b h r ≡ given tt
     → isRegular r (partsOf b)
     → ItsWinding b r First e
-    → toldMoveAnswer (a .answer) ≡ given m ↔ RegularComes b s r e m w
+    → toldMoveAnswer (a .answer) ≡ given m ↔ RegularComes b (h .state) r e m w
 
 abbrev pub SteelByChains : Type 0
 SteelByChains =
-    (b : Board) (s : State) (r w : ℕ) (a : Moved) (e f : Winding) (m : Move)
-    → Moves b s r w a
-    → movable b s r ≡ given tt
+    (b : Board) (h : Kept) (r w : ℕ) (a : Moved) (e f : Winding) (m : Move)
+    → Moves b h r w a
+    → movable b h r ≡ given tt
     → isSteel r (partsOf b)
     → ItsWinding b r First e
     → ItsWinding b r Second f
-    → toldMoveAnswer (a .answer) ≡ given m ↔ SteelComes b s r e f m w
+    → toldMoveAnswer (a .answer) ≡ given m ↔ SteelComes b (h .state) r e f m w

@@ -13,6 +13,7 @@ use Rattle.refusals.specs.Outcomes.{Outcome, given, refused}
 use Rattle.board.specs.declared.Board.{Board}
 use Rattle.state.specs.declared.State.{State}
 use Rattle.state.specs.States.{isDrawn, isPushed}
+use Rattle.kept.specs.declared.Kept.{Kept}
 use Rattle.moves.specs.declared.Moved.{Moved}
 use Rattle.moves.specs.Steps.{Move, drew, dropped, rests, undecided, conflict}
 use Rattle.moves.specs.Moving.{toldMoveAnswer, Moves}
@@ -31,6 +32,6 @@ Changes s r (refused n p) t = t ≡ s
 
 abbrev pub ChangesOneRelay : Type 0
 ChangesOneRelay =
-    (b : Board) (s : State) (r w : ℕ) (a : Moved)
-    → Moves b s r w a
-    → Changes s r (toldMoveAnswer (a .answer)) (a .state)
+    (b : Board) (h : Kept) (r w : ℕ) (a : Moved)
+    → Moves b h r w a
+    → Changes (h .state) r (toldMoveAnswer (a .answer)) (a .kept .state)

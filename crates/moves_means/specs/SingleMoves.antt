@@ -5,9 +5,9 @@
 --     StepExactly          of a relay of a board that breaks no rule, in any state: it comes to m exactly if `Comes`
 --                          holds of m
 --     MoveExactly          the call's word is m exactly if `Comes` holds of m, and the state is changed by drew and
---                          dropped alone, and only in that relay
---     MoveElevenExactly    the call refuses by 11, "no such relay", exactly if neither 15 nor 14 holds and the board
---                          has no relay r
+--                          dropped alone, and only in that relay; the sets are those of the state that is left
+--     MoveElevenExactly    the call refuses by 11, "no such relay", exactly if none of 15, 14 and 18 holds and the
+--                          board has no relay r
 use Prim.Native.Nat.{ℕ, _<_, _≤_}
 use mathlib.Core.Path.{_≡_}
 use mathlib.Core.Logic.{_↔_}
@@ -17,7 +17,8 @@ use Rattle.refusals.specs.Refusals.{noSuchWinding}
 use Rattle.board.specs.declared.Board.{Board}
 use Rattle.board.specs.Rules.{boardFine}
 use Rattle.state.specs.declared.State.{State}
-use Rattle.state.specs.States.{stateFine}
+use Rattle.kept.specs.declared.Kept.{Kept}
+use Rattle.kept.specs.Kept.{keptAt, CanUse}
 use Rattle.search.specs.declared.Winding.{Winding}
 use Rattle.judge.specs.declared.Which.{Which}
 use Rattle.judge_means.specs.Exactness.{effortOf}
@@ -49,15 +50,14 @@ StepExactly =
 
 abbrev pub MoveExactly : Type 0
 MoveExactly =
-    (b : Board) (s : State) (r w : ℕ) (a : Moved) (m : Move)
-    → Moves b s r w a
-    → movable b s r ≡ given tt
-    → (toldMoveAnswer (a .answer) ≡ given m ↔ Comes b s r m w)
-    × (toldMoveAnswer (a .answer) ≡ given m → a .state ≡ made s r m)
+    (b : Board) (h : Kept) (r w : ℕ) (a : Moved) (m : Move)
+    → Moves b h r w a
+    → movable b h r ≡ given tt
+    → (toldMoveAnswer (a .answer) ≡ given m ↔ Comes b (h .state) r m w)
+    × (toldMoveAnswer (a .answer) ≡ given m → a .kept ≡ keptAt b (made (h .state) r m))
 
 abbrev pub MoveElevenExactly : Type 0
 MoveElevenExactly =
-    (b : Board) (s : State) (r w : ℕ) (a : Moved)
-    → Moves b s r w a
-    → toldMoveAnswer (a .answer) ≡ refused noSuchWinding 0
-    ↔ (boardFine b ≡ true) × (stateFine (b .counts) s ≡ true) × (b .counts .relays ≤ r)
+    (b : Board) (h : Kept) (r w : ℕ) (a : Moved)
+    → Moves b h r w a
+    → toldMoveAnswer (a .answer) ≡ refused noSuchWinding 0 ↔ CanUse b h × (b .counts .relays ≤ r)

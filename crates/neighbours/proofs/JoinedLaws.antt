@@ -11,9 +11,10 @@ use lib.Dec.{eqb, ltb}
 use borrow.Author.Tests.{eqb-true, eqb-false, ltb-true, ltb-false, not-true}
 use Rattle.lists.specs.Members.{_∈_}
 use Rattle.lists.proofs.MemberLaws.{all-member}
-use Rattle.bits.specs.Sets.{member}
-use Rattle.bits.proofs.BoolLaws.{both-true, by-test, both-ways}
-use Rattle.bits.proofs.SetLaws.{member-none, including-kept, member-including-same, member-including-other}
+use Rattle.bits.specs.Sets.{room, member, including}
+use Rattle.bits.proofs.BoolLaws.{both-true, by-test, by-less, both-ways}
+use Rattle.bits.proofs.SetLaws.{member-none, including-kept, including-beyond, member-including-same}
+use Rattle.bits.proofs.SetLaws.{member-including-other}
 use Rattle.kinds.specs.declared.Kind.{Kind}
 use Rattle.kinds.specs.declared.Kind.the-variants.{Wire, Upper, Lower, Button, Regular, Drawing, Dropping, Mark}
 use Rattle.kinds.specs.Kinds.{kindNumber, markKind}
@@ -24,10 +25,10 @@ use Rattle.board.specs.Rules.{mostTerminals}
 use Rattle.board.specs.BreaksNoRule.{Fits, BoardFits}
 use Rattle.state.specs.declared.State.{State}
 use Rattle.neighbours.specs.Conduction.{conducts, winds, conductsBare}
-use Rattle.neighbours.specs.Neighbours.{EndsAt, Joined, JoinedBare, joined, withOther, withPart, setAt, setsAt}
-use Rattle.neighbours.specs.Neighbours.{neighbours, bareNeighbours}
+use Rattle.neighbours.specs.Neighbours.{EndsAt, Joined, JoinedBare, joined, withOther, withPart, setFrom, setAt}
+use Rattle.neighbours.specs.Neighbours.{setsAt, neighbours, bareNeighbours}
 use Rattle.neighbours.proofs.SetAtLaws.{with-other-here, with-other-else, with-part-joining, with-part-open}
-use Rattle.neighbours.proofs.SetAtLaws.{set-at-none, set-at-next, sets-at, sets-beyond, neighbours-sets}
+use Rattle.neighbours.proofs.SetAtLaws.{from-none, from-next, set-at-from, sets-at, sets-beyond, neighbours-sets}
 use Rattle.neighbours.proofs.SetAtLaws.{bare-sets}
 
 -- ---- a part's two ends, in either order
@@ -92,6 +93,26 @@ module _ (t : Bool) (p : Part) (x k : ℕ) where
       (sym (part-on y on) ∙ is))
       (λ off. old (sym (part-off y off) ∙ is))
 
+-- past the terminals nothing is joined
+part-beyond : (t : Bool) (p : Part) (x k y : ℕ) → room ≤ y → member (withPart t p x k) y ≡ member k y
+part-beyond t p x k y past =
+    by-test t
+    (λ on. part-on t p x k y on ∙ other (p .b) (p .a) (withOther (p .a) (p .b) x k) ∙ other (p .a) (p .b) k)
+    (λ off. part-off t p x k y off)
+  where
+    -- v is y only if it is past them too
+    without-v : (v j : ℕ) → member (including j v) y ≡ member j y
+    without-v v j =
+        by-less v room
+        (λ inside. member-including-other j v y (λ same. omega (arith, same, inside, past)))
+        (λ beyond. ap (λ (i : ℕ). member i y) (including-beyond j v beyond))
+
+    other : (u v j : ℕ) → member (withOther u v x j) y ≡ member j y
+    other u v j =
+        by-test (eqb x u)
+        (λ same. ap (λ (i : ℕ). member i y) (with-other-here u v x j (eqb-true x u same)) ∙ without-v v j)
+        (λ differ. ap (λ (i : ℕ). member i y) (with-other-else u v x j (eqb-false x u differ)))
+
 part-adds : (t : Bool) (p : Part) (k x y : ℕ) → t ≡ true → EndsAt p x y → y < mostTerminals
     → member (withPart t p x k) y ≡ true
 part-adds t p k x y on =
@@ -101,31 +122,58 @@ part-adds t p k x y on =
     (λ a. part-on t p (p .b) k (p .a) on ∙ other-joins (p .b) (p .a) (p .b) (withOther (p .a) (p .b) (p .b) k) refl a)
     x y
 
--- ---- by all the parts of the kinds that pass a test
+-- ---- a set, with those besides that the parts which pass a test join to its terminal
+
+module _ (g : Part → Bool) (x k y : ℕ) where
+  from-step : (p : Part) (ps : List Part)
+      → member (setFrom g x k (p ∷ ps)) y ≡ member (withPart (g p) p x (setFrom g x k ps)) y
+  from-step p ps = ap (λ (j : ℕ). member j y) (from-next g x k p ps)
+
+  pub from-kept : (ps : List Part) → member k y ≡ true → member (setFrom g x k ps) y ≡ true
+  from-kept [] is = ap (λ (j : ℕ). member j y) (from-none g x k) ∙ is
+  from-kept (p ∷ ps) is = from-step p ps ∙ part-kept (g p) p x (setFrom g x k ps) y (from-kept ps is)
+
+  pub from-adds : (ps : List Part) (p : Part) → p ∈ ps → g p ≡ true → EndsAt p x y → y < mostTerminals
+      → member (setFrom g x k ps) y ≡ true
+  from-adds [] p among-none on ends fits = absurd among-none
+  from-adds (q ∷ ps) p (inl same) on ends fits =
+      from-step q ps ∙ subst (λ (r : Part). member (withPart (g r) r x (setFrom g x k ps)) y ≡ true) same
+      (part-adds (g p) p (setFrom g x k ps) x y on ends fits)
+  from-adds (q ∷ ps) p (inr later) on ends fits =
+      from-step q ps ∙ part-kept (g q) q x (setFrom g x k ps) y (from-adds ps p later on ends fits)
+
+  -- y was there, or is by some part: what follows from either holds
+  pub from-by : {C : Type 0} (ps : List Part) → (member k y ≡ true → C)
+      → ((p : Part) → p ∈ ps → g p ≡ true → EndsAt p x y → C) → member (setFrom g x k ps) y ≡ true → C
+  from-by [] before use-part is = before (sym (ap (λ (j : ℕ). member j y) (from-none g x k)) ∙ is)
+  from-by (p ∷ ps) before use-part is =
+      part-new (g p) p x (setFrom g x k ps) y (λ on ends. use-part p (inl refl) on ends)
+      (from-by ps before (λ q later on ends. use-part q (inr later) on ends)) (sym (from-step p ps) ∙ is)
+
+  -- past the terminals nothing is joined
+  pub from-beyond : (ps : List Part) → room ≤ y → member (setFrom g x k ps) y ≡ member k y
+  from-beyond [] past = ap (λ (j : ℕ). member j y) (from-none g x k)
+  from-beyond (p ∷ ps) past =
+      from-step p ps ∙ part-beyond (g p) p x (setFrom g x k ps) y past ∙ from-beyond ps past
+
+-- ---- by all the parts of the kinds that pass a test, from none
 
 module _ (f : Kind → Bool) (x y : ℕ) where
-  set-at-step : (p : Part) (ps : List Part)
-      → member (setAt f x (p ∷ ps)) y ≡ member (withPart (f (p .kind)) p x (setAt f x ps)) y
-  set-at-step p ps = ap (λ (k : ℕ). member k y) (set-at-next f x p ps)
+  at-from : (ps : List Part) → member (setAt f x ps) y ≡ member (setFrom (λ (p : Part). f (p .kind)) x 0 ps) y
+  at-from ps = ap (λ (k : ℕ). member k y) (set-at-from f x ps)
 
-  set-at-adds : (ps : List Part) (p : Part) → p ∈ ps → f (p .kind) ≡ true → EndsAt p x y → y < mostTerminals
+  pub set-at-adds : (ps : List Part) (p : Part) → p ∈ ps → f (p .kind) ≡ true → EndsAt p x y → y < mostTerminals
       → member (setAt f x ps) y ≡ true
-  set-at-adds [] p among on ends fits = absurd among
-  set-at-adds (q ∷ ps) p (inl same) on ends fits =
-      set-at-step q ps
-      ∙ subst (λ (r : Part). member (withPart (f (r .kind)) r x (setAt f x ps)) y ≡ true) same
-      (part-adds (f (p .kind)) p (setAt f x ps) x y on ends fits)
-  set-at-adds (q ∷ ps) p (inr among) on ends fits =
-      set-at-step q ps ∙ part-kept (f (q .kind)) q x (setAt f x ps) y (set-at-adds ps p among on ends fits)
+  set-at-adds ps p among on ends fits = at-from ps ∙ from-adds _ x 0 y ps p among on ends fits
 
   -- y is in the set of x by some part: what follows from such a part holds
-  set-at-by : {C : Type 0} (ps : List Part)
+  pub set-at-by : {C : Type 0} (ps : List Part)
       → ((p : Part) → p ∈ ps → f (p .kind) ≡ true → EndsAt p x y → C) → member (setAt f x ps) y ≡ true → C
-  set-at-by [] use-part is =
-      absurd (false≢true (sym (ap (λ (k : ℕ). member k y) (set-at-none f x) ∙ member-none y) ∙ is))
-  set-at-by (p ∷ ps) use-part is =
-      part-new (f (p .kind)) p x (setAt f x ps) y (λ on ends. use-part p (inl refl) on ends)
-      (set-at-by ps (λ q among on ends. use-part q (inr among) on ends)) (sym (set-at-step p ps) ∙ is)
+  set-at-by ps use-part is =
+      from-by _ x 0 y ps (λ was. absurd (false≢true (sym (member-none y) ∙ was))) use-part (sym (at-from ps) ∙ is)
+
+  pub set-at-beyond : (ps : List Part) → room ≤ y → member (setAt f x ps) y ≡ false
+  set-at-beyond ps past = at-from ps ∙ from-beyond _ x 0 y ps past ∙ member-none y
 
 -- ---- the sets of a board
 

@@ -1,9 +1,8 @@
 // Which parts conduct and are no windings: those by which a winding is shunted (request A4).
 ghost use mathlib.Core.Path.{_≡_};
-ghost use Rattle.neighbours.specs.Conduction.{winds, conductsBare};
-use crate::conducts;
+ghost use mathlib.Core.Bool.{not, _&&_};
+ghost use Rattle.neighbours.specs.Conduction.{winds};
 use kinds::Kind;
-use state::State;
 
 // Whether a part of this kind is a winding.
 fn winds(kind: Kind) -> bool
@@ -21,13 +20,9 @@ fn winds(kind: Kind) -> bool
     }
 }
 
-// Whether a part of this kind conducts in this state and is no winding.
-pub fn conducts_bare(kind: Kind, state: State) -> bool
-    ensures { λ r. ⌜ r ≡ conductsBare state kind ⌝ }
+// Whether a part of this kind is no winding and conducts; whether it conducts is handed in.
+pub fn is_bare(kind: Kind, conducting: bool) -> bool
+    ensures { λ r. ⌜ r ≡ not (winds kind) && conducting ⌝ }
 {
-    if winds(kind) {
-        false
-    } else {
-        conducts(kind, state)
-    }
+    if winds(kind) { false } else { conducting }
 }

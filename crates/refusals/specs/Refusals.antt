@@ -68,3 +68,7 @@ bufferTooShort = 16
 -- 17: relay marked twice (request A2); place: relay number
 abbrev pub markedTwice : ℕ
 markedTwice = 17
+
+-- 18: kept sets that don't belong to this board and state (request A5)
+abbrev pub foreignSets : ℕ
+foreignSets = 18

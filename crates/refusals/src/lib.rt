@@ -37,6 +37,8 @@ pub const BUFFER_TOO_SHORT: u32 = 16;
 
 pub const MARKED_TWICE: u32 = 17;
 
+pub const FOREIGN_SETS: u32 = 18;
+
 // A refusal: its number and the place it speaks of.
 pub struct Refusal {
     pub number: u32,

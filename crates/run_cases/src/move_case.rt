@@ -1,6 +1,10 @@
 // Single moves. What is asked is the relay and the allowance.
 use crate::handed_case;
+use crate::handed_sets;
 use crate::print;
+use crate::print_sets;
+use board::Board;
+use kept::Kept;
 use moves::Move;
 use moves::MoveAnswer;
 use moves::Moved;
@@ -16,23 +20,27 @@ fn print_move(motion: Move) {
     }
 }
 
-// Prints what a move came to and the state that it left.
-fn print_moved(moved: Moved) {
+// Prints what a move came to and what it left.
+fn print_moved(board: Board, given: Kept, moved: Moved) {
     let answer = moved.answer;
     match answer {
         MoveAnswer::Says(motion) => print_move(motion),
         MoveAnswer::Refused(refused) => print::call_refusal(b"moved refused ", refused),
     }
-    let left = moved.state;
-    print::counted(b" ", left.drawn);
-    print::counted(b" ", left.pushed);
-    print::words(b"\n");
+    let left = moved.kept;
+    print::state(left.state);
+    print_sets::print_sets(board, given, left);
 }
 
 // Moves a relay as is asked.
-pub fn answer_move(bytes: &[u8]) {
+pub fn answer_move(sets: &[u8], bytes: &[u8]) {
     let relay = handed_case::three_bytes_at(bytes, 6);
     let allowance = handed_case::three_bytes_at(bytes, 9);
     let board = handed_case::handed_board(bytes);
-    print_moved(moves::move_relay(board, handed_case::handed_state(bytes), relay, allowance));
+    let given = handed_sets::handed_kept(board, handed_case::handed_state(bytes), sets);
+    print_moved(
+        board,
+        given,
+        moves::move_relay(board, given, relay, allowance),
+    );
 }

@@ -1,6 +1,7 @@
 // Words, numbers and refusals on standard output.
 use libc::STDOUT_FILENO;
 use refusals::Refusal;
+use state::State;
 
 // Prints some words.
 pub fn words(text: &[u8]) {
@@ -19,6 +20,12 @@ pub fn call_refusal(label: &[u8], refused: Refusal) {
     if refused.place != 0 {
         counted(b" ", refused.place as u64);
     }
+}
+
+// Prints the drawn relays and the pushed buttons of a state, each as a set.
+pub fn state(left: State) {
+    counted(b" ", left.drawn);
+    counted(b" ", left.pushed);
 }
 
 // Says that the text of a case is malformed.

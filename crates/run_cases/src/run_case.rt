@@ -1,6 +1,8 @@
 // Runs. What is asked is the allowance and the length of the log that is lent.
 use crate::handed_case;
+use crate::handed_sets;
 use crate::print;
+use crate::print_sets;
 use runs::Ending;
 use runs::Ran;
 
@@ -36,14 +38,13 @@ fn print_logged(byte: u8, at: usize, moves: usize) {
     }
 }
 
-// Prints the log after so many moves, and ends the line.
+// Prints the log after so many moves.
 fn print_log(log: &[u8], moves: usize) {
     let mut i = 0;
     while i < log.len() {
         print_logged(log[i], i, moves);
         i += 1;
     }
-    print::words(b"\n");
 }
 
 // Prints what a run answers.
@@ -51,28 +52,29 @@ fn print_ran(ran: Ran) {
     let word = ran.word;
     print_word(word);
     print::counted(b" ", ran.moves as u64);
-    let left = ran.state;
-    print::counted(b" ", left.drawn);
-    print::counted(b" ", left.pushed);
+    let left = ran.kept;
+    print::state(left.state);
     print::counted(b" ", ran.relay as u64);
     print::words(b":");
 }
 
-// Runs a board over a lent log, and prints what it answers and what it logged.
-fn run_over(bytes: &[u8], log: &mut [u8]) {
+// Runs a board over a lent log, and prints what it answers, what it logged and the sets that it left.
+fn run_over(sets: &[u8], bytes: &[u8], log: &mut [u8]) {
     let allowance = handed_case::three_bytes_at(bytes, 6);
     let board = handed_case::handed_board(bytes);
-    let ran = runs::run(board, handed_case::handed_state(bytes), log, allowance);
+    let given = handed_sets::handed_kept(board, handed_case::handed_state(bytes), sets);
+    let ran = runs::run(board, given, log, allowance);
     print_ran(ran);
     print_log(log, ran.moves);
+    print_sets::print_sets(board, given, ran.kept);
 }
 
 // Runs a board over a log of the length that is asked.
-pub fn answer_run(bytes: &[u8]) {
+pub fn answer_run(sets: &[u8], bytes: &[u8]) {
     let length = handed_case::three_bytes_at(bytes, 9) as usize;
     if LOG_ROOM < length {
         return print::words(b"bad case\n");
     }
     let mut buffer = [UNTOUCHED; LOG_ROOM];
-    run_over(bytes, &mut buffer[..length]);
+    run_over(sets, bytes, &mut buffer[..length]);
 }

@@ -1,8 +1,7 @@
 -- Laws of a run as a call: when nothing stands against it, what it tells by what does, and that an answer is known by
 -- what it tells.
 use Prim.Native.Nat.{ℕ, _≤_}
-use mathlib.Core.Path.{_≡_, refl, sym, _∙_}
-use mathlib.Core.Bool.{true}
+use mathlib.Core.Path.{_≡_, refl, sym, subst, _∙_}
 use mathlib.Core.List.{List, []}
 use lib.ListN.{length}
 use lib.Dec.{leb}
@@ -13,49 +12,61 @@ use Rattle.refusals.specs.Order.{firstNo, answering}
 use Rattle.refusals.proofs.OrderLaws.{asks-then, all-hold}
 use Rattle.refusals.proofs.Told.{Told, ToldLent}
 use Rattle.board.specs.declared.Board.{Board}
-use Rattle.board.specs.Rules.{boardFine}
-use Rattle.state.specs.declared.State.{State}
-use Rattle.state.specs.States.{stateFine, usableLines, usable}
-use Rattle.state.proofs.StateLaws.{usable-given, usable-lines}
+use Rattle.kept.specs.declared.Kept.{Kept}
+use Rattle.kept.specs.Kept.{keptAt, usableLines, usable}
+use Rattle.kept.proofs.KeptLaws.{usable-lines}
 use Rattle.runs.specs.declared.Ending as code-ending
 use Rattle.runs.specs.declared.Ending.the-variants.{Idle, Spent, Undecided, Conflict, Refused}
 use Rattle.runs.specs.declared.Ran.{Ran}
 use Rattle.runs.specs.Looks.{Ending, idle, spent, undecided, conflict}
 use Rattle.runs.specs.Running as told
-use Rattle.runs.specs.Running.{longestLog, runnable, unrun, ranOver, running, toldEnding, toldRan}
+use Rattle.runs.specs.Running.{longestLog, runnable, ran, unrun, ranOver, running, toldEnding, toldRan}
 
-module _ (b : Board) (s : State) (log : List ℕ) where
-  pub runnable-log : usable b s ≡ given tt → length log ≤ longestLog → runnable b s log ≡ given tt
+-- what a run leaves has the sets of its state
+abbrev pub LeavesOwn : Board → told.Ran → Type 0
+LeavesOwn b x = x .kept ≡ keptAt b (x .kept .state)
+
+module _ (b : Board) (h : Kept) (log : List ℕ) where
+  pub runnable-log : usable b h ≡ given tt → length log ≤ longestLog → runnable b h log ≡ given tt
   unfolding runnable firstNo
-  runnable-log fine most = rw (usable-lines b s _, fine, le-leb (length log) longestLog most) refl
+  runnable-log fine most = rw (usable-lines b h _, fine, le-leb (length log) longestLog most) refl
 
-  -- where a board is run, it breaks no rule and the state fits it
-  pub runnable-given : runnable b s log ≡ given tt → (boardFine b ≡ true) × (stateFine (b .counts) s ≡ true)
+  -- where a board is run, a call can use it, the state and the sets
+  pub runnable-given : runnable b h log ≡ given tt → usable b h ≡ given tt
   unfolding runnable usable
-  runnable-given taken = usable-given b s (all-hold (usableLines b s) _ taken .0)
+  runnable-given taken = all-hold (usableLines b h) _ taken .0
 
   -- what the call tells goes by what stands against it
-  pub running-by : (w : ℕ) (o : Outcome (Unit {0})) → runnable b s log ≡ o
-      → answering o (λ n p. unrun n p s log) (λ u. ranOver b s log w) ≡ running b s log w
+  pub running-by : (w : ℕ) (o : Outcome (Unit {0})) → runnable b h log ≡ o
+      → answering o (λ n p. unrun n p h log) (λ u. ranOver b h log w) ≡ running b h log w
   unfolding running
   running-by w o e = rw e refl
 
+  -- sets that belong to the state given belong to the state left
+  pub running-kept : (w : ℕ) → h ≡ keptAt b (h .state) → LeavesOwn b (running b h log w)
+  unfolding ran
+  running-kept w own = by (runnable b h log) refl
+    where
+      by : (o : Outcome (Unit {0})) → runnable b h log ≡ o → LeavesOwn b (running b h log w)
+      by (given u) taken = subst (LeavesOwn b) (running-by w (given u) taken) refl
+      by (refused n p) off = subst (LeavesOwn b) (running-by w (refused n p) off) own
+
   -- ---- for the proof of `run`
 
-  -- its line after 15 and 14
-  pub runnable-asked : {o q : Outcome (Unit {0})} → o ≡ usable b s
-      → q ≡ (o >> unless (leb (length log) longestLog) logTooLong 0) → runnable b s log ≡ q
+  -- its line after 15, 14 and 18
+  pub runnable-asked : {o q : Outcome (Unit {0})} → o ≡ usable b h
+      → q ≡ (o >> unless (leb (length log) longestLog) logTooLong 0) → runnable b h log ≡ q
   unfolding runnable usable
-  runnable-asked first second = sym (asks-then (usableLines b s) logTooLong first refl second)
+  runnable-asked first second = sym (asks-then (usableLines b h) logTooLong first refl second)
 
   -- a refused run tells the same over every log
-  pub running-refused : (w : ℕ) (r : Ran) (n p : ℕ) → toldRan r [] ≡ unrun n p s [] → runnable b s log ≡ refused n p
-      → toldRan r log ≡ running b s log w
+  pub running-refused : (w : ℕ) (r : Ran) (n p : ℕ) → toldRan r [] ≡ unrun n p h [] → runnable b h log ≡ refused n p
+      → toldRan r log ≡ running b h log w
   running-refused w r n p e refuses =
-      (λ i. record { word = e i .word; moves = e i .moves; state = e i .state; relay = e i .relay; log = log })
+      (λ i. record { word = e i .word; moves = e i .moves; kept = e i .kept; relay = e i .relay; log = log })
       ∙ running-by w (refused n p) refuses
 
-  pub running-ran : (w : ℕ) (x : told.Ran) → x ≡ ranOver b s log w → runnable b s log ≡ given tt → x ≡ running b s log w
+  pub running-ran : (w : ℕ) (x : told.Ran) → x ≡ ranOver b h log w → runnable b h log ≡ given tt → x ≡ running b h log w
   running-ran w x is taken = is ∙ running-by w (given tt) taken
 
 -- ---- answers and what they tell
@@ -93,7 +104,7 @@ ran-told = record { untold = untold; back = back; onto = onto }
       record {
         word = ending-told .untold (a .word);
         moves = a .moves;
-        state = a .state;
+        kept = a .kept;
         relay = a .relay;
       },
       a .log,
@@ -104,7 +115,7 @@ ran-told = record { untold = untold; back = back; onto = onto }
       record {
         word = ending-told .back (a .word) i;
         moves = a .moves;
-        state = a .state;
+        kept = a .kept;
         relay = a .relay;
       },
       l,
@@ -115,7 +126,7 @@ ran-told = record { untold = untold; back = back; onto = onto }
         λ i. record {
           word = ending-told .onto (y .word) i;
           moves = y .moves;
-          state = y .state;
+          kept = y .kept;
           relay = y .relay;
           log = y .log;
         }

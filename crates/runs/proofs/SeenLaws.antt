@@ -6,30 +6,30 @@ use denote.Enum.Declared.{tagOf}
 use mathlib.Core.Path.{_≡_, refl}
 use mathlib.Core.Logic.{_⊎_, inl, inr}
 use Rattle.board.specs.declared.Board.{Board}
-use Rattle.state.specs.declared.State.{State}
 use Rattle.state.specs.States.{isDrawn}
-use Rattle.neighbours.specs.declared.Sets.{Sets}
-use Rattle.neighbours.specs.Neighbours.{setsOf}
+use Rattle.kept.specs.declared.Kept.{Kept}
+use Rattle.kept.specs.Kept.{keptAt}
+use Rattle.kept.proofs.KeptLaws.{kept-sets}
 use Rattle.moves.proofs.Move.{the-type}
 use Rattle.moves.specs.declared.Move as code-move
 use Rattle.moves.specs.declared.Move.the-variants.{Drew, Dropped, Rests, Undecided, Conflict}
+use Rattle.moves.specs.Steps as step
 use Rattle.moves.specs.Steps.{stepBy, stepper, toldMove}
 use Rattle.moves.proofs.StepLaws.{step-by}
-use Rattle.runs.specs.Looks.{Stepper}
 use Rattle.runs.proofs.CourseLaws.{Moving}
 
 first-two : (n : ℕ) → (n ≡ 0) ⊎ (n ≡ 1) → n < 2
 first-two n (inl e) = omega arith
 first-two n (inr e) = omega arith
 
--- what the sets of neighbours let see of a relay
-abbrev pub seeing : Board → Sets → ℕ → Stepper
-seeing b k w s q = stepBy k b (isDrawn s q) q w
+-- what the kept sets let see of a relay
+abbrev pub seeing : Board → ℕ → Kept → ℕ → step.Move
+seeing b w h q = stepBy (h .sets) b (isDrawn (h .state) q) q w
 
--- it is the relay's step, where they were gathered in the same state
-pub step-seen : (b : Board) (k : Sets) (w : ℕ) (s : State) → k ≡ setsOf b s → (q : ℕ)
-    → seeing b k w s q ≡ stepper b w s q
-step-seen b k w s gathered q = step-by b s q w k _ gathered refl
+-- it is the relay's step, where they belong to the state
+pub step-seen : (b : Board) (w : ℕ) (h : Kept) → h ≡ keptAt b (h .state) → (q : ℕ)
+    → seeing b w h q ≡ stepper b w (h .state) q
+step-seen b w h own q = step-by b (h .state) q w (h .sets) _ (kept-sets b h own) refl
 
 -- the arm of `match` for the relays that move
 pub told-moving : (m : code-move.Move) → (tagOf the-type m ≡ 0) ⊎ (tagOf the-type m ≡ 1) → Moving (toldMove m)

@@ -2,6 +2,7 @@
 ghost use mathlib.Core.Path.{_≡_};
 ghost use Prim.Native.Nat.{_<_, _≤_};
 ghost use Rattle.board.specs.Rules.{mostRelays};
+ghost use Rattle.kept.specs.Kept.{keptAt};
 ghost use Rattle.moves.specs.Steps.{toldMove};
 ghost use Rattle.runs.specs.Looks.{drawMark, byteOf};
 ghost use Rattle.runs.specs.Running.{ranOver, toldRan};
@@ -9,8 +10,8 @@ use crate::Ending;
 use crate::NO_RELAY;
 use crate::Ran;
 use board::Board;
+use kept::Kept;
 use moves::Move;
-use state::State;
 
 // What the log byte of a draw has besides the relay number.
 const DRAW_MARK: u8 = 128;
@@ -33,22 +34,22 @@ fn byte(relay: u8, motion: Move) -> u8
 }
 
 // Looks at the relays from 0 up; the first that does not rest decides: a move is made and logged and it looks again,
-// and anything else stops the run.
-pub fn follow(board: Board, state: State, log: &mut [u8], allowance: u32) -> Ran
+// and anything else stops the run. The sets belong to the board and the state, and are kept so.
+pub fn follow(board: Board, kept: Kept, log: &mut [u8], allowance: u32) -> Ran
     requires { ⌜ board .counts .relays ≤ mostRelays ⌝ }
-    ensures { λ r. ⌜ toldRan r (now (log .exit)) ≡ ranOver board state (now (log .entry)) allowance ⌝ }
+    requires { ⌜ kept ≡ keptAt board (kept .state) ⌝ }
+    ensures { λ r. ⌜ toldRan r (now (log .exit)) ≡ ranOver board kept (now (log .entry)) allowance ⌝ }
 {
     let relays = board.counts.relays;
-    let mut state = state;
+    let mut kept = kept;
     let mut moves = 0;
     let stop = 'run: loop {
-        let sets = neighbours::neighbours(board, state);
         let mut relay = 0;
         'scan: loop {
             if relays <= relay {
                 break 'run Stop(Ending::Idle, NO_RELAY);
             }
-            let motion = moves::step(sets, board, state, bits::wide(relay), allowance);
+            let motion = moves::step(board, kept, bits::wide(relay), allowance);
             match motion {
                 Move::Rests => relay += 1,
                 Move::Undecided => break 'run Stop(Ending::Undecided, relay),
@@ -58,7 +59,7 @@ pub fn follow(board: Board, state: State, log: &mut [u8], allowance: u32) -> Ran
                         break 'run Stop(Ending::Spent, relay);
                     }
                     log[moves] = byte(relay, motion);
-                    state = moves::after(state, bits::wide(relay), motion);
+                    kept = moves::after(board, kept, bits::wide(relay), motion);
                     moves += 1;
                     break 'scan;
                 }
@@ -69,7 +70,7 @@ pub fn follow(board: Board, state: State, log: &mut [u8], allowance: u32) -> Ran
     Ran {
         word,
         moves,
-        state,
+        kept,
         relay: stop.1,
     }
 }

@@ -4,10 +4,10 @@ ghost use mathlib.Core.Path.{_≡_};
 ghost use mathlib.Core.List.{[]};
 ghost use Rattle.runs.specs.Running.{unrun, toldRan, Runs};
 use board::Board;
+use kept::Kept;
 use refusals::Against;
 use refusals::LOG_TOO_LONG;
 use refusals::Refusal;
-use state::State;
 
 mod course;
 
@@ -26,34 +26,34 @@ pub enum Ending {
     Refused(Refusal),
 }
 
-// The answer to a run: the word, the moves made, the state, and the relay that stopped it.
+// The answer to a run: the word, the moves made, the state with the kept sets, and the relay that stopped it.
 pub struct Ran {
     pub word: Ending,
     pub moves: usize,
-    pub state: State,
+    pub kept: Kept,
     pub relay: u8,
 }
 
-// A refused run: the state as given, no moves, no relay.
-fn refuse(state: State, refusal: Refusal) -> Ran
-    ensures { λ r. ⌜ toldRan r [] ≡ unrun (refusal .number) (refusal .place) state [] ⌝ }
+// A refused run: the state and the sets as given, no moves, no relay.
+fn refuse(kept: Kept, refusal: Refusal) -> Ran
+    ensures { λ r. ⌜ toldRan r [] ≡ unrun (refusal .number) (refusal .place) kept [] ⌝ }
 {
     Ran {
         word: Ending::Refused(refusal),
         moves: 0,
-        state,
+        kept,
         relay: NO_RELAY,
     }
 }
 
 // Runs a board from this state, each winding within the allowance, and logs each move.
-pub fn run(board: Board, state: State, log: &mut [u8], allowance: u32) -> Ran
-    ensures { λ r. ⌜ Runs board state (now (log .entry)) allowance r (now (log .exit)) ⌝ }
+pub fn run(board: Board, kept: Kept, log: &mut [u8], allowance: u32) -> Ran
+    ensures { λ r. ⌜ Runs board kept (now (log .entry)) allowance r (now (log .exit)) ⌝ }
 {
-    let usable = state::usable(board, state);
+    let usable = kept::usable(board, kept);
     let against = usable.unless(log.len() <= LONGEST_LOG, LOG_TOO_LONG);
     match against {
-        Against::Nothing => course::follow(board, state, log, allowance),
-        Against::Refused(refusal) => refuse(state, refusal),
+        Against::Nothing => course::follow(board, kept, log, allowance),
+        Against::Refused(refusal) => refuse(kept, refusal),
     }
 }

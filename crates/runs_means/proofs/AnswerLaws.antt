@@ -7,6 +7,8 @@ use lib.Seq.{take-append-seam}
 use Rattle.refusals.specs.Outcomes.{given}
 use Rattle.board.specs.declared.Board.{Board}
 use Rattle.state.specs.declared.State.{State}
+use Rattle.kept.specs.declared.Kept.{Kept}
+use Rattle.kept.specs.Kept.{keptAt}
 use Rattle.runs.specs.declared.Ran.{Ran}
 use Rattle.runs.specs.Runs.{Run}
 use Rattle.runs.specs.Running.{ran, runOn, toldEnding, toldRan, Runs}
@@ -15,11 +17,12 @@ use Rattle.runs.proofs.RunningLaws.{running-by, ran-told}
 use Rattle.runs_means.specs.LongerRuns.{AcceptedRun, movesOf}
 
 -- a call that is not refused tells of the run
-pub accepted-ran : (b : Board) (s : State) (w : ℕ) (log : List ℕ) (a : Ran) (l : List ℕ) → Runs b s log w a l
-    → AcceptedRun b s log → toldRan a l ≡ ran (runOn b (length log) s w) log
-accepted-ran b s w log a l told taken = told ∙ sym (running-by b s log w (given tt) taken)
+pub accepted-ran : (b : Board) (h : Kept) (w : ℕ) (log : List ℕ) (a : Ran) (l : List ℕ) → Runs b h log w a l
+    → AcceptedRun b h log → toldRan a l ≡ ran (keptAt b) (runOn b (length log) (h .state) w) log
+accepted-ran b h w log a l told taken = told ∙ sym (running-by b h log w (given tt) taken)
 
-module _ (a : Ran) (l : List ℕ) (x : Run) (log : List ℕ) (told : toldRan a l ≡ ran x log) where
+module _ (keep : State → Kept) (a : Ran) (l : List ℕ) (x : Run) (log : List ℕ)
+    (told : toldRan a l ≡ ran keep x log) where
   pub answer-word : toldEnding (a .word) ≡ given (x .word)
   unfolding ran
   answer-word = λ i. told i .word
@@ -28,9 +31,9 @@ module _ (a : Ran) (l : List ℕ) (x : Run) (log : List ℕ) (told : toldRan a l
   unfolding ran
   answer-moves = λ i. told i .moves
 
-  pub answer-state : a .state ≡ x .state
+  pub answer-kept : a .kept ≡ keep (x .state)
   unfolding ran
-  answer-state = λ i. told i .state
+  answer-kept = λ i. told i .kept
 
   pub answer-relay : a .relay ≡ x .relay
   unfolding ran
@@ -47,13 +50,13 @@ module _ (a : Ran) (l : List ℕ) (x : Run) (log : List ℕ) (told : toldRan a l
       ∙ take-append-seam (x .bytes) (drop (length (x .bytes)) log)
 
 -- two answers that tell of one run are one answer, whatever logs were lent
-pub answer-unique : (a c : Ran) (l k : List ℕ) (x : Run) (log long : List ℕ) → toldRan a l ≡ ran x log
-    → toldRan c k ≡ ran x long → a ≡ c
-answer-unique a c l k x log long told also =
+pub answer-unique : (keep : State → Kept) (a c : Ran) (l k : List ℕ) (x : Run) (log long : List ℕ)
+    → toldRan a l ≡ ran keep x log → toldRan c k ≡ ran keep x long → a ≡ c
+answer-unique keep a c l k x log long told also =
     told-lent-injective toldRan ran-told a c [] [] (λ i. record {
-      word = (answer-word a l x log told ∙ sym (answer-word c k x long also)) i;
-      moves = (answer-moves a l x log told ∙ sym (answer-moves c k x long also)) i;
-      state = (answer-state a l x log told ∙ sym (answer-state c k x long also)) i;
-      relay = (answer-relay a l x log told ∙ sym (answer-relay c k x long also)) i;
+      word = (answer-word keep a l x log told ∙ sym (answer-word keep c k x long also)) i;
+      moves = (answer-moves keep a l x log told ∙ sym (answer-moves keep c k x long also)) i;
+      kept = (answer-kept keep a l x log told ∙ sym (answer-kept keep c k x long also)) i;
+      relay = (answer-relay keep a l x log told ∙ sym (answer-relay keep c k x long also)) i;
       log = [];
     }) .0

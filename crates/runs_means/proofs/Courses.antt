@@ -9,6 +9,9 @@ use Rattle.refusals.specs.Outcomes.{given}
 use Rattle.refusals.proofs.OutcomeLaws.{given-injective}
 use Rattle.board.specs.declared.Board.{Board}
 use Rattle.state.specs.declared.State.{State}
+use Rattle.kept.specs.declared.Kept.{Kept}
+use Rattle.kept.specs.Kept.{keptAt}
+use Rattle.kept.proofs.KeptLaws.{kept-sets, usable-given}
 use Rattle.moves.specs.Steps.{stepper}
 use Rattle.runs.specs.declared.Ran.{Ran}
 use Rattle.runs.specs.Looks.{Ending, idle}
@@ -16,43 +19,54 @@ use Rattle.runs.specs.Runs.{Run}
 use Rattle.runs.specs.Running.{ran, toldEnding, toldRan, runOn}
 use Rattle.runs.proofs.RunLaws.{run-goes, goes-room}
 use Rattle.runs.proofs.RunningLaws.{runnable-given}
-use Rattle.runs_means.proofs.AnswerLaws.{accepted-ran, answer-word, answer-moves, answer-state, answer-relay}
+use Rattle.runs_means.proofs.AnswerLaws.{accepted-ran, answer-word, answer-moves, answer-kept, answer-relay}
 use Rattle.runs_means.proofs.AnswerLaws.{answer-bytes, answer-log}
 use Rattle.runs_means.specs.Courses.{Ended, RunMeans, RunExactly}
 use Rattle.runs_means.proofs.RunMeans.{Says, run-says, ended-exclusive}
 
 -- an answer a that tells of the run x means what x says
 module _ (b : Board) (s : State) (w : ℕ) (log : List ℕ) (a : Ran) (l : List ℕ) (x : Run)
-    (told : toldRan a l ≡ ran x log) (says : Says b w (length log) s x) where
-  here : Ended b (length log) (a .moves) (a .state) (a .relay) (x .word) w
-  here = rw (answer-moves a l x log told, answer-state a l x log told, answer-relay a l x log told) (says .ended)
+    (told : toldRan a l ≡ ran (keptAt b) x log) (says : Says b w (length log) s x) where
+  leaves : a .kept ≡ keptAt b (x .state)
+  leaves = answer-kept (keptAt b) a l x log told
 
-  told-ended : (e : Ending) → toldEnding (a .word) ≡ given e → Ended b (length log) (a .moves) (a .state) (a .relay) e w
+  state-left : a .kept .state ≡ x .state
+  state-left = ap (λ (k : Kept). k .state) leaves
+
+  -- what the word e says of the answer
+  abbrev EndedSo : Ending → Type 0
+  EndedSo e = Ended b (length log) (a .moves) (a .kept .state) (a .relay) e w
+
+  here : EndedSo (x .word)
+  here =
+      rw (answer-moves (keptAt b) a l x log told, state-left, answer-relay (keptAt b) a l x log told) (says .ended)
+
+  told-ended : (e : Ending) → toldEnding (a .word) ≡ given e → EndedSo e
   told-ended e is =
-      subst (λ (y : Ending). Ended b (length log) (a .moves) (a .state) (a .relay) y w)
-      (given-injective (x .word) e (sym (answer-word a l x log told) ∙ is)) here
+      subst EndedSo (given-injective (x .word) e (sym (answer-word (keptAt b) a l x log told) ∙ is)) here
 
   says-means : length (x .bytes) ≤ length log → RunMeans b s log w a l
   says-means room =
-      let moves = answer-moves a l x log told in
-      let bytes = answer-bytes a l x log told in
+      let moves = answer-moves (keptAt b) a l x log told in
+      let bytes = answer-bytes (keptAt b) a l x log told in
       record {
-        moved = rw (bytes, answer-state a l x log told) (says .follows);
+        moved = rw (bytes, state-left) (says .follows);
         counted = ap length bytes ∙ sym moves;
         room = omega (arith, moves, room);
-        kept = rw moves (ap (drop (length (x .bytes))) (answer-log a l x log told)
+        beyond = rw moves (ap (drop (length (x .bytes))) (answer-log (keptAt b) a l x log told)
             ∙ drop-append-seam (x .bytes) (drop (length (x .bytes)) log));
         ended =
             λ e. (
               told-ended e,
-              λ end. answer-word a l x log told ∙ ap given
-                  (ended-exclusive b w (length log) (a .moves) (a .state) (a .relay) (x .word) e here end),
+              λ end. answer-word (keptAt b) a l x log told ∙ ap given
+                  (ended-exclusive b w (length log) (a .moves) (a .kept .state) (a .relay) (x .word) e here end),
             );
         stable = λ is r below. let rest = told-ended idle is .1 r below in (rest .2, rest .3);
+        sets = kept-sets b (a .kept) (leaves ∙ ap (keptAt b) (sym state-left));
       }
 
 pub run-exactly : RunExactly
-run-exactly b s w log a l told taken =
-    says-means b s w log a l (runOn b (length log) s w) (accepted-ran b s w log a l told taken)
-    (run-says b w (runnable-given b s log taken .0) (length log) s)
-    (goes-room (run-goes (stepper b w) (b .counts .relays) (length log) s))
+run-exactly b h w log a l told taken =
+    says-means b (h .state) w log a l (runOn b (length log) (h .state) w) (accepted-ran b h w log a l told taken)
+    (run-says b w (usable-given b h (runnable-given b h log taken) .0) (length log) (h .state))
+    (goes-room (run-goes (stepper b w) (b .counts .relays) (length log) (h .state)))

@@ -5,3 +5,4 @@ pub mod LongerRuns
 pub mod LookMeans
 pub mod RunMeans
 pub mod Courses
+pub mod KeptSets

@@ -7,6 +7,9 @@ use mathlib.Core.List.{List}
 use lib.ListN.{length}
 use Rattle.refusals.specs.Outcomes.{given}
 use Rattle.refusals.proofs.OutcomeLaws.{given-injective}
+use Rattle.state.specs.declared.State.{State}
+use Rattle.kept.specs.declared.Kept.{Kept}
+use Rattle.kept.specs.Kept.{keptAt}
 use Rattle.moves.specs.Steps.{stepper}
 use Rattle.moves.proofs.StepLaws.{step-larger}
 use Rattle.runs.specs.declared.Ran.{Ran}
@@ -21,25 +24,25 @@ stands-final a x told (inl e) = rw (given-injective (x .word) _ (sym told ∙ ap
 stands-final a x told (inr e) = rw (given-injective (x .word) _ (sym told ∙ ap toldEnding e)) tt
 
 -- the answers tell what holds of the runs
-answer-extends : (a c : Ran) (l k : List ℕ) (x y : Run) (log long : List ℕ) → toldRan a l ≡ ran x log
-    → toldRan c k ≡ ran y long → GoesOn x y → Extends a l c k
-answer-extends a c l k x y log long told also on =
-    let first = answer-bytes a l x log told in
-    let second = answer-bytes c k y long also in
+answer-extends : (keep : State → Kept) (a c : Ran) (l k : List ℕ) (x y : Run) (log long : List ℕ)
+    → toldRan a l ≡ ran keep x log → toldRan c k ≡ ran keep y long → GoesOn x y → Extends a l c k
+answer-extends keep a c l k x y log long told also on =
+    let first = answer-bytes keep a l x log told in
+    let second = answer-bytes keep c k y long also in
     record {
       starts = rw (first, second) (on .starts);
       stands = λ standing.
-          let same = on .stands (stands-final a x (answer-word a l x log told) standing) in (
-            answer-unique c a k l x long log (also ∙ ap (λ (z : Run). ran z long) same) told,
+          let same = on .stands (stands-final a x (answer-word keep a l x log told) standing) in (
+            answer-unique keep c a k l x long log (also ∙ ap (λ (z : Run). ran keep z long) same) told,
             second
                 ∙ ap (λ (z : Run). z .bytes) same ∙ sym first,
           );
     }
 
 pub longer-run : LongerRun
-longer-run b s w x log long a c l k told also taken accepted more room =
-    answer-extends a c l k _ _ log long
-    (accepted-ran b s w log a l told taken)
-    (accepted-ran b s x long c k also accepted)
+longer-run b h w x log long a c l k told also taken accepted more room =
+    answer-extends (keptAt b) a c l k _ _ log long
+    (accepted-ran b h w log a l told taken)
+    (accepted-ran b h x long c k also accepted)
     (run-goes-on (stepper b w) (stepper b x) (λ t r. step-larger b w x t r more) (b .counts .relays) (length log)
-    (length long) s room)
+    (length long) (h .state) room)

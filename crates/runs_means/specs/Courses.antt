@@ -16,7 +16,8 @@
 --     RunMeans, RunExactly    of a run that is not refused: the moves it made, as many as it says and as the log has
 --                             room for, follow one another from the state given to the state it answers with, and the
 --                             log beyond them is as it was; its word is e exactly if `Ended` holds of e; and a run that
---                             ends idle leaves the board stable, as document 000 has it
+--                             ends idle leaves the board stable, as document 000 has it; and it hands back the sets of
+--                             the state that it answers with (request A5)
 use Prim.Native.Nat.{ℕ, _+_, _<_, _≤_}
 use mathlib.Core.Path.{_≡_}
 use mathlib.Core.Logic.{_⊎_, _↔_}
@@ -26,6 +27,8 @@ use Rattle.refusals.specs.Outcomes.{given}
 use Rattle.board.specs.declared.Board.{Board}
 use Rattle.state.specs.declared.State.{State}
 use Rattle.state.specs.States.{withDrawn, withDropped}
+use Rattle.neighbours.specs.Neighbours.{setsOf}
+use Rattle.kept.specs.declared.Kept.{Kept}
 use Rattle.moves.specs.Steps as step
 use Rattle.moves_means.specs.Guards.{CanDraw, CanDrop, Stable}
 use Rattle.moves_means.specs.SingleMoves.{Comes}
@@ -66,16 +69,18 @@ Ended b n m s r undecided w = StoppedBy b s r step.undecided w
 Ended b n m s r conflict w = StoppedBy b s r step.conflict w
 
 pub record RunMeans (b : Board) (s : State) (log : List ℕ) (w : ℕ) (a : Ran) (l : List ℕ) : Type 0 where
-  pub moved : Follows b s (movesOf a l) (a .state) w
+  pub moved : Follows b s (movesOf a l) (a .kept .state) w
   pub counted : length (movesOf a l) ≡ a .moves
   pub room : a .moves ≤ length log
-  pub kept : drop (a .moves) l ≡ drop (a .moves) log
-  pub ended : (e : Ending) → toldEnding (a .word) ≡ given e ↔ Ended b (length log) (a .moves) (a .state) (a .relay) e w
-  pub stable : toldEnding (a .word) ≡ given idle → Stable b (a .state)
+  pub beyond : drop (a .moves) l ≡ drop (a .moves) log
+  pub ended : (e : Ending)
+      → toldEnding (a .word) ≡ given e ↔ Ended b (length log) (a .moves) (a .kept .state) (a .relay) e w
+  pub stable : toldEnding (a .word) ≡ given idle → Stable b (a .kept .state)
+  pub sets : a .kept .sets ≡ setsOf b (a .kept .state)
 
 abbrev pub RunExactly : Type 0
 RunExactly =
-    (b : Board) (s : State) (w : ℕ) (log : List ℕ) (a : Ran) (l : List ℕ)
-    → Runs b s log w a l
-    → AcceptedRun b s log
-    → RunMeans b s log w a l
+    (b : Board) (h : Kept) (w : ℕ) (log : List ℕ) (a : Ran) (l : List ℕ)
+    → Runs b h log w a l
+    → AcceptedRun b h log
+    → RunMeans b (h .state) log w a l

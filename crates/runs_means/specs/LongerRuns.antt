@@ -2,13 +2,14 @@
 -- from one board and state, the one with no shorter log and no less allowance per winding starts with every move of the
 -- other, and where the other ended idle or in conflict it ends with that word in that same state." It does so after the
 -- same moves.
---     AcceptedRun b s log    the call is not refused
+--     AcceptedRun b h log    the call is not refused
 --     movesOf a l            the moves made: the log's bytes up to their number
 --     IsStart xs ys          ys starts with xs
 --     Stands a               a ended idle or in conflict
 --     Extends a l c k        the run that answered c and left k starts with every move of the one that answered a and
 --                            left l, and is the same run where that one stands
---     LongerRun              the theorem: no shorter log and no less allowance for each winding
+--     LongerRun              the theorem: no shorter log and no less allowance for each winding. Of one state only
+--                            its own sets are not refused, so "from one board and state" is from one h
 use Prim.Native.Nat.{ℕ, _≤_}
 use mathlib.Core.Path.{_≡_}
 use mathlib.Core.Logic.{_⊎_}
@@ -16,13 +17,13 @@ use mathlib.Core.List.{List, _++_}
 use lib.ListN.{length, take}
 use Rattle.refusals.specs.Outcomes.{given}
 use Rattle.board.specs.declared.Board.{Board}
-use Rattle.state.specs.declared.State.{State}
+use Rattle.kept.specs.declared.Kept.{Kept}
 use Rattle.runs.specs.declared.Ran.{Ran}
 use Rattle.runs.specs.declared.Ending.the-variants.{Idle, Conflict}
 use Rattle.runs.specs.Running.{runnable, Runs}
 
-abbrev pub AcceptedRun : Board → State → List ℕ → Type 0
-AcceptedRun b s log = runnable b s log ≡ given tt
+abbrev pub AcceptedRun : Board → Kept → List ℕ → Type 0
+AcceptedRun b h log = runnable b h log ≡ given tt
 
 abbrev pub movesOf : Ran → List ℕ → List ℕ
 movesOf a l = take (a .moves) l
@@ -40,11 +41,11 @@ pub record Extends (a : Ran) (l : List ℕ) (c : Ran) (k : List ℕ) : Type 0 wh
 
 abbrev pub LongerRun : Type 0
 LongerRun =
-    (b : Board) (s : State) (w x : ℕ) (log long : List ℕ) (a c : Ran) (l k : List ℕ)
-    → Runs b s log w a l
-    → Runs b s long x c k
-    → AcceptedRun b s log
-    → AcceptedRun b s long
+    (b : Board) (h : Kept) (w x : ℕ) (log long : List ℕ) (a c : Ran) (l k : List ℕ)
+    → Runs b h log w a l
+    → Runs b h long x c k
+    → AcceptedRun b h log
+    → AcceptedRun b h long
     → w ≤ x
     → length log ≤ length long
     → Extends a l c k

@@ -7,7 +7,7 @@ use mathlib.Core.Bool.{Bool, cond}
 use mathlib.Core.List.{List, [], _++_}
 use Rattle.bits.specs.Sets.{member, firstFrom, lowestFrom}
 use Rattle.bits.proofs.BoolLaws.{by-test}
-use Rattle.bits.proofs.LowestLaws.{first-fewer}
+use Rattle.bits.proofs.LowestLaws.{first-below}
 use Rattle.board.specs.Rules.{mostTerminals}
 use Rattle.chains.specs.ChainList.{tries}
 
@@ -19,18 +19,14 @@ module _ (s t n x m y : ℕ) (start : n ≤ t) (most : t ≤ mostTerminals) (fro
   unfolding lowestFrom
   lowest = found ∙ ap (λ (k : ℕ). firstFrom (member s) (64 - k) k) from
 
+  below-terminals : (m < t → m ≡ firstFrom (member s) (t - n) n) × (t ≤ m → t ≡ firstFrom (member s) (t - n) n)
+  below-terminals = first-below (member s) t (64 - n) n m start (omega (arith, most)) lowest
+
   pub next-none : y ≤ m → t ≡ firstFrom (member s) (t - n) n
-  next-none past =
-      let same : t ≡ n + (t - n) = omega (arith, start) in
-      same
-      ∙ sym (first-fewer (member s) (t - n) (64 - n) n (omega (arith, most)) .1
-      (omega (arith, past, up, start, lowest)))
+  next-none past = below-terminals .1 (omega (arith, past, up))
 
   pub next-some : m < y → m ≡ firstFrom (member s) (t - n) n
-  next-some below =
-      lowest
-      ∙ sym (first-fewer (member s) (t - n) (64 - n) n (omega (arith, most)) .0
-      (omega (arith, below, up, start, lowest)))
+  next-some below = below-terminals .0 (omega (arith, below, up))
 
 -- ---- the numbers passed over add no chain
 

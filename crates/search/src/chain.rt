@@ -57,13 +57,17 @@ impl Chain {
         requires { ⌜ self .length < mostTerminals ⌝ }
         ensures { λ r. ⌜ r ≡ gone winding self n ⌝ }
     {
-        let mut next = self;
-        next.length = self.length + 1;
-        next.end = n;
-        next.met = bits::with(self.met, bits::wide(n));
+        let length = self.length + 1;
+        let met = bits::with(self.met, bits::wide(n));
+        let mut beside = self.beside;
         if crosses(winding, self.end, n) {
-            next.beside = true;
+            beside = true;
         }
-        next
+        Chain {
+            length,
+            end: n,
+            met,
+            beside,
+        }
     }
 }

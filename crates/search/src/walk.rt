@@ -127,7 +127,14 @@ fn try_next(
     let found = walked.found;
     if let Scan::ShowingNone = found {
         let left = walked.left;
-        try_next(near, terminals, winding, chain, next + 1, left, places)
+        // The chain as it was, field by field: handed on whole, it would be copied through memory at each call.
+        let again = Chain {
+            length,
+            end: chain.end,
+            met: chain.met,
+            beside: chain.beside,
+        };
+        try_next(near, terminals, winding, again, next + 1, left, places)
     } else {
         walked
     }

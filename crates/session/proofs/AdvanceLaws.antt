@@ -75,7 +75,7 @@ following-most e = most (leb e longestInput)
 pub goes-on-told : (x : code.Shown) (e at n : ℕ) → n ≡ following e
     → toldNext
     (record {
-      ahead = record { state = x .state; event = n; place = at; stage = stage.Events };
+      ahead = record { kept = x .kept; event = n; place = at; stage = stage.Events };
       coming = comes.Line (x .line);
     }) ≡ goesOn e (toldShown x) at
 goes-on-told x e at n is = rw is
@@ -100,7 +100,7 @@ module _ (h : Head) (a : Ahead) (s : List ℕ) where
     event-refused q is = ap (λ (y : EventRead). eventComes h a (toldEventRead y)) (sym is) ∙ event-by
 
     pub event-made : (v : Event) (next : ℕ) (y : Shown) → x ≡ event-was.Read v next
-        → y ≡ eventLine (h .board) (a .event) (a .state) v (h .allowance)
+        → y ≡ eventLine (h .board) (a .event) (a .kept) v (h .allowance)
         → goesOn (a .event) y next ≡ nextEvent currentEdition h a s
     unfolding eventComes
     event-made v next y is told =
@@ -110,7 +110,7 @@ module _ (h : Head) (a : Ahead) (s : List ℕ) where
 -- ---- the next line, by the stage
 
 module _ (h : Head) (a : code-ahead.Ahead) (s : List ℕ) where
-  pub next-first : (y : Shown) → a .stage ≡ stage.First → y ≡ ranLine (h .board) (a .event) (a .state) (h .allowance)
+  pub next-first : (y : Shown) → a .stage ≡ stage.First → y ≡ ranLine (h .board) (a .event) (a .kept) (h .allowance)
       → goesOn (a .event) y (a .place) ≡ nextOf currentEdition h (toldAhead a) s
   unfolding nextOf nextAt
   next-first y is told = rw (told, is)

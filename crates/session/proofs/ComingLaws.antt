@@ -26,11 +26,11 @@ use Rattle.session.specs.Carried.{closes, eventComes, nextEvent, nextAt,
 pub data Comes (ed : Edition) (h : Head) (a : Ahead) (s : List ℕ) : Type 0 where
   runs-first : a .stage ≡ first
       → nextOf ed h a s
-      ≡ goesOn (a .event) (ranLine (h .board) (a .event) (a .state) (h .allowance)) (a .place) → Comes ed h a s
+      ≡ goesOn (a .event) (ranLine (h .board) (a .event) (a .kept) (h .allowance)) (a .place) → Comes ed h a s
   makes-event : (v : Found Event) → a .stage ≡ events → a .place < length s
       → eventAt ed (h .board .counts .buttons) s (a .place) ≡ given v
       → nextOf ed h a s
-      ≡ goesOn (a .event) (eventLine (h .board) (a .event) (a .state) (v .value) (h .allowance)) (v .next)
+      ≡ goesOn (a .event) (eventLine (h .board) (a .event) (a .kept) (v .value) (h .allowance)) (v .next)
       → Comes ed h a s
   bad-event : (n p : ℕ) → a .stage ≡ events → a .place < length s
       → eventAt ed (h .board .counts .buttons) s (a .place) ≡ refused n p → nextOf ed h a s ≡ closes a n p

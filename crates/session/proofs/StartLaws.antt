@@ -9,8 +9,8 @@ use Rattle.refusals.specs.Outcomes.{Outcome, refused, _>>=_}
 use Rattle.number.specs.Numbers.{currentWidth, numberAt, toldNumber, ReadsNumber}
 use Rattle.board.specs.declared.Board.{Board}
 use Rattle.board.specs.Parts.{emptyBoard}
-use Rattle.state.specs.declared.State.{State}
-use Rattle.state.specs.States.{freshState}
+use Rattle.kept.specs.declared.Kept.{Kept}
+use Rattle.kept.specs.Kept.{keptFresh}
 use Rattle.board_reader.specs.declared.BoardRead.{BoardRead}
 use Rattle.board_reader.specs.declared.ReadAnswer.the-variants as board-was
 use Rattle.board_reader.specs.Editions.{currentEdition}
@@ -19,23 +19,23 @@ use Rattle.session.specs.declared.Stage.the-variants as stage
 use Rattle.session.specs.Sessions.{withAllowance, headAt}
 use Rattle.session.specs.Carried.{begunFrom, beginning, toldSession}
 
-pub begun-refused : (b : Board) (t : State) (q : Refusal) → b ≡ emptyBoard → t ≡ freshState b
+pub begun-refused : (b : Board) (t : Kept) (q : Refusal) → b ≡ emptyBoard → t ≡ keptFresh b
     → toldSession
     (record {
       board = b;
       allowance = 0;
-      ahead = record { state = t; event = 0; place = 0; stage = stage.Refused q };
+      ahead = record { kept = t; event = 0; place = 0; stage = stage.Refused q };
     }) ≡ begunFrom (refused (q .number) (q .place))
 unfolding begunFrom
 begun-refused b t q empty fresh = rw (fresh, empty)
 
 module _ (b : Board) (x : number.Number) where
-  pub begun-read : (t : State) (w at : ℕ) → x ≡ number-was.Read w at → t ≡ freshState b
+  pub begun-read : (t : Kept) (w at : ℕ) → x ≡ number-was.Read w at → t ≡ keptFresh b
       → toldSession
       (record {
         board = b;
         allowance = w;
-        ahead = record { state = t; event = 0; place = at; stage = stage.First };
+        ahead = record { kept = t; event = 0; place = at; stage = stage.First };
       }) ≡ begunFrom (withAllowance b (toldNumber x))
   unfolding begunFrom withAllowance
   begun-read t w at is fresh = rw (is, fresh)

@@ -42,12 +42,12 @@ ahead-told = record { untold = untold; back = back; onto = onto }
   where
     untold : carried.Ahead → Ahead
     untold a =
-        record { state = a .state; event = a .event; place = a .place; stage = stage-told .untold (a .stage) }
+        record { kept = a .kept; event = a .event; place = a .place; stage = stage-told .untold (a .stage) }
 
     back : (x : Ahead) → untold (toldAhead x) ≡ x
     back x =
         λ i. record {
-          state = x .state;
+          kept = x .kept;
           event = x .event;
           place = x .place;
           stage = stage-told .back (x .stage) i;
@@ -56,7 +56,7 @@ ahead-told = record { untold = untold; back = back; onto = onto }
     onto : (y : carried.Ahead) → toldAhead (untold y) ≡ y
     onto y =
         λ i. record {
-          state = y .state;
+          kept = y .kept;
           event = y .event;
           place = y .place;
           stage = stage-told .onto (y .stage) i;

@@ -1,13 +1,13 @@
 -- What a session carries from line to line, and its next line.
 --     Stage                       what the next line is: first, that of the first run; events, that of an event;
 --                                 refusing n p, that of the refusal n at p; over, none
---     Ahead                       what changes from line to line: the state, the number and place of the next event,
---                                 and the stage
+--     Ahead                       what changes from line to line: the state with the kept sets, the number and place
+--                                 of the next event, and the stage
 --     Session                     the board and allowance, and what is ahead
 --     headOf z                    the head of the session z
 --     onward z a                  the session z with a ahead
---     freshAhead b at k           what is ahead at the stage k before the first run: the fresh state of board b, and
---                                 the first event at a place
+--     freshAhead b at k           what is ahead at the stage k before the first run: the fresh state of board b with
+--                                 its sets, and the first event at a place
 --     begunFrom o, beginning s    the session that begins with the head o; with the head of the input s by the current
 --                                 edition
 --     Coming                      the next line, or none
@@ -37,8 +37,8 @@ use lib.ListN.{length}
 use Rattle.refusals.specs.Outcomes.{Outcome, given, refused, Found}
 use Rattle.board.specs.declared.Board.{Board}
 use Rattle.board.specs.Parts.{emptyBoard}
-use Rattle.state.specs.declared.State.{State}
-use Rattle.state.specs.States.{freshState}
+use Rattle.kept.specs.declared.Kept.{Kept}
+use Rattle.kept.specs.Kept.{keptFresh}
 use Rattle.board_reader.specs.Editions.{Edition, currentEdition}
 use Rattle.board_reader.specs.Reading.{longestInput}
 use Rattle.lines.specs.Lines.{Line, closing, toldLine}
@@ -58,7 +58,7 @@ pub data Stage : Type 0 where
   refusing : ℕ → ℕ → Stage
 
 pub record Ahead : Type 0 where
-  pub state : State
+  pub kept : Kept
   pub event : ℕ
   pub place : ℕ
   pub stage : Stage
@@ -75,7 +75,7 @@ abbrev pub onward : Session → Ahead → Session
 onward z a = record { board = z .board; allowance = z .allowance; ahead = a }
 
 abbrev pub freshAhead : Board → ℕ → Stage → Ahead
-freshAhead b at k = record { state = freshState b; event = 0; place = at; stage = k }
+freshAhead b at k = record { kept = keptFresh b; event = 0; place = at; stage = k }
 
 unfoldable pub begunFrom : Outcome (Found Head) → Session
 begunFrom (given h) =
@@ -95,17 +95,17 @@ unfoldable pub following : ℕ → ℕ
 following e = cond (leb e longestInput) (suc e) e
 
 abbrev pub goesOn : ℕ → Shown → ℕ → Ahead × Coming
-goesOn e x at = (record { state = x .1; event = following e; place = at; stage = events }, line (x .0))
+goesOn e x at = (record { kept = x .1; event = following e; place = at; stage = events }, line (x .0))
 
 abbrev pub closes : Ahead → ℕ → ℕ → Ahead × Coming
 closes a n p = (
-  record { state = a .state; event = a .event; place = a .place; stage = over },
+  record { kept = a .kept; event = a .event; place = a .place; stage = over },
   line (closing n p),
 )
 
 unfoldable pub eventComes : Head → Ahead → Outcome (Found Event) → Ahead × Coming
 eventComes h a (given v) =
-    goesOn (a .event) (eventLine (h .board) (a .event) (a .state) (v .value) (h .allowance)) (v .next)
+    goesOn (a .event) (eventLine (h .board) (a .event) (a .kept) (v .value) (h .allowance)) (v .next)
 eventComes h a (refused n p) = closes a n p
 
 unfoldable pub nextEvent : Edition → Head → Ahead → List ℕ → Ahead × Coming
@@ -114,7 +114,7 @@ nextEvent ed h a s =
 
 unfoldable pub nextAt : Edition → Stage → Head → Ahead → List ℕ → Ahead × Coming
 nextAt ed first h a s =
-    goesOn (a .event) (ranLine (h .board) (a .event) (a .state) (h .allowance)) (a .place)
+    goesOn (a .event) (ranLine (h .board) (a .event) (a .kept) (h .allowance)) (a .place)
 nextAt ed events h a s = nextEvent ed h a s
 nextAt ed over h a s = (a, no-line)
 nextAt ed (refusing n p) h a s = closes a n p
@@ -129,7 +129,7 @@ toldStage said.Over = over
 toldStage (said.Refused r) = refusing (r .number) (r .place)
 
 abbrev pub toldAhead : code-ahead.Ahead → Ahead
-toldAhead a = record { state = a .state; event = a .event; place = a .place; stage = toldStage (a .stage) }
+toldAhead a = record { kept = a .kept; event = a .event; place = a .place; stage = toldStage (a .stage) }
 
 abbrev pub toldSession : code-session.Session → Session
 toldSession z = record { board = z .board; allowance = z .allowance; ahead = toldAhead (z .ahead) }

@@ -1,7 +1,7 @@
 -- A session's lines, on its bytes. Rule book: "A session file is a board, the allowance W, then events to the end"; "It
--- reads a session from standard input, from a fresh state", since request A2 that of its board; "Board and W are read
--- before the first run. A bad file (10 counts the whole session) or event (1, 2 or 7) prints `refused`, number, place,
--- and ends; earlier lines stand."
+-- reads a session from standard input, from a fresh state", since request A2 that of its board, since request A5 with
+-- the sets of neighbours kept beside it; "Board and W are read before the first run. A bad file (10 counts the whole
+-- session) or event (1, 2 or 7) prints `refused`, number, place, and ends; earlier lines stand."
 --     Head                           what stands before the events: the board and the allowance
 --     headWith b w                   the head of board b and allowance w
 --     withAllowance b o              the board b, with what reading the allowance came to
@@ -9,8 +9,8 @@
 --                                    the refusal
 --     eventLines o tell go           the lines from an event on: `tell` is the event's own, `go` the lines after it; a
 --                                    refused event ends the session
---     linesFrom ed k b s t e at w    the lines of the events from place `at` on, the first of them event e in state t;
---                                    of at most k events
+--     linesFrom ed k b s t e at w    the lines of the events from place `at` on, the first of them event e from the
+--                                    state and the kept sets t; of at most k events
 --     headLines ed o s               the lines of the session s with the head o
 --     sessionLines ed s              the lines of the session s: there are no more events than bytes
 --     lineTexts                      lines as texts
@@ -24,8 +24,8 @@ use lib.ListN.{length}
 use Rattle.refusals.specs.Outcomes.{Outcome, given, refused, Found, found, _>>=_}
 use Rattle.number.specs.Numbers.{numberAt}
 use Rattle.board.specs.declared.Board.{Board}
-use Rattle.state.specs.declared.State.{State}
-use Rattle.state.specs.States.{freshState}
+use Rattle.kept.specs.declared.Kept.{Kept}
+use Rattle.kept.specs.Kept.{keptFresh}
 use Rattle.board_reader.specs.Editions.{Edition}
 use Rattle.board_reader.specs.Reading.{reading}
 use Rattle.lines.specs.Lines.{Line, closing, lineText}
@@ -49,11 +49,11 @@ headAt ed s = do
   at ← reading ed s .1
   withAllowance (reading ed s .0) (numberAt (ed .width) s at)
 
-abbrev pub eventLines : Outcome (Found Event) → (Event → Shown) → (State → ℕ → List Line) → List Line
+abbrev pub eventLines : Outcome (Found Event) → (Event → Shown) → (Kept → ℕ → List Line) → List Line
 eventLines (given v) tell go = tell (v .value) .0 ∷ go (tell (v .value) .1) (v .next)
 eventLines (refused n p) tell go = closing n p ∷ []
 
-unfoldable pub linesFrom : Edition → ℕ → Board → List ℕ → State → ℕ → ℕ → ℕ → List Line
+unfoldable pub linesFrom : Edition → ℕ → Board → List ℕ → Kept → ℕ → ℕ → ℕ → List Line
 linesFrom ed zero b s t e at w = []
 linesFrom ed (suc k) b s t e at w =
     cond (leb (length s) at)
@@ -64,7 +64,7 @@ linesFrom ed (suc k) b s t e at w =
 unfoldable pub headLines : Edition → Outcome (Found Head) → List ℕ → List Line
 headLines ed (refused n p) s = closing n p ∷ []
 headLines ed (given h) s =
-    let first = ranLine (h .value .board) 0 (freshState (h .value .board)) (h .value .allowance) in
+    let first = ranLine (h .value .board) 0 (keptFresh (h .value .board)) (h .value .allowance) in
     first .0 ∷ linesFrom ed (length s) (h .value .board) s (first .1) 1 (h .next) (h .value .allowance)
 
 unfoldable pub sessionLines : Edition → List ℕ → List Line

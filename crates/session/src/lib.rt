@@ -5,8 +5,8 @@ ghost use Rattle.session.specs.HandingOut.{NextLine};
 ghost use Rattle.session.specs.Filling.{NextLines};
 use board::Board;
 use board_reader::ReadAnswer;
+use kept::Kept;
 use refusals::Refusal;
-use state::State;
 
 mod event;
 mod fill;
@@ -21,9 +21,10 @@ pub enum Stage {
     Over,
 }
 
-// What changes from line to line: the state, the number of the next event, its place in the input, and the stage.
+// What changes from line to line: the state with the kept sets, the number of the next event, its place in the input,
+// and the stage.
 pub struct Ahead {
-    pub state: State,
+    pub kept: Kept,
     pub event: usize,
     pub place: usize,
     pub stage: Stage,

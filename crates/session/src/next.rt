@@ -42,12 +42,12 @@ fn following(event: usize) -> usize
 fn go_on(event: usize, shown: Shown, place: usize) -> Next
     ensures { λ r. ⌜ toldNext r ≡ goesOn event (toldShown shown) place ⌝ }
 {
-    let state = shown.state;
+    let kept = shown.kept;
     let line = shown.line;
     let event = following(event);
     Next {
         ahead: Ahead {
-            state,
+            kept,
             event,
             place,
             stage: Stage::Events,
@@ -60,10 +60,10 @@ fn go_on(event: usize, shown: Shown, place: usize) -> Next
 fn close(ahead: Ahead, refusal: Refusal) -> Next
     ensures { λ r. ⌜ toldNext r ≡ closes (toldAhead ahead) (refusal .number) (refusal .place) ⌝ }
 {
-    let state = ahead.state;
+    let kept = ahead.kept;
     Next {
         ahead: Ahead {
-            state,
+            kept,
             event: ahead.event,
             place: ahead.place,
             stage: Stage::Over,
@@ -88,9 +88,9 @@ fn next_event(board: Board, allowance: u32, ahead: Ahead, s: &[u8]) -> Next
     let read = event::event_at(counts.buttons, s, place);
     match read {
         EventRead::Read(event, next) => {
-            let state = ahead.state;
+            let kept = ahead.kept;
             let number = ahead.event;
-            let shown = events::event_line(board, number, state, event, allowance);
+            let shown = events::event_line(board, number, kept, event, allowance);
             go_on(number, shown, next)
         }
         EventRead::Refused(refusal) => close(ahead, refusal),
@@ -105,9 +105,9 @@ pub fn advance(board: Board, allowance: u32, ahead: Ahead, s: &[u8]) -> Next
     let stage = ahead.stage;
     match stage {
         Stage::First => {
-            let state = ahead.state;
+            let kept = ahead.kept;
             let number = ahead.event;
-            let shown = events::run_line(board, number, state, allowance);
+            let shown = events::run_line(board, number, kept, allowance);
             go_on(number, shown, ahead.place)
         }
         Stage::Events => next_event(board, allowance, ahead, s),

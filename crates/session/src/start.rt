@@ -8,9 +8,9 @@ use crate::Ahead;
 use crate::Session;
 use crate::Stage;
 use board::Board;
+use kept::Kept;
 use number::Number;
 use refusals::Refusal;
-use state::State;
 
 // The session of a bad file: its one line is the refusal.
 pub fn refuse(refusal: Refusal) -> Session
@@ -21,7 +21,7 @@ pub fn refuse(refusal: Refusal) -> Session
         board,
         allowance: 0,
         ahead: Ahead {
-            state: State::fresh(board),
+            kept: Kept::fresh(board),
             event: 0,
             place: 0,
             stage: Stage::Refused(refusal),
@@ -38,7 +38,7 @@ pub fn begin_with(board: Board, allowance: Number) -> Session
             board,
             allowance,
             ahead: Ahead {
-                state: State::fresh(board),
+                kept: Kept::fresh(board),
                 event: 0,
                 place,
                 stage: Stage::First,

@@ -1,5 +1,6 @@
--- One event on a board that breaks no rule, in a state that fits it: where its line tells of a refusal, it is 12; the
--- line has the word of drawn relays of the state after it; and that state fits again.
+-- One event on a board that breaks no rule, from a state that fits it with the sets of both: where its line tells of a
+-- refusal, it is 12; the line has the word of drawn relays of the state after it; and that state fits again, with its
+-- sets.
 use Prim.Native.Nat.{ℕ, _≤_}
 use native.Mathlib.Omega.{arith}
 use mathlib.Core.Path.{_≡_, refl, subst}
@@ -11,9 +12,11 @@ use Rattle.refusals.specs.Outcomes.{Outcome, given, refused, unless}
 use Rattle.refusals.specs.Refusals.{alreadySo}
 use Rattle.board.specs.declared.Board.{Board}
 use Rattle.board.specs.Rules.{boardFine}
-use Rattle.state.specs.declared.State.{State}
-use Rattle.state.specs.States.{stateFine, isPushed, withPushed, withReleased, left}
-use Rattle.state.proofs.StateLaws.{usable-fine, state-fits-push, state-fits-release}
+use Rattle.state.specs.States.{stateFine, isPushed, withPushed, withReleased}
+use Rattle.state.proofs.StateLaws.{state-fits-push, state-fits-release}
+use Rattle.kept.specs.declared.Kept.{Kept}
+use Rattle.kept.specs.Kept.{keptAt, usable, left}
+use Rattle.kept.proofs.KeptLaws.{usable-fine, usable-given}
 use Rattle.moves.specs.Steps.{stepper}
 use Rattle.presses.specs.Presses.{pushing, releasing}
 use Rattle.presses.proofs.PressLaws.{press-twelve}
@@ -27,60 +30,70 @@ use Rattle.runs.proofs.RunFits.{run-fits}
 
 -- an event's line has the drawn relays of the state after it
 abbrev pub HasDrawn : Shown → Type 0
-HasDrawn (event e o m d, t) = d ≡ t .drawn
+HasDrawn (event e o m d, t) = d ≡ t .state .drawn
 HasDrawn (closing n p, t) = ⊥
 
--- what a line tells, and the state after it
+-- what a line tells, and that what it leaves is not refused by 15, 14 or 18
 pub record ShownFits (b : Board) (x : Shown) : Type 0 where
   pub twelve : OnlyTwelve (x .0)
   pub drawn : HasDrawn x
-  pub fits : stateFine (b .counts) (x .1) ≡ true
+  pub fits : usable b (x .1) ≡ given tt
 
--- what a push or release came to, and the state that it left
+-- what a push or release came to, and the same of what it left
 abbrev ByTwelve : Outcome (Unit {0}) → Type 0
 ByTwelve (given u) = Unit {0}
 ByTwelve (refused n p) = n ≡ alreadySo
 
-record PressFits (b : Board) (x : State × Outcome (Unit {0})) : Type 0 where
+record PressFits (b : Board) (x : Kept × Outcome (Unit {0})) : Type 0 where
   twelve : ByTwelve (x .1)
-  fits : stateFine (b .counts) (x .0) ≡ true
+  fits : usable b (x .0) ≡ given tt
 
 log-short : length sessionLog ≤ longestLog
 log-short = simp length-replicate (omega arith)
 
-module _ (b : Board) (fine : boardFine b ≡ true) where
+module _ (b : Board) where
   -- ---- a run
 
-  pub ran-fits : (w e : ℕ) (t : State) → stateFine (b .counts) t ≡ true → ShownFits b (ranLine b e t w)
+  pub ran-fits : (w e : ℕ) (t : Kept) → usable b t ≡ given tt → ShownFits b (ranLine b e t w)
   unfolding ranLine ran
   ran-fits w e t fits =
-      let goes = runnable-log b t sessionLog (usable-fine b t fine fits) log-short in
+      let goes = runnable-log b t sessionLog fits log-short in
+      let was = usable-given b t fits in
+      let after = run-fits (b .counts) (stepper b w) (length sessionLog) (t .state) (was .1) in
       subst (λ r. ShownFits b (tells e r)) (running-by b t sessionLog w (given tt) goes)
-      (record { twelve = tt; drawn = refl; fits = run-fits (b .counts) (stepper b w) (length sessionLog) t fits })
+      (record { twelve = tt; drawn = refl; fits = usable-fine b _ (was .0) after })
 
   -- ---- a push or a release
 
-  left-fits : (t u : State) (settable : Bool) → stateFine (b .counts) t ≡ true → stateFine (b .counts) u ≡ true
+  left-fits : (t u : Kept) (settable : Bool) → usable b t ≡ given tt → usable b u ≡ given tt
       → PressFits b (left t (λ _. u) (unless settable alreadySo 0))
   unfolding left
   left-fits t u true before after = record { twelve = tt; fits = after }
   left-fits t u false before after = record { twelve = refl; fits = before }
 
-  module _ (t : State) (n : ℕ) (fits : stateFine (b .counts) t ≡ true) (below : ltb n (b .counts .buttons) ≡ true) where
+  module _ (t : Kept) (n : ℕ) (fits : usable b t ≡ given tt) (below : ltb n (b .counts .buttons) ≡ true) where
+    fine : boardFine b ≡ true
+    fine = usable-given b t fits .0
+
+    before : stateFine (b .counts) (t .state) ≡ true
+    before = usable-given b t fits .1
+
     push-fits : PressFits b (pushing b t n)
     unfolding pushing
     push-fits =
-        rw (press-twelve b t n (not (isPushed t n)) (usable-fine b t fine fits) below)
-        (left-fits t (withPushed t n) (not (isPushed t n)) fits
-        (state-fits-push (b .counts) t n fits (ltb-true n (b .counts .buttons) below)))
+        rw (press-twelve b t n (not (isPushed (t .state) n)) fits below)
+        (left-fits t (keptAt b (withPushed (t .state) n)) (not (isPushed (t .state) n)) fits
+        (usable-fine b (withPushed (t .state) n) fine
+        (state-fits-push (b .counts) (t .state) n before (ltb-true n (b .counts .buttons) below))))
 
     release-fits : PressFits b (releasing b t n)
     unfolding releasing
     release-fits =
-        rw (press-twelve b t n (isPushed t n) (usable-fine b t fine fits) below)
-        (left-fits t (withReleased t n) (isPushed t n) fits (state-fits-release (b .counts) t n fits))
+        rw (press-twelve b t n (isPushed (t .state) n) fits below)
+        (left-fits t (keptAt b (withReleased (t .state) n)) (isPushed (t .state) n) fits
+        (usable-fine b (withReleased (t .state) n) fine (state-fits-release (b .counts) (t .state) n before)))
 
-  press-fits : (t : State) (v : Event) → stateFine (b .counts) t ≡ true → ltb (v .button) (b .counts .buttons) ≡ true
+  press-fits : (t : Kept) (v : Event) → usable b t ≡ given tt → ltb (v .button) (b .counts .buttons) ≡ true
       → PressFits b (pressing b t v)
   unfolding pressing
   press-fits t v fits below = by (v .push)
@@ -91,12 +104,12 @@ module _ (b : Board) (fine : boardFine b ≡ true) where
 
   -- ---- the event
 
-  pressed-fits : (w e : ℕ) (x : State × Outcome (Unit {0})) → PressFits b x → ShownFits b (pressedLine b e x w)
+  pressed-fits : (w e : ℕ) (x : Kept × Outcome (Unit {0})) → PressFits b x → ShownFits b (pressedLine b e x w)
   unfolding pressedLine
   pressed-fits w e (t, given u) so = ran-fits w e t (so .fits)
   pressed-fits w e (t, refused n p) so = record { twelve = so .twelve; drawn = refl; fits = so .fits }
 
-  pub event-fits : (w e : ℕ) (t : State) (v : Event) → stateFine (b .counts) t ≡ true
+  pub event-fits : (w e : ℕ) (t : Kept) (v : Event) → usable b t ≡ given tt
       → ltb (v .button) (b .counts .buttons) ≡ true → ShownFits b (eventLine b e t v w)
   unfolding eventLine
   event-fits w e t v fits below = pressed-fits w e (pressing b t v) (press-fits t v fits below)

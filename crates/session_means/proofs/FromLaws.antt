@@ -10,8 +10,8 @@ use lib.ListN.{length}
 use borrow.Author.Tests.{le-leb, lt-leb, leb-true, leb-false}
 use Rattle.refusals.specs.Outcomes.{Outcome, given, refused, Found}
 use Rattle.board.specs.declared.Board.{Board}
+use Rattle.kept.specs.declared.Kept.{Kept}
 use Rattle.board_reader.specs.Editions.{Edition}
-use Rattle.state.specs.declared.State.{State}
 use Rattle.lines.specs.Lines.{Line}
 use Rattle.events.specs.declared.Event.{Event}
 use Rattle.events.specs.Events.{Shown, eventAt, eventLine}
@@ -19,12 +19,12 @@ use Rattle.session.specs.Sessions.{eventLines, linesFrom}
 use Rattle.session.proofs.ComingLaws.{event-next}
 
 module _ (ed : Edition) (b : Board) (w : ℕ) (s : List ℕ) where
-  pub from-end : (k : ℕ) (t : State) (e at : ℕ) → length s ≤ at → linesFrom ed k b s t e at w ≡ []
+  pub from-end : (k : ℕ) (t : Kept) (e at : ℕ) → length s ≤ at → linesFrom ed k b s t e at w ≡ []
   unfolding linesFrom
   from-end zero t e at past = refl
   from-end (suc k) t e at past = rw (le-leb (length s) at past) refl
 
-  pub from-event : (k : ℕ) (t : State) (e at : ℕ) → at < length s
+  pub from-event : (k : ℕ) (t : Kept) (e at : ℕ) → at < length s
       → linesFrom ed (suc k) b s t e at w
       ≡ eventLines (eventAt ed (b .counts .buttons) s at) (λ v. eventLine b e t v w)
       (λ u next. linesFrom ed k b s u (suc e) next w)
@@ -32,8 +32,8 @@ module _ (ed : Edition) (b : Board) (w : ℕ) (s : List ℕ) where
   from-event k t e at there = rw (lt-leb (length s) at there) refl
 
   -- two ways to go on after an event that agree at the places after it
-  lines-same : (at : ℕ) (tell : Event → Shown) (go stay : State → ℕ → List Line)
-      → ((u : State) (next : ℕ) → at < next → go u next ≡ stay u next)
+  lines-same : (at : ℕ) (tell : Event → Shown) (go stay : Kept → ℕ → List Line)
+      → ((u : Kept) (next : ℕ) → at < next → go u next ≡ stay u next)
       → (o : Outcome (Found Event)) → eventAt ed (b .counts .buttons) s at ≡ o
       → eventLines o tell go ≡ eventLines o tell stay
   lines-same at tell go stay same (given v) e =
@@ -41,8 +41,8 @@ module _ (ed : Edition) (b : Board) (w : ℕ) (s : List ℕ) where
       (same (tell (v .value) .1) (v .next) (event-next ed (b .counts .buttons) s at v e))
   lines-same at tell go stay same (refused n p) e = refl
 
-  enough-by : (k m : ℕ) (t : State) (e at : ℕ)
-      → ((u : State) (next : ℕ) → at < next → linesFrom ed k b s u (suc e) next w ≡ linesFrom ed m b s u (suc e) next w)
+  enough-by : (k m : ℕ) (t : Kept) (e at : ℕ)
+      → ((u : Kept) (next : ℕ) → at < next → linesFrom ed k b s u (suc e) next w ≡ linesFrom ed m b s u (suc e) next w)
       → (past : Bool) → leb (length s) at ≡ past → linesFrom ed (suc k) b s t e at w ≡ linesFrom ed (suc m) b s t e at w
   enough-by k m t e at same true past =
       from-end (suc k) t e at (leb-true (length s) at past)
@@ -54,7 +54,7 @@ module _ (ed : Edition) (b : Board) (w : ℕ) (s : List ℕ) where
       ∙ sym (from-event m t e at (leb-false (length s) at there))
 
   -- k and m both allow for an event on each byte left
-  pub from-enough : (k m : ℕ) (t : State) (e at : ℕ) → length s - at ≤ k → length s - at ≤ m
+  pub from-enough : (k m : ℕ) (t : Kept) (e at : ℕ) → length s - at ≤ k → length s - at ≤ m
       → linesFrom ed k b s t e at w ≡ linesFrom ed m b s t e at w
   from-enough zero m t e at few most = from-end zero t e at (omega arith) ∙ sym (from-end m t e at (omega arith))
   from-enough (suc k) zero t e at most few =

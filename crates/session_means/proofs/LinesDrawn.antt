@@ -3,7 +3,8 @@
 use Prim.Native.Nat.{ℕ, suc}
 use mathlib.Core.Path.{refl, subst, _∙_}
 use mathlib.Core.List.{List, _∷_}
-use Rattle.state.specs.declared.State.{State}
+use Rattle.kept.specs.declared.Kept.{Kept}
+use Rattle.kept.proofs.KeptLaws.{usable-given}
 use Rattle.file_means.proofs.GivesLaws.{Gives}
 use Rattle.lines.specs.Lines.{Line, event, closing}
 use Rattle.events.specs.Events.{Shown}
@@ -13,15 +14,16 @@ use Rattle.session_means.specs.LinesDrawn.{EventShows, SumsFrom, LinesDr
 use Rattle.session_means.proofs.EventFits.{ShownFits}
 use Rattle.session_means.proofs.LinesWalk.{Along, HeadFine, head-fine, head-walk}
 
-shown-sum : (h : Head) (e : ℕ) (t : State) (x : Shown) (ls : List Line) → EventShows h e t x
+shown-sum : (h : Head) (e : ℕ) (t : Kept) (x : Shown) (ls : List Line) → EventShows h e t x
     → ShownFits (h .board) x → SumsFrom h (suc e) (x .1) ls → SumsFrom h e t (x .0 ∷ ls)
-shown-sum h e t (event n o m d, u) ls shows so on = (
-  u,
-  (
-    record { shows = shows; fits = so .fits; sum = so .drawn ∙ drawn-is-sum (h .board .counts) u (so .fits) },
-    on,
-  ),
-)
+shown-sum h e t (event n o m d, u) ls shows so on =
+    let fits = usable-given (h .board) u (so .fits) .1 in (
+      u,
+      (
+        record { shows = shows; fits = fits; sum = so .drawn ∙ drawn-is-sum (h .board .counts) (u .state) fits },
+        on,
+      ),
+    )
 shown-sum h e t (closing n p, u) ls shows so on = absurd (so .drawn)
 
 along-drawn : (h : Head) → Along h (SumsFrom h)

@@ -1,5 +1,5 @@
 -- The lines of a session, one after the other, for whatever is to be shown of them: by induction on the events, with
--- the state before each fitting the board. The theorems are its instances.
+-- the state before each fitting the board, with the sets of both. The theorems are its instances.
 use Prim.Native.Nat.{ℕ, zero, suc, _/_}
 use mathlib.Core.Path.{_≡_, refl}
 use mathlib.Core.Logic.{_⊎_, inl, inr}
@@ -12,9 +12,11 @@ use Rattle.refusals.specs.Refusals.{inputEnds, badForm, noSuchName}
 use Rattle.number.specs.Numbers.{currentWidth, numberAt}
 use Rattle.number.proofs.NumberLaws.{number-refusal}
 use Rattle.board.specs.Rules.{boardFine}
-use Rattle.state.specs.declared.State.{State}
-use Rattle.state.specs.States.{freshState, stateFine}
+use Rattle.state.specs.States.{freshState}
 use Rattle.state.proofs.StateLaws.{fresh-fits}
+use Rattle.kept.specs.declared.Kept.{Kept}
+use Rattle.kept.specs.Kept.{keptFresh, usable}
+use Rattle.kept.proofs.KeptLaws.{usable-fine}
 use Rattle.board_reader.specs.Editions.{currentEdition}
 use Rattle.board_reader.specs.Reading.{wanted, reading}
 use Rattle.board_reader.proofs.EditionLaws.{current-known}
@@ -29,18 +31,17 @@ use Rattle.session_means.specs.LinesDrawn.{EventShows}
 use Rattle.session_means.specs.EventRefusals.{ClosedByEvent}
 use Rattle.session_means.proofs.EventFits.{ShownFits, ran-fits, event-fits}
 
--- what is to be shown of the lines from event e on, in state t: of none, of the line that ends a session, and of an
+-- what is to be shown of the lines from event e on, from t: of none, of the line that ends a session, and of an
 -- event's line before others
-pub record Along (h : Head) (Q : ℕ → State → List Line → Type 0) : Type 0 where
-  pub none : (e : ℕ) (t : State) → Q e t []
-  pub closes : (e : ℕ) (t : State) (n p : ℕ) → ClosedByEvent (closing n p) → Q e t (closing n p ∷ [])
-  pub shown : (e : ℕ) (t : State) (x : Shown) (ls : List Line) → EventShows h e t x → ShownFits (h .board) x
+pub record Along (h : Head) (Q : ℕ → Kept → List Line → Type 0) : Type 0 where
+  pub none : (e : ℕ) (t : Kept) → Q e t []
+  pub closes : (e : ℕ) (t : Kept) (n p : ℕ) → ClosedByEvent (closing n p) → Q e t (closing n p ∷ [])
+  pub shown : (e : ℕ) (t : Kept) (x : Shown) (ls : List Line) → EventShows h e t x → ShownFits (h .board) x
       → Q (suc e) (x .1) ls → Q e t (x .0 ∷ ls)
 
 -- ---- the events
 
-module _ (h : Head) (s : List ℕ) (fine : boardFine (h .board) ≡ true) (Q : ℕ → State → List Line → Type 0)
-    (so : Along h Q) where
+module _ (h : Head) (s : List ℕ) (Q : ℕ → Kept → List Line → Type 0) (so : Along h Q) where
   -- the event's button is one of the board's; or the event is refused by 1, 2 or 7
   abbrev EventRead : Outcome (Found Event) → Type 0
   EventRead (given v) = ltb (v .value .button) (h .board .counts .buttons) ≡ true
@@ -65,22 +66,22 @@ module _ (h : Head) (s : List ℕ) (fine : boardFine (h .board) ≡ true) (Q : �
           either (inl ends) = inl (ends .0)
           either (inr bad) = inr (inl (bad .0))
 
-  -- event e, in state t that fits, and the lines after it
-  event-walk : (e : ℕ) (t : State) (o : Outcome (Found Event)) (go : State → ℕ → List Line)
-      → stateFine (h .board .counts) t ≡ true → EventRead o
-      → ((u : State) (next : ℕ) → stateFine (h .board .counts) u ≡ true → Q (suc (suc e)) u (go u next))
+  -- event e, from t that is not refused by 15, 14 or 18, and the lines after it
+  event-walk : (e : ℕ) (t : Kept) (o : Outcome (Found Event)) (go : Kept → ℕ → List Line)
+      → usable (h .board) t ≡ given tt → EventRead o
+      → ((u : Kept) (next : ℕ) → usable (h .board) u ≡ given tt → Q (suc (suc e)) u (go u next))
       → Q (suc e) t (eventLines o (λ v. eventLine (h .board) (suc e) t v (h .allowance)) go)
   event-walk e t (given v) go fits named on =
       let x = eventLine (h .board) (suc e) t (v .value) (h .allowance) in
-      let after = event-fits (h .board) fine (h .allowance) (suc e) t (v .value) fits named in
+      let after = event-fits (h .board) (h .allowance) (suc e) t (v .value) fits named in
       so .shown (suc e) t x _ (v .value, refl) after (on (x .1) (v .next) (after .fits))
   event-walk e t (refused n p) go fits named on = so .closes (suc e) t n p named
 
-  unless-over : (e : ℕ) (t : State) (over : Bool) (ls : List Line) → Q e t ls → Q e t (cond over [] ls)
+  unless-over : (e : ℕ) (t : Kept) (over : Bool) (ls : List Line) → Q e t ls → Q e t (cond over [] ls)
   unless-over e t true ls all = so .none e t
   unless-over e t false ls all = all
 
-  lines-walk : (k : ℕ) (t : State) (e at : ℕ) → stateFine (h .board .counts) t ≡ true
+  lines-walk : (k : ℕ) (t : Kept) (e at : ℕ) → usable (h .board) t ≡ given tt
       → Q (suc e) t (linesFrom currentEdition k (h .board) s t (suc e) at (h .allowance))
   unfolding linesFrom
   lines-walk zero t e at fits = so .none (suc e) t
@@ -102,10 +103,11 @@ head-fine s =
     (read-fine currentEdition current-known s)
     (λ at was. gives-after HeadFine (numberAt currentWidth s at) _ (λ w read. was .fine))
 
-pub head-walk : (h : Found Head) (s : List ℕ) → HeadFine h → (Q : ℕ → State → List Line → Type 0)
-    → Along (h .value) Q → Q 0 (freshState (h .value .board)) (headLines currentEdition (given h) s)
+pub head-walk : (h : Found Head) (s : List ℕ) → HeadFine h → (Q : ℕ → Kept → List Line → Type 0)
+    → Along (h .value) Q → Q 0 (keptFresh (h .value .board)) (headLines currentEdition (given h) s)
 unfolding headLines
 head-walk h s fine Q so =
     let b = h .value .board in
-    let first = ran-fits b fine (h .value .allowance) 0 (freshState b) (fresh-fits b fine) in
-    so .shown 0 (freshState b) _ _ refl first (lines-walk (h .value) s fine Q so (length s) _ 0 (h .next) (first .fits))
+    let fits = usable-fine b (freshState b) fine (fresh-fits b fine) in
+    let first = ran-fits b (h .value .allowance) 0 (keptFresh b) fits in
+    so .shown 0 (keptFresh b) _ _ refl first (lines-walk (h .value) s Q so (length s) _ 0 (h .next) (first .fits))

@@ -12,7 +12,7 @@ use Rattle.refusals.specs.Refusals.{badForm, noSuchKind}
 use Rattle.refusals.proofs.Kept.{Kept, stands, was-refused, kept-then}
 use Rattle.number.specs.Numbers.{numberAt}
 use Rattle.board.specs.declared.Board.{Board}
-use Rattle.state.specs.declared.State.{State}
+use Rattle.kept.specs.declared.Kept as beside
 use Rattle.board_reader.specs.Editions.{Edition, threeByteEdition, firstEdition, currentEdition}
 use Rattle.board_reader.specs.Reading.{answered, reading}
 use Rattle.board_reader.proofs.ReadLaws.{boardWithin, reading-answers}
@@ -41,14 +41,14 @@ module _ {m : ℕ} (old new : Edition) (more : Changed m old new) (s : List ℕ)
   unfolding eventAt
   event-kept n at = kept-then _ _ (wanted-kept old new more s _ _ at) (λ v. stands refl)
 
-  event-lines-kept : (o o′ : Outcome (Found Event)) (tell : Event → Shown) (go go′ : State → ℕ → List Line)
-      → Kept m o o′ → ((t : State) (at : ℕ) → LinesKept m (go t at) (go′ t at))
+  event-lines-kept : (o o′ : Outcome (Found Event)) (tell : Event → Shown) (go go′ : beside.Kept → ℕ → List Line)
+      → Kept m o o′ → ((t : beside.Kept) (at : ℕ) → LinesKept m (go t at) (go′ t at))
       → LinesKept m (eventLines o tell go) (eventLines o′ tell go′)
   event-lines-kept (given v) o′ tell go go′ (stands is) later = rw is (kept-behind _ (later _ _))
   event-lines-kept (refused n p) o′ tell go go′ (stands is) later = rw is (same refl)
   event-lines-kept o o′ tell go go′ (was-refused p is) later = ended [] _ p (rw is) refl
 
-  lines-kept : (k : ℕ) (b : Board) (t : State) (e at a : ℕ)
+  lines-kept : (k : ℕ) (b : Board) (t : beside.Kept) (e at a : ℕ)
       → LinesKept m (linesFrom old k b s t e at a) (linesFrom new k b s t e at a)
   unfolding linesFrom
   lines-kept zero b t e at a = same refl

@@ -23,9 +23,9 @@ use Rattle.session_means.proofs.FromLaws.{from-end, from-event, from-en
 
 unfoldable pub stillAt : Edition → Stage → Head → Ahead → List ℕ → List Line
 stillAt ed first h a s =
-    let x = ranLine (h .board) (a .event) (a .state) (h .allowance) in
+    let x = ranLine (h .board) (a .event) (a .kept) (h .allowance) in
     x .0 ∷ linesFrom ed (length s) (h .board) s (x .1) (suc (a .event)) (a .place) (h .allowance)
-stillAt ed events h a s = linesFrom ed (length s) (h .board) s (a .state) (a .event) (a .place) (h .allowance)
+stillAt ed events h a s = linesFrom ed (length s) (h .board) s (a .kept) (a .event) (a .place) (h .allowance)
 stillAt ed over h a s = []
 stillAt ed (refusing n p) h a s = closing n p ∷ []
 
@@ -64,25 +64,25 @@ module _ (ed : Edition) (h : Head) (a : Ahead) (s : List ℕ) where
   -- the lines from an event on, by what its number came to
   events-told : (k : ℕ) → a .place < k → {o : Outcome (Found Event)} → a .place < length s
       → eventAt ed (h .board .counts .buttons) s (a .place) ≡ o
-      → linesFrom ed k (h .board) s (a .state) (a .event) (a .place) (h .allowance)
+      → linesFrom ed k (h .board) s (a .kept) (a .event) (a .place) (h .allowance)
       ≡ eventLines o
-      (λ v. eventLine (h .board) (a .event) (a .state) v (h .allowance))
+      (λ v. eventLine (h .board) (a .event) (a .kept) v (h .allowance))
       (λ u next. linesFrom ed (k - 1) (h .board) s u (suc (a .event)) next (h .allowance))
   events-told (suc k) some there is =
       let less : suc k - 1 ≡ k = omega arith in
-      rw (less, ← is) (from-event ed (h .board) (h .allowance) s k (a .state) (a .event) (a .place) there)
+      rw (less, ← is) (from-event ed (h .board) (h .allowance) s k (a .kept) (a .event) (a .place) there)
   events-told zero some there is = absurd (omega arith)
 
   still-by : Numbered a s → Comes ed h a s
       → still ed h a s ≡ headed (nextOf ed h a s .1) (still ed h (nextOf ed h a s .0) s)
   unfolding still stillAt toComeAt
   still-by numbered (runs-first at e) =
-      let x = ranLine (h .board) (a .event) (a .state) (h .allowance) in
+      let x = ranLine (h .board) (a .event) (a .kept) (h .allowance) in
       let rest : ℕ → List Line = λ n. linesFrom ed (length s) (h .board) s (x .1) n (a .place) (h .allowance) in
       headed-by _ e
       (rw at (ap {B = List Line} (λ n. x .0 ∷ rest n) (number-on numbered (omega (arith, left-at first at)))))
   still-by numbered (makes-event v at there found e) =
-      let x = eventLine (h .board) (a .event) (a .state) (v .value) (h .allowance) in
+      let x = eventLine (h .board) (a .event) (a .kept) (v .value) (h .allowance) in
       let rest : ℕ → List Line = λ n. linesFrom ed (length s) (h .board) s (x .1) n (v .next) (h .allowance) in
       let later = event-next ed (h .board .counts .buttons) s (a .place) v found in
       headed-by _ e (rw at (
@@ -94,7 +94,7 @@ module _ (ed : Edition) (h : Head) (a : Ahead) (s : List ℕ) where
   still-by numbered (bad-event n p at there bad e) = headed-by _ e (rw at (events-told (length s) there there bad))
   still-by numbered (tells-refusal n p at e) = headed-by _ e (rw at refl)
   still-by numbered (at-end at past e) =
-      headed-by _ e (rw at (from-end ed (h .board) (h .allowance) s (length s) (a .state) (a .event) (a .place) past))
+      headed-by _ e (rw at (from-end ed (h .board) (h .allowance) s (length s) (a .kept) (a .event) (a .place) past))
   still-by numbered (is-over at e) = headed-by _ e (rw at refl)
 
   -- the lines still to come are the next one and those after it

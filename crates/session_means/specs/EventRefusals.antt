@@ -1,7 +1,8 @@
 -- Rule book: "An event refused by 12 prints its number, `refused` and 12". A session's line would print any other
--- number as well; but its board was read and breaks no rule, its state fits that board, and its log is not too long, so
--- no push, release or run of a session is refused by 15, 14, 13 or 7. "A bad file (10 counts the whole session) or
--- event (1, 2 or 7) prints `refused`, number, place, and ends": so an event's own number is refused.
+-- number as well; but its board was read and breaks no rule, its state fits that board, its kept sets belong to both,
+-- and its log is not too long, so no push, release or run of a session is refused by 15, 14, 18, 13 or 7. "A bad file
+-- (10 counts the whole session) or event (1, 2 or 7) prints `refused`, number, place, and ends": so an event's own
+-- number is refused.
 --     OnlyTwelve l       where the line l tells of a refused event, it is refused by 12
 --     EventsRefused      so it is of every line of every session
 --     ClosedByEvent l    where the line l ends the session, it tells 1, 2 or 7

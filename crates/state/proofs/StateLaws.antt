@@ -1,18 +1,12 @@
--- The laws of a board's state: what each method changes and leaves, which states a board takes, and when a call can use
--- a board and a state.
+-- The laws of a board's state: what each method changes and leaves, and which states a board takes.
 -- The crates above cite these, and nothing of the definitions' text. The last section is for the proof of `fits`.
 use Prim.Native.Nat.{ℕ, _<_}
 use mathlib.Core.Path.{_≡_, refl}
-use mathlib.Core.Bool.{Bool, true, false}
-use mathlib.Core.List.{[], _∷_, _++_}
+use mathlib.Core.Bool.{true, false}
 use Rattle.bits.specs.Sets.{room, within}
 use Rattle.bits.proofs.SetLaws.{member-including-same, member-including-other, member-excluding-same}
 use Rattle.bits.proofs.SetLaws.{member-excluding-other, within-member, member-within, within-none, within-including}
 use Rattle.bits.proofs.SetLaws.{within-excluding}
-use Rattle.refusals.specs.Outcomes.{Outcome, given, refused, _>>_, unless}
-use Rattle.refusals.specs.Refusals.{stateBeyondBoard, brokenBoard}
-use Rattle.refusals.specs.Order.{Order, firstNo}
-use Rattle.refusals.proofs.OrderLaws.{asks-append, asks-then, first-holds}
 use Rattle.board.specs.declared.Counts.{Counts}
 use Rattle.board.specs.declared.Board.{Board}
 use Rattle.board.specs.Rules.{boardFine}
@@ -20,7 +14,7 @@ use Rattle.board.proofs.FineLaws.{fine-start-below}
 use Rattle.bits.proofs.BoolLaws.{both-true, true-both}
 use Rattle.state.specs.declared.State.{State}
 use Rattle.state.specs.States.{freshState, isDrawn, isPushed, withDrawn, withDropped, withPushed, withReleased}
-use Rattle.state.specs.States.{stateFine, usableLines, usable}
+use Rattle.state.specs.States.{stateFine}
 use Rattle.state.specs.Fourteen.{MembersBelow}
 
 -- ---- a method changes its own relay or button and nothing else
@@ -116,38 +110,6 @@ module _ (c : Counts) (s : State) (n : ℕ) (fine : stateFine c s ≡ true) wher
       let both = both-within c s fine in
       within-both c (withReleased s n) (both .0) (within-excluding (s .pushed) (c .buttons) n (both .1))
 
--- ---- a board and a state that a call can use
-
-module _ (b : Board) (s : State) where
-  pub usable-fine : boardFine b ≡ true → stateFine (b .counts) s ≡ true → usable b s ≡ given tt
-  unfolding usable firstNo
-  usable-fine fine fits = rw (fine, fits) refl
-
-  pub usable-given : usable b s ≡ given tt → (boardFine b ≡ true) × (stateFine (b .counts) s ≡ true)
-  unfolding usable
-  usable-given taken =
-      let board = first-holds (boardFine b) brokenBoard _ taken in
-      (board .0, first-holds (stateFine (b .counts) s) stateBeyondBoard _ (board .1) .0)
-
-  -- a call's own lines come after these
-  pub usable-lines : (ls : Order) → firstNo (usableLines b s ++ ls) ≡ (usable b s >> firstNo ls)
-  unfolding usable
-  usable-lines ls = asks-append (usableLines b s) ls
-
-  -- what is refused, and neither by 15 nor by 14, is refused by what is asked next
-  pub usable-next : {A : Type 0} (o : Outcome A) (k p : ℕ) → ¬ (brokenBoard ≡ k) → ¬ (stateBeyondBoard ≡ k)
-      → (usable b s >> o) ≡ refused k p
-      → (boardFine b ≡ true) × (stateFine (b .counts) s ≡ true) × (o ≡ refused k p)
-  unfolding usable firstNo
-  usable-next {A} o k p not-broken not-beyond is = by-tests (boardFine b) (stateFine (b .counts) s) is
-    where
-      by-tests : (t u : Bool)
-          → (firstNo ((t, brokenBoard) ∷ (u, stateBeyondBoard) ∷ []) >> o) ≡ refused k p
-          → (t ≡ true) × (u ≡ true) × (o ≡ refused k p)
-      by-tests false u e = absurd (not-broken cc)
-      by-tests true false e = absurd (not-beyond cc)
-      by-tests true true e = (refl, refl, e)
-
 -- ---- what the code's tests say, for the proof of `fits`
 
 module _ (c : Counts) (s : State) (r : ℕ) (relays : r ≡ c .relays) where
@@ -158,13 +120,3 @@ module _ (c : Counts) (s : State) (r : ℕ) (relays : r ≡ c .relays) where
   pub state-fits-last : (b : ℕ) → b ≡ c .buttons → within (s .drawn) r ≡ true → within (s .pushed) b ≡ stateFine c s
   unfolding stateFine
   state-fits-last b buttons on = simp (← relays, ← buttons, on)
-
--- ---- the two lines one after the other, for the proof of `usable`
-
-pub usable-asked : (b : Board) (s : State) {t u : Bool} {o q : Outcome (Unit {0})} → t ≡ boardFine b
-    → u ≡ stateFine (b .counts) s → o ≡ unless t brokenBoard 0 → q ≡ (o >> unless u stateBeyondBoard 0)
-    → q ≡ usable b s
-unfolding usable firstNo
-usable-asked b s board state first second =
-    asks-then ((boardFine b, brokenBoard) ∷ []) stateBeyondBoard
-    (asks-then [] brokenBoard refl board first) state second

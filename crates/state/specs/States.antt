@@ -6,10 +6,6 @@
 --     withDrawn, withDropped s r      s with relay r drawn, dropped: "A move changes that relay and nothing else"
 --     withPushed, withReleased s b    s with button b pushed, released
 --     stateFine c s                   14 does not hold: every drawn relay is below R, every pushed button below B
---     usableLines b s                 the lines that every call on a board and a state asks first: 15, 14
---     usable b s                      what stands against it by these
---     left s f o                      the state that a call leaves beside what it came to: f a where it gives a; "A
---                                     refused call returns the number, place 0 and the state it was given"
 --     StateFresh b r                  promise: `fresh` of board b answers r
 --     StateDraws s n r                promise: `draw` of relay n in state s answers r
 --     StateDrops s n r                promise: `drop`, likewise
@@ -18,19 +14,12 @@
 --     StateIsDrawn s n r              promise: `is_drawn`, of relay n in state s, answers r
 --     StateIsPushed s n r             promise: `is_pushed`, of button n in state s, answers r
 --     StateFits s c r                 promise: `fits` of state s and the counts c answers r
---     Usable b s r                    promise: `usable` of board b and state s answers r
 use Prim.Native.Nat.{ℕ}
 use mathlib.Core.Path.{_≡_}
 use mathlib.Core.Bool.{Bool, _&&_}
-use mathlib.Core.List.{[], _∷_}
 use Rattle.bits.specs.Sets.{member, including, excluding, within}
-use Rattle.refusals.specs.declared.Against.{Against}
-use Rattle.refusals.specs.Outcomes.{Outcome, given, refused}
-use Rattle.refusals.specs.Refusals.{stateBeyondBoard, brokenBoard}
-use Rattle.refusals.specs.Order.{Order, firstNo, toldAgainst}
 use Rattle.board.specs.declared.Counts.{Counts}
 use Rattle.board.specs.declared.Board.{Board}
-use Rattle.board.specs.Rules.{boardFine}
 use Rattle.state.specs.declared.State.{State}
 
 abbrev pub emptyState : State
@@ -60,16 +49,6 @@ withReleased s b = record { drawn = s .drawn; pushed = excluding (s .pushed) b }
 unfoldable pub stateFine : Counts → State → Bool
 stateFine c s = within (s .drawn) (c .relays) && within (s .pushed) (c .buttons)
 
-abbrev pub usableLines : Board → State → Order
-usableLines b s = (boardFine b, brokenBoard) ∷ (stateFine (b .counts) s, stateBeyondBoard) ∷ []
-
-unfoldable pub usable : Board → State → Outcome (Unit {0})
-usable b s = firstNo (usableLines b s)
-
-unfoldable pub left : {A : Type 0} → State → (A → State) → Outcome A → State × Outcome A
-left s f (given a) = (f a, given a)
-left s f (refused n p) = (s, refused n p)
-
 abbrev pub StateFresh : Board → State → Type 0
 StateFresh b r = r ≡ freshState b
 
@@ -93,6 +72,3 @@ StateIsPushed s n r = r ≡ isPushed s n
 
 abbrev pub StateFits : State → Counts → Bool → Type 0
 StateFits s c r = r ≡ stateFine c s
-
-abbrev pub Usable : Board → State → Against → Type 0
-Usable b s r = toldAgainst r ≡ usable b s

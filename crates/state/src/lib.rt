@@ -1,12 +1,8 @@
-// The state of a board: which relays are drawn and which buttons are pushed, and its methods; and what every call on a
-// board and a state asks first.
+// The state of a board: which relays are drawn and which buttons are pushed, and its methods.
 ghost use Rattle.state.specs.States.{StateFresh, StateDraws, StateDrops, StatePushes, StateReleases};
-ghost use Rattle.state.specs.States.{StateIsDrawn, StateIsPushed, StateFits, Usable};
+ghost use Rattle.state.specs.States.{StateIsDrawn, StateIsPushed, StateFits};
 use board::Board;
 use board::Counts;
-use refusals::Against;
-use refusals::BROKEN_BOARD;
-use refusals::STATE_BEYOND_BOARD;
 
 // The drawn relays and the pushed buttons, each a set in a word.
 pub struct State {
@@ -93,15 +89,4 @@ impl State {
             false
         }
     }
-}
-
-// What stands against every call on a board and a state, before its own lines: 15, 14.
-pub fn usable(board: Board, state: State) -> Against
-    ensures { λ r. ⌜ Usable board state r ⌝ }
-{
-    let sound = board::check(board);
-    let fits = state.fits(board.counts);
-    Against::Nothing
-        .unless(sound, BROKEN_BOARD)
-        .unless(fits, STATE_BEYOND_BOARD)
 }

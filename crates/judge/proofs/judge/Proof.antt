@@ -4,14 +4,13 @@ use Rattle.judge.proofs.judge.Statement.{statement}
 use Rattle.judge.proofs.judge.Tie as tie
 use mathlib.Core.Path.{sym, ap, _∙_}
 use Rattle.judge.specs.RelayWindings.{toldAsked}
-use Rattle.judge.proofs.JudgeLaws.{judging-by, judging-given}
+use Rattle.judge.proofs.JudgeLaws.{judging-by, judging-kept}
 
 returns : tie.Need-returns
 returns c =
     let at-asked = c .before .before .before in
-    c .judge-by .ensures ∙ judging-given _ _ _ _ _ _ _
+    c .judge-by .ensures ∙ judging-kept _ _ _ _ _ _
     (sym (at-asked .before .before .winding-for .ensures) ∙ ap toldAsked (at-asked .asked .given .1))
-    (c .before .neighbours .ensures)
 
 returns-2 : tie.Need-returns-2
 returns-2 c =
@@ -23,7 +22,6 @@ pub judge-spec : {M : Type 1} → statement M
 judge-spec =
     tie.close
     (tie.spec
-    (λ c κs. search needs) (λ c. search needs) (λ c κs. search needs) (λ c κs. search needs) (λ c. search needs)
-    (λ c κs. search needs)
+    (λ c κs. search needs) (λ c. search needs) (λ c κs. search needs) (λ c. search needs) (λ c κs. search needs)
     returns
     returns-2)

@@ -1,4 +1,5 @@
--- `judge::winding_for` meets its contract: refused by 15 and 14 as `usable` says, else by 11 where the relay lacks it.
+-- `judge::winding_for` meets its contract: refused by 15, 14 and 18 as `usable` says, else by 11 where the relay lacks
+-- it.
 use borrow.Author.Needs.{needs}
 use Rattle.judge.proofs.winding_for.Statement.{statement}
 use Rattle.judge.proofs.winding_for.Tie as tie

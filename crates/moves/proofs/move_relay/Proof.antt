@@ -5,18 +5,16 @@ use Rattle.moves.proofs.move_relay.Statement.{statement}
 use Rattle.moves.proofs.move_relay.Tie as tie
 use mathlib.Core.Path.{ap}
 use lib.Dec.{ltb}
-use Rattle.moves.proofs.StepLaws.{step-by}
 use Rattle.moves.proofs.MovingLaws.{movable-nothing, movable-refused, moving-refused, moving-moved}
 
 returns : tie.Need-returns
 returns c =
-    let at-told = c .before .before .before in
+    let at-told = c .before .before in
     let at-unless = at-told .before .before in
     moving-moved _ _ _ _ _ _
     (movable-nothing _ _ _ (at-unless .before .before .usable .ensures)
     (ap (ltb _) (at-unless .before .wide .ensures .0)) (at-unless .unless .ensures) (at-told .enum-told .given .1))
-    (step-by _ _ _ _ _ _ (c .before .before .neighbours .ensures) (c .before .step .ensures))
-    (c .after .ensures)
+    (c .before .step .ensures) (c .after .ensures)
 
 returns-2 : tie.Need-returns-2
 returns-2 c =
@@ -30,6 +28,6 @@ move-relay-spec =
     tie.close
     (tie.spec
     (λ c κs. search needs) (λ c κs. search needs) (λ c κs. search needs) (λ c. search needs) (λ c κs. search needs)
-    (λ c κs. search needs) (λ c κs. search needs) (λ c. search needs)
+    (λ c κs. search needs) (λ c. search needs)
     returns
     returns-2)

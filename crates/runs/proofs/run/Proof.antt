@@ -7,14 +7,16 @@ use denote.Ref.{now}
 use mathlib.Core.Path.{ap, _∙_}
 use Rattle.refusals.specs.Order.{toldAgainst}
 use Rattle.board.proofs.FineLaws.{fine-range}
+use Rattle.kept.proofs.KeptLaws.{usable-given}
 use Rattle.runs.proofs.RunningLaws.{runnable-given, runnable-asked, running-refused, running-ran}
 
 follow-requires : tie.Need-follow-requires
 follow-requires c κs =
     let at-unless = c .before .before .before in
-    fine-range _ (runnable-given _ _ (now (at-unless .before .before .before .args .log))
+    let fine = usable-given _ _ (runnable-given _ _ (now (at-unless .before .before .before .args .log))
     (runnable-asked _ _ _ (at-unless .before .usable .ensures) (at-unless .unless .ensures)
-    ∙ ap toldAgainst (c .before .enum-told .given .1)) .0) .most-relays
+    ∙ ap toldAgainst (c .before .enum-told .given .1))) in
+    (fine-range _ (fine .0) .most-relays, fine .2)
 
 returns : tie.Need-returns
 returns c =

@@ -5,13 +5,14 @@ use lib.Seq.{length-take-le}
 use Rattle.current_cases.proofs.typed.end_case.Statement.{statement}
 use Rattle.current_cases.proofs.typed.end_case.Tie as tie
 
-slice-aggregate-answer-case : tie.Need-slice-aggregate-answer-case
-slice-aggregate-answer-case c = sym (length-take-le _ _ (search needs))
+slice-aggregate-sets : tie.Need-slice-aggregate-sets
+slice-aggregate-sets c = sym (length-take-le _ _ (search needs))
 
 pub end-case-spec : {M : Type 1} → statement M
 end-case-spec =
     tie.close
     (tie.spec
-    (λ c κs. search needs) (λ c. search needs) (λ c κs. search needs) (λ c. search needs)
-    slice-aggregate-answer-case
-    (λ c κs. search needs) (λ c. search needs))
+    (λ c κs. search needs) (λ c. search needs)
+    slice-aggregate-sets
+    (λ c. search needs) (λ c. search needs) (λ c. search needs) (λ c κs. search needs) (λ c κs. search needs)
+    (λ c. search needs) (λ c. search needs))

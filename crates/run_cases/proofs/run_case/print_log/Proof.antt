@@ -6,10 +6,10 @@ use Rattle.run_cases.proofs.run_case.print_log.Statement.{statement}
 use Rattle.run_cases.proofs.run_case.print_log.Tie as tie
 
 abbrev Inv-loop : tie.InvT-loop
-Inv-loop log moves i₀ t4 i = Unit {0}
+Inv-loop log moves i₀ i = Unit {0}
 
 abbrev μ-loop : tie.MeasureT-loop
-μ-loop log moves i₀ t4 i = length log - i
+μ-loop log moves i₀ i = length log - i
 
 pub print-log-spec : {M : Type 1} → statement M
 print-log-spec =
@@ -18,4 +18,4 @@ print-log-spec =
     Inv-loop
     μ-loop
     (λ c. search needs) (λ c. search needs) (λ c κs. search needs) (λ c. search needs) (λ c. search needs)
-    (λ c. search needs) (λ c. search needs) (λ c κs. search needs) (λ c. search needs))
+    (λ c. search needs) (λ c. search needs))
