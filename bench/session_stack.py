@@ -1,8 +1,8 @@
-"""The memory and the stack of the session program, for bench/sessions.py; x86-64 only. The memory is what the kernel says of
-the process (`/proc/PID/status`) where it is about to end, at which `ptrace` stops it. The stack is the least that `ulimit -s`
-may give with all lines still right: by halving, in pages, and then to 16 bytes by an environment string that takes up the rest
-of the last page. The environment is empty else, and the start of the stack is not random; both would add to it, the latter up
-to 8 KiB. Arguments and what the kernel puts above the program's own stack (some 700 bytes) are counted."""
+"""The memory and the stack of the session program, x86-64 only; bench/sessions.py imports this, and is what to run. The memory is
+what the kernel says of the process (`/proc/PID/status`) where it is about to end, at which `ptrace` stops it. The stack is the
+least that `ulimit -s` may give with all lines still right: by halving, in pages, and then to 16 bytes by an environment string
+that takes up the rest of the last page. The environment is empty else, and the start of the stack is not random; both would add
+to it, the latter up to 8 KiB. Arguments and what the kernel puts above the program's own stack (some 700 bytes) are counted."""
 import ctypes
 import os
 import resource
@@ -13,8 +13,6 @@ import program
 
 PAGE, GRAIN = 4096, 16
 MOST_STACK = 2 * 1024 * 1024
-MOST_FRAMES = 64 * 65 // 2  # of `try_next`, nested: a chain of k terminals leaves at most 64 - k neighbours, and one more call
-BOARD_FRAMES = 256 + 1  # on a board: each of them but the last tries another joined pair, and 256 parts join no more
 TRACE_ME, GO_ON, SET_OPTIONS, STOP_AT_EXIT = 0, 7, 0x4200, 0x40  # <sys/ptrace.h>
 STOPPED_AT_EXIT = signal.SIGTRAP | 6 << 8
 NOT_RANDOM = 0x0040000  # <sys/personality.h>

@@ -24,9 +24,10 @@ ODD_VALUES += [268435455, 268435456, model.LARGEST, model.LARGEST + 1, 2**35 - 1
 LONG_FORMS = [[0], [128, 0], [255, 127], [128, 128, 0], [128, 128, 128, 0], [255, 255, 255, 15], [255, 255, 255, 16], [128, 128, 128, 128, 0]]
 HANDED_PARTS = 5 + program.START_BYTES  # the first part of a board handed in begins at this byte
 NONE = frozenset()
-# A move of relay 0, a run with a log of 4, a push and a release of button 0, with nothing drawn or pushed and no allowance: the
-# last number of each.
-ASKED = {"^": 0, "=": 4, "+": 0, "-": 0}
+# A move of relay 0, a run with a log of 4, a push and a release of button 0, with nothing drawn or pushed and W 0: the last number
+# of each.
+ROOM = 4
+ASKED = {"^": 0, "=": ROOM, "+": 0, "-": 0}
 
 
 def board(dice):
@@ -122,24 +123,24 @@ def handed_board(data):
     return size if total(marked) == start else None, counts, rows
 
 
-def calls_without_chains(counts, parts):
+def calls(counts, parts):
     """What the calls come to that are asked with the board's own sets, each as its answer, the state that it leaves and the rest
-    of its line. A move and a run are allowed no chain: a relay whose windings are all shunted rests, and any other is
-    undecided."""
-    windings = [part for part in parts if part[0] in judge_model.WINDINGS]
-    undecided = {part[3] for part in windings if not judge_model.shunted(parts, NONE, NONE, *part[1:3])}
-    moved = "refused 11" if not counts[1] else "undecided" if 0 in undecided else "rests"
-    ran, stopped = ("undecided 0", min(undecided)) if undecided else ("idle 0", run_model.NO_RELAY)
-    pushed, released, after = ("done", "refused 12", {0}) if counts[2] else ("refused 7", "refused 7", NONE)
-    moves = {"^": (f"moved {moved}", NONE, ""), "=": (f"ran {ran}", NONE, f" {stopped}:")}
-    return moves | {"+": (f"pressed {pushed}", after, ""), "-": (f"pressed {released}", NONE, "")}
+    of its line."""
+    own = run_model.Board(counts, parts)
+    moved, after = run_model.move(own, NONE, NONE, 0) if counts[1] else ("refused 11", NONE)
+    ran, log, left, stopped = run_model.run(own, NONE, NONE, ROOM)
+    yield "^", f"moved {moved}", (after, NONE), ""
+    yield "=", f"ran {ran} {len(log)}", (left, NONE), " ".join([f" {stopped}:"] + [str(byte) for byte in log])
+    pushed, released, button = ("done", "refused 12", {0}) if counts[2] else ("refused 7", "refused 7", NONE)
+    yield "+", f"pressed {pushed}", (NONE, button), ""
+    yield "-", f"pressed {released}", (NONE, NONE), ""
 
 
 def call_lines(counts, parts):
     """The lines of the calls on a fine board, up to the sets themselves."""
-    for ending, (answer, pushed, rest) in calls_without_chains(counts, parts).items():
-        kept = kept_model.words(parts, (NONE, NONE), None, (NONE, pushed), "refused" in answer)
-        yield ending, up_to_sets(f"{answer} 0 {total(pushed)}{rest}{kept}")
+    for ending, answer, (drawn, pushed), rest in calls(counts, parts):
+        kept = kept_model.words(parts, (NONE, NONE), None, (drawn, pushed), "refused" in answer)
+        yield ending, up_to_sets(f"{answer} {total(drawn)} {total(pushed)}{rest}{kept}")
 
 
 def refused_lines(number, own):
@@ -207,7 +208,7 @@ def compare(seed, count):
     for want in every_line(found):
         words.update(f"refused {number.split()[0]}" for number in want.split("refused ")[1:])
         words.update({want.split()[0], " ".join(want.split()[:2])})
-    met = ["read", "write", "short", "moved undecided", "moved rests", "ran undecided", "ran idle", "pressed done"]
+    met = ["read", "write", "short", "moved drew", "moved rests", "moved conflict", "ran idle", "ran spent", "ran conflict", "pressed done"]
     for word in met + [f"refused {number}" for number in (1, 2, 3, 4, 5, 6, 7, 8, 9, 11, 12, 15, 16, 17, 18)]:
         checks.append((f"some case answers {word}", word in words))
     return checks

@@ -1,12 +1,14 @@
-"""Compares the proved calls with the independent second program in plain Rust (second/), one judgement, move or run a line, by
-way of `current_cases` and `run_cases`: the verdict, the effort, the length and the chain that is shown; what a relay comes to;
-the word of a run, its moves, the state left, the relay that stopped it, and every byte of the log (a run prints the first 40
-moves, and is asked to go on from there). Boards of all sorts in tests/lib/session_boards.py, in states within and beyond them,
-with allowances around the efforts and logs of 0, 1 and around the moves; damaged files; boards handed in that break a rule. The
+"""Compares the proved calls with the independent second program in plain Rust (second/), one judgement, check, move or run a line,
+by way of `current_cases` and `run_cases`: the verdict, the effort, the length and the chain that is shown; what is told without an
+allowance, with the terminal that divides; whether a terminal handed in does; what a relay comes to; the word of a run, its moves,
+the state left, the relay that stopped it, and every byte of the log (a run prints the first 40 moves, and is asked to go on from
+there). Boards of all sorts in tests/lib/session_boards.py and tests/dividing.py, in states within and beyond them, with
+allowances around the efforts, terminals on the board and beyond it, and logs of 0, 1 and around the moves; damaged files; boards
+handed in that break a rule; boards worked out by hand, some with more chains than any allowance (tests/lib/feed_boards.py). The
 kept sets are the board's own, and must be so afterwards. No answer is compared with a model in Python, which only tells which
-damaged files are read at all; what is around an effort is asked of the second program. Seeded, so each run tries the same
-cases; `python3 tests/calls.py SEED BOARDS` tries others, or more (it is 1 and 540 else). Needs cargo, and
-target/bin/current_cases and target/bin/run_cases, which `rt check current_cases run_cases` builds."""
+damaged files are read at all; what is around an effort is asked of the second program. Seeded, so each run tries the same cases;
+`python3 tests/calls.py SEED BOARDS` tries others, or more (it is 1 and 540 else). Needs cargo, and target/bin/current_cases and
+target/bin/run_cases, which `rt check current_cases run_cases` builds."""
 import collections
 import concurrent.futures
 import os
@@ -18,6 +20,8 @@ import sys
 sys.path.insert(0, os.path.join(os.path.dirname(os.path.abspath(__file__)), "lib"))
 import board_files
 import board_model
+import dividing
+import feed_boards
 import judging
 import program
 import repository
@@ -25,13 +29,11 @@ import running
 import second_program
 import session_boards as boards
 from board_model import LARGEST
-from judging import AFFORDABLE
 from program import LARGEST_HANDED
-from running import SHOWN, total
+from running import ALLOWANCES, SHOWN, total
 
 LONGEST_LOG = 65_536
 MUCH = 20_000  # the allowance that efforts are asked with, of boards with many chains
-RUN_MUCH = 500  # and that a run has on such a board
 NAMED = program.HANDED_BITS  # a state that a case hands in has relays and buttons below this
 ROUNDS = 6  # so often a run that fills the log that is shown goes on from the state left
 OFTEN = 10  # each answer occurs at least so many times
@@ -41,21 +43,21 @@ SPENT = re.compile(rf"ran spent {SHOWN} (\d+) (\d+) ")
 
 SORTS = [boards.feeding, boards.feeding, boards.web, boards.web, boards.buzzing, boards.conflicting, boards.every_kind, boards.crowded]
 SORTS += [boards.largest, lambda dice: boards.counting(dice, dice.randint(2, 8), dice.randint(0, 3)), lambda dice: boards.diamonds(dice, dice.randint(0, 12))[0]]
-SORTS += [lambda dice: boards.dense(dice, dice.randint(4, 9)), boards.shunting]
+SORTS += [lambda dice: boards.dense(dice, dice.randint(4, 9)), boards.shunting, dividing.board, dividing.board]
 
 
 class Asked:
     """A fine board and a state, and which windings it has there: each as its relay, whether it is the second, and its effort,
     None for one beyond the allowance that it was asked with."""
 
-    def __init__(self, dice, sort):
-        self.counts, self.parts = sort(dice)
-        drawn, pushed = judging.state(dice, *(min(count, NAMED - 1) for count in self.counts[1:]), NAMED)
-        self.drawn, self.pushed = ({name for name in names if name < NAMED} for names in (drawn, pushed))
-        self.windings = []
+    def __init__(self, counts, parts, drawn, pushed):
+        self.counts, self.parts, self.drawn, self.pushed, self.windings = counts, parts, drawn, pushed, []
+
+    def typed(self, relay, second, more, ending):
+        return judging.typed((self.counts, self.parts, self.drawn, self.pushed, relay, int(second)), more, ending)
 
     def judgement(self, relay, second, allowance):
-        return judging.case(self.counts, self.parts, self.drawn, self.pushed, relay, int(second), allowance)
+        return self.typed(relay, second, [allowance], "@")
 
     def every_judgement(self):
         """Each relay's first and second winding."""
@@ -70,9 +72,12 @@ class Asked:
     def is_large(self):
         return any(effort is None for _, _, effort in self.windings)
 
-    def much(self):
-        """Much allowance for a run."""
-        return RUN_MUCH if self.is_large() else LARGEST_HANDED
+
+def some_board(dice, sort):
+    """A board of a sort in some state."""
+    counts, parts = sort(dice)
+    drawn, pushed = judging.state(dice, *(min(count, NAMED - 1) for count in counts[1:]), NAMED)
+    return Asked(counts, parts, *({name for name in names if name < NAMED} for names in (drawn, pushed)))
 
 
 def second(cases):
@@ -81,8 +86,10 @@ def second(cases):
 
 
 def asked_boards(dice, count):
-    """So many boards and states, with the efforts of their windings, which the second program is asked for."""
-    found = [Asked(dice, SORTS[number % len(SORTS)]) for number in range(count)]
+    """So many boards and states, and those worked out by hand, with the efforts of their windings, which the second program is asked
+    for."""
+    found = [some_board(dice, SORTS[number % len(SORTS)]) for number in range(count)]
+    found += [Asked(*own.asked[:4]) for own in feed_boards.every_one()]
     every = [each for own in found for each in own.every_judgement()]
     for (own, relay, is_second), line in zip(every, second(own.judgement(relay, is_second, MUCH) for own, relay, is_second in every)):
         if (form := SHOWING.match(line)) or line.startswith("judged undecided"):
@@ -90,45 +97,54 @@ def asked_boards(dice, count):
     return found
 
 
-def around(effort, largest):
+def around(effort):
     """Allowances around an effort, the least and the largest."""
-    return [0, 1, 5, MUCH - 1] if effort is None else sorted({0, 1, max(effort - 1, 0), effort, effort + 1, largest})
+    return [0, 1, 5, MUCH - 1] if effort is None else sorted({0, 1, max(effort - 1, 0), effort, effort + 1, LARGEST})
 
 
 def judgements(dice, own):
     """Judgements of some windings of a board, and of windings that are not there."""
     relays = own.counts[1]
     for relay, is_second, effort in dice.sample(own.windings, min(3, len(own.windings))):
-        yield from (own.judgement(relay, is_second, allowance) for allowance in around(effort, LARGEST))
+        yield from (own.judgement(relay, is_second, allowance) for allowance in around(effort))
     for relay in {dice.randrange(max(relays, 1)), relays, dice.choice([relays + 1, 255, 256, LARGEST])}:
         yield own.judgement(relay, dice.random() < 0.5, dice.choice([0, 1, MUCH if own.is_large() else LARGEST]))
+
+
+def at_once(dice, own):
+    """Judgements without an allowance of each winding of a board and of some that are not there, and checks of terminals on the
+    board and beyond it."""
+    terminals, relays = own.counts[:2]
+    absent = [(relays, False), (dice.choice([relays + 1, 255, 256, LARGEST]), True), (dice.randrange(max(relays, 1)), True)]
+    for relay, is_second in [each[:2] for each in own.windings] + absent:
+        yield own.typed(relay, is_second, [], "!")
+        for x in {0, 1, dice.randrange(terminals), terminals - 1, dice.choice([terminals, *dividing.BEYOND])}:
+            yield own.typed(relay, is_second, [x], "?")
 
 
 def moves(dice, own):
     """Single moves of some relays, and of one that is not there."""
     relays = own.counts[1]
-    for relay, _, effort in dice.sample(own.windings, min(2, len(own.windings))):
-        yield from (own.handed([relay, allowance], "^") for allowance in around(effort, AFFORDABLE))
+    for relay, _, _ in dice.sample(own.windings, min(2, len(own.windings))):
+        yield from (own.handed([relay, allowance], "^") for allowance in ALLOWANCES)
     yield own.handed([dice.choice([relays, relays + 1, 256, LARGEST_HANDED]), dice.choice([0, 100])], "^")
 
 
 def runs(dice, own, line):
-    """Runs from the board's state, given the line of one with much allowance: logs of 0, 1 and around its moves, allowances
-    around an effort, and a log that is too long."""
-    much = own.much()
+    """Runs from the board's state, given the line of one: logs of 0, 1 and around its moves, each with some allowance, and a log
+    that is too long."""
     made = int(line.split()[2]) if "refused" not in line else 0
     for room in sorted({0, 1, 2, max(made - 1, 0), made, made + 1, SHOWN, dice.choice([3, 100, LONGEST_LOG + 1])}):
-        yield own.run(much, room)
-    for _, _, effort in dice.sample(own.windings, min(1, len(own.windings))):
-        yield from (own.run(min(allowance, much), dice.choice([0, 1, made, SHOWN])) for allowance in around(effort, much))
+        yield own.run(dice.choice(ALLOWANCES), room)
+    yield from (own.run(allowance, dice.choice([0, 1, made, SHOWN])) for allowance in ALLOWANCES)
     if made < SHOWN and dice.random() < 0.1:
-        yield own.run(much, LONGEST_LOG)
+        yield own.run(LARGEST_HANDED, LONGEST_LOG)
 
 
 def going_on(found):
     """Runs that fill the log that is shown, each going on from the state that the second program left, so that the log is seen
     for some hundred moves."""
-    cases, every = [own.run(own.much(), SHOWN) for own in found], []
+    cases, every = [own.run(LARGEST_HANDED, SHOWN) for own in found], []
     for _ in range(ROUNDS):
         lines = second(cases)
         spent = [(case, form) for case, line in zip(cases, lines) if (form := SPENT.match(line))]
@@ -149,14 +165,15 @@ def broken(dice, own):
 
 
 def hostile_files(dice, count):
-    """Judgements on damaged files that are refused, and on fine ones of tests/board_files.py."""
+    """Judgements and checks on damaged files that are refused, and on fine ones of tests/board_files.py."""
     for _ in range(count):
-        data = board_files.file_case(dice)
+        data, ending = board_files.file_case(dice), dice.choice("@!?")
         try:
             if board_model.read(data)[0] == len(data):
-                yield (data + bytes([0, 0, dice.choice([0, 1, 31]), dice.randrange(2), dice.choice([0, 1, 100])])).hex() + "@\n"
+                last = [] if ending == "!" else [dice.choice([0, 1, 100])]
+                yield (data + bytes([0, 0, dice.choice([0, 1, 31]), dice.randrange(2)] + last)).hex() + ending + "\n"
         except board_model.Refused:
-            yield data.hex() + "@\n"
+            yield data.hex() + ending + "\n"
 
 
 def handed_boards(dice, count):
@@ -171,8 +188,9 @@ def every_case(seed, count):
     """The cases of each program."""
     dice = random.Random(seed)
     found = asked_boards(dice, count)
-    lines = second(own.run(own.much(), SHOWN) for own in found)
-    judged = [case for own in found for case in judgements(dice, own)] + list(hostile_files(dice, 2 * count))
+    lines = second(own.run(LARGEST_HANDED, SHOWN) for own in found)
+    judged = [case for own in found for part in (judgements(dice, own), at_once(dice, own)) for case in part]
+    judged += hostile_files(dice, 4 * count)
     ran = [case for own, line in zip(found, lines) for part in (moves(dice, own), runs(dice, own, line), broken(dice, own), broken(dice, own)) for case in part]
     return judged, ran + going_on(found) + list(handed_boards(dice, count))
 
@@ -197,8 +215,10 @@ def occurring(lines):
     for word, count in sorted(counts.items()):
         print(f"{count:7} {word}")
     known = [f"judged {word}" for word in ("live", "dead", "undecided", "refused 11", "refused 14")] + ["refused"]
-    known += [f"moved {word}" for word in ("drew", "dropped", "rests", "undecided", "conflict", "refused 11", "refused 14", "refused 15")]
-    known += [f"ran {word}" for word in ("idle", "spent", "undecided", "conflict", "refused 13", "refused 14", "refused 15")]
+    known += [f"told {word}" for word in ("live", "shunted", "dead", "refused 11", "refused 14")]
+    known += [f"checked {word}" for word in ("divides", "does", "refused 11", "refused 14", "refused 19")]
+    known += [f"moved {word}" for word in ("drew", "dropped", "rests", "conflict", "refused 11", "refused 14", "refused 15")]
+    known += [f"ran {word}" for word in ("idle", "spent", "conflict", "refused 13", "refused 14", "refused 15")]
     for word in known:
         yield f"{word} occurs {counts[word]} times, at least {OFTEN}", counts[word] >= OFTEN
     shunted = lines.count("judged dead 0")

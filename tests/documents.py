@@ -34,9 +34,10 @@ whole = sum(int(count) for _, count in rows)
 stated = re.findall(r"^Part one: ([\d,]+) lines of ([\d,]+)\.", page, re.M)
 checks.append((f"docs/READING.md: part one has {first:,} lines of {whole:,}, not {stated}", stated == [(f"{first:,}", f"{whole:,}")]))
 
-# The rows of the starred table: each begins with the call that it is of.
-table = repository.text("crates", "demands", "specs", "Starred.antt").split("\nstarred =\n")[1]
-count = len(re.findall(r"^    (?:∷ )?(?:reads|judges|judged|moves|moved|runs|ran|pressed|prints) ", table, re.M))
+# The rows of the starred table: each begins with the call that it is of, which makes a `Row`.
+makers, table = repository.text("crates", "demands", "specs", "Starred.antt").split("\nstarred =\n")
+calls = "|".join(re.findall(r"^(?:  |abbrev pub )(\w+) : .* → Row$", makers, re.M))
+count = len(re.findall(rf"^    (?:∷ )?(?:{calls}) ", table, re.M))
 checks.append((f"docs/READING.md: the starred table has {count} calls", f'"Boards to try", {count} calls with their answers' in page))
 
 # A law is named after the file that proves it: `crate/proofs/File.antt`: `law`, `law`.

@@ -18,7 +18,6 @@ import repository
 import shunt_boards
 from board_model import LARGEST, NARROW
 
-AFFORDABLE = 2_097_151  # an allowance that there is time for, however many chains a board has
 MOST_CHAINS = 200_000  # of boards with more only shunted windings are judged
 STACK = 2 * 1024 * 1024
 SHARE = 0.15  # of the windings that are judged at least so many are live, so many dead by their chains, and so many shunted
@@ -109,9 +108,9 @@ def parted(dice, terminals, joined, ends):
     return others, across + dice.sample(others, min(len(others), len(across))) or ends
 
 
-def board(dice):
-    """The counts T, R, B and the parts of some fine board."""
-    terminals, joined, ends = dice.choice(SORTS)(dice)
+def board(dice, sorts=None):
+    """The counts T, R, B and the parts of some fine board, of these sorts or of any here."""
+    terminals, joined, ends = dice.choice(sorts or SORTS)(dice)
     sort = dice.random()
     if sort < 0.3 and terminals < 64:  # about half of the windings hang on a terminal of their own, and are dead
         ends = ends + [[dice.randrange(terminals), terminals]] * len(ends)
@@ -132,11 +131,17 @@ def state(dice, relays, buttons, names=32):
     return drawn, pushed
 
 
-def case(counts, parts, drawn, pushed, relay, which, allowance, sets=None):
-    """The text of a judgement, with these kept sets or the board's own."""
-    numbers = [sum(2**name for name in drawn), sum(2**name for name in pushed), relay, which, allowance]
+def typed(asked, more, ending, sets=None):
+    """The text of a case: what is asked of a board, some numbers more and the ending, with these kept sets or the board's own."""
+    counts, parts, drawn, pushed, relay, which = asked
+    numbers = [sum(2**name for name in drawn), sum(2**name for name in pushed), relay, which, *more]
     data = board_model.file_of(counts, parts) + bytes(byte for number in numbers for byte in board_model.number_bytes(number))
-    return kept_model.typed(sets) + data.hex() + "@\n"
+    return kept_model.typed(sets) + data.hex() + ending + "\n"
+
+
+def case(counts, parts, drawn, pushed, relay, which, allowance, sets=None):
+    """The text of a judgement by chains."""
+    return typed((counts, parts, drawn, pushed, relay, which), [allowance], "@", sets)
 
 
 def carried(asked, found):
@@ -159,13 +164,17 @@ def around(effort):
     return {0, 1, max(effort - 1, 0), effort, effort + 1, LARGEST}
 
 
+def some_winding(dice, relays):
+    """A relay and which of its windings; seldom a relay that is not there."""
+    there = dice.randrange(max(relays, 1))
+    relay = dice.choice([there] * 6 + [relays, there + 2 ** dice.choice(NARROW), LARGEST])
+    return relay, dice.choice([0] * 4 + [1, 1, 2, LARGEST])
+
+
 def judgements(dice, counts, parts, seen):
     """Judgements of some winding on a board, with the line that each should print; counts what is seen of it."""
     drawn, pushed = state(dice, counts[1], counts[2])
-    there = dice.randrange(max(counts[1], 1))
-    relay = dice.choice([there] * 6 + [counts[1], there + 2 ** dice.choice(NARROW), LARGEST])
-    which = dice.choice([0] * 4 + [1, 1, 2, LARGEST])
-    asked = counts, parts, drawn, pushed, relay, which
+    asked = counts, parts, drawn, pushed, *some_winding(dice, counts[1])
     numbers = model.against(*asked)
     if numbers:
         return [(case(*asked, dice.choice([0, 1, 100, LARGEST])), f"judged refused {numbers[0]}")]

@@ -25,8 +25,9 @@ import run_model as model
 import running
 from judge_model import MARK, MINUS, PLUS
 from program import LARGEST_HANDED
-from running import MOST_CHAINS, total
+from running import total
 
+MOST_CHAINS = 400  # of boards with more only shunted windings are judged by their chains
 OFTEN = 20  # each sort of sets, and each order of two numbers, occurs so often
 OFF_BY_ONE = ["one too few", "one too many", "at an untouched terminal", "an untouched neighbour"]  # untouched, of the board
 OFF_BY_ONE += ["at a terminal beyond the board", "a neighbour beyond the board"]
@@ -48,11 +49,14 @@ def board(dice):
 
 
 def judgement(own, drawn, pushed, relay, which, belong, sets):
-    """A judgement: the numbers that stand against it, its text, and the line that it should print."""
+    """A judgement by chains: the numbers that stand against it, its text, and the line that it should print; none where there are
+    too many chains."""
     asked = own.counts, own.parts, drawn, pushed, relay, which
     numbers = judge_model.against(*asked, belong)
-    verdict = f"refused {numbers[0]}" if numbers else judge_model.verdict(*judge_model.effort(*asked, MOST_CHAINS), LARGEST_HANDED)
-    return numbers, judging.case(*asked, LARGEST_HANDED, sets), f"judged {verdict}"
+    effort, chain = (None, None) if numbers else judge_model.effort(*asked, MOST_CHAINS)
+    if numbers or effort is not None:
+        verdict = f"refused {numbers[0]}" if numbers else judge_model.verdict(effort, chain, LARGEST_HANDED)
+        yield numbers, judging.case(*asked, LARGEST_HANDED, sets), f"judged {verdict}"
 
 
 def calls(dice, own, drawn, pushed, sets):
@@ -77,11 +81,10 @@ def broken_calls(dice, own, drawn, pushed, sets):
 def of_state(dice, own, seen):
     """The judgements in some state of a board, and the other calls, with sets of every sort; counts what is seen of them."""
     drawn, pushed = judging.state(dice, own.counts[1], own.counts[2], program.HANDED_BITS)
-    own.efforts(drawn, pushed)
     judged, called = [], []
     for sort, sets in kept_model.every_sort(dice, own.counts, own.parts, drawn, pushed):
         belong = own.belong(sets, drawn, pushed)
-        asked = [judgement(own, drawn, pushed, dice.randint(0, own.counts[1]), dice.randrange(2), belong, sets)]
+        asked = list(judgement(own, drawn, pushed, dice.randint(0, own.counts[1]), dice.randrange(2), belong, sets))
         others = list(calls(dice, own, drawn, pushed, sets))
         seen[sort, belong] += not judge_model.beyond(own.counts, drawn, pushed)
         seen.update((numbers[0], number) for numbers, _, _ in asked + others for number in numbers[1:])
@@ -109,11 +112,7 @@ def met(seen):
 def compare(seed, count):
     dice, judged, called, seen = random.Random(seed), [], [], collections.Counter()
     for _ in range(count):
-        own = model.Board(*board(dice), MOST_CHAINS)
-        try:
-            of_judging, of_calls = of_state(dice, own, seen)
-        except model.TooManyChains:
-            continue
+        of_judging, of_calls = of_state(dice, model.Board(*board(dice)), seen)
         judged += of_judging
         called += of_calls
     return compared("current_cases", judged) + compared("run_cases", called) + list(met(seen))

@@ -87,8 +87,8 @@ front = repository.text("crates", "demands", "specs", "EveryCallComesBack.antt")
 bodies = {name: front.partition(f"pub record {name} ")[2].partition("\n\n")[0] for name in ("InOrder", "AsLent", "EveryCallComesBack")}
 checks.append(("the list is a field of demand 1", " : OneAnswer\n" in bodies["EveryCallComesBack"]))
 # What the calls that refuse promise, each with a row for the order of its refusals and one for what it leaves; that of `read` has
-# its order as `FileRefused`, and `read_number` is lent nothing.
-for relation in REFUSING:
+# its order as `FileRefused`, and `read_number` is lent nothing, nor are `divide`'s `judge` and `check`, which refuse by number alone.
+for relation in REFUSING + ["JudgesAtOnce", "ChecksTerminal"]:
     checks.append((f"InOrder has a row for {relation}", re.search(rf"→ {relation} ", bodies["InOrder"]) is not None))
 for relation in REFUSING + ["Reads"]:
     checks.append((f"AsLent has a row for {relation}", re.search(rf"→ {relation} ", bodies["AsLent"]) is not None))

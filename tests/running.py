@@ -2,17 +2,19 @@
 pushes, releases, single moves and runs, with the kept sets that each hands back: relays that feed each other by their
 contacts, in sequence and in rings, relays that hold themselves, steel relays fed by buttons and contacts, relays that are
 shunted, and the boards of tests/judging.py, with marks and without; states within and beyond the board, relays that are
-there and that are not, allowances around the efforts, logs around the number of moves; and the boards of
-tests/lib/shunt_boards.py. Of the program's own answers it compares any two runs from one board and state: the one with no
-shorter log and no less allowance starts with every move of the other, and is the same if that one ended idle or in
-conflict. Seeded, so each run tries the same cases; `python3 tests/running.py SEED BOARDS` tries others, or more (it is 1
-and 130 else). Needs target/bin/run_cases, which `rt check run_cases` builds."""
+there and that are not, allowances from 0 to the largest, none of which may be heeded, logs around the number of moves; the
+boards of tests/lib/shunt_boards.py; and boards worked out by hand, some with more chains than any allowance
+(tests/lib/feed_boards.py). Of the program's own answers it compares any two runs from one board and state: the one with no
+shorter log starts with every move of the other, and is the same if that one ended idle or in conflict. Seeded, so each run tries
+the same cases; `python3 tests/running.py SEED BOARDS` tries others, or more (it is 1 and 130 else). Needs target/bin/run_cases,
+which `rt check run_cases` builds."""
 import itertools
 import os
 import random
 import sys
 
 sys.path.insert(0, os.path.join(os.path.dirname(os.path.abspath(__file__)), "lib"))
+import feed_boards
 import judge_model
 import judging
 import kept_model
@@ -20,14 +22,15 @@ import program
 import repository
 import run_model as model
 import shunt_boards
+from divide_model import LIVE, SHUNTED
 from judge_model import BUTTON, DRAWING, DROPPING, LOWER, MARK, MINUS, PLUS, REGULAR, UPPER
 from program import LARGEST_HANDED
 
-MOST_CHAINS = 400  # states with more, and runs that come to one, are left out
 MANY_MOVES = 200  # a run that makes so many is taken for one that never ends
 SHOWN = 40  # the program prints so many moves of a log
 # A refused call by its ending, with its number and the state.
 REFUSED = {"+": "pressed refused {} {}", "-": "pressed refused {} {}", "^": "moved refused {} {}", "=": "ran refused {} 0 {} 255:"}
+ALLOWANCES = [0, 1, 5, LARGEST_HANDED]  # none of which a move or a run heeds
 OFTEN = 10  # so many relays that are judged have a shunt, of each sort
 
 
@@ -163,7 +166,7 @@ def press_case(own, drawn, pushed, button, is_push, sets=None):
 def move_case(own, drawn, pushed, relay, allowance, sets=None):
     """A single move, with the line that it should print."""
     numbers = model.against(own, drawn, pushed, own.belong(sets, drawn, pushed), relay=relay)
-    word, after = (f"refused {numbers[0]}", drawn) if numbers else model.move(own, drawn, pushed, relay, allowance)
+    word, after = (f"refused {numbers[0]}", drawn) if numbers else model.move(own, drawn, pushed, relay)
     line = f"moved {word} {total(after)} {total(pushed)}" + left(own, (drawn, pushed), sets, (after, pushed), numbers)
     return case(own, (drawn, pushed), [relay, allowance], "^", sets), line
 
@@ -172,14 +175,9 @@ def run_case(own, drawn, pushed, allowance, room, sets=None):
     """A run, with the line that it should print."""
     numbers = model.against(own, drawn, pushed, own.belong(sets, drawn, pushed), room=room)
     unrun = f"refused {numbers[0]}" if numbers else "", [], drawn, model.NO_RELAY
-    word, log, after, relay = unrun if numbers else model.run(own, drawn, pushed, allowance, room)
+    word, log, after, relay = unrun if numbers else model.run(own, drawn, pushed, room)
     line = " ".join([f"ran {word} {len(log)} {total(after)} {total(pushed)} {relay}:"] + [str(byte) for byte in log[:SHOWN]])
     return case(own, (drawn, pushed), [allowance, room], "=", sets), line + left(own, (drawn, pushed), sets, (after, pushed), numbers)
-
-
-def around(efforts):
-    """The least allowances and the largest, and those around these efforts."""
-    return sorted({0, 1, LARGEST_HANDED}.union(*({max(effort - 1, 0), effort, effort + 1} for effort in efforts)))
 
 
 def moves(dice, own, drawn, pushed):
@@ -188,24 +186,21 @@ def moves(dice, own, drawn, pushed):
     found = [move_case(own, drawn, pushed, dice.choice([relays, relays + 1, LARGEST_HANDED]), dice.choice([0, LARGEST_HANDED]))]
     if relays:
         relay = dice.randrange(relays)
-        efforts = [] if model.against(own, drawn, pushed) else [effort for effort, _ in own.efforts(drawn, pushed)[relay]]
-        found += [move_case(own, drawn, pushed, relay, allowance) for allowance in around(efforts)]
+        found += [move_case(own, drawn, pushed, relay, allowance) for allowance in ALLOWANCES]
     return found
 
 
 def runs(dice, own, drawn, pushed):
-    """Runs from a state, each with its allowance and the room in its log."""
+    """Runs from a state, each with the room in its log."""
     if model.against(own, drawn, pushed):
-        asked = [(0, 5), (LARGEST_HANDED, model.LONGEST_LOG + 1)]
+        rooms = [5, model.LONGEST_LOG + 1]
     else:
-        made = len(model.run(own, drawn, pushed, LARGEST_HANDED, MANY_MOVES)[1])
+        made = len(model.run(own, drawn, pushed, MANY_MOVES)[1])
         rooms = sorted({0, 1, 2, max(made - 1, 0), made, made + 1, SHOWN})
         if made < MANY_MOVES and dice.random() < 0.2:
             rooms += [model.LONGEST_LOG, model.LONGEST_LOG + 1]
-        efforts = {effort for state in own.known.values() for windings in state for effort, _ in windings}
-        tight = around(dice.sample(sorted(efforts), min(2, len(efforts))))
-        asked = [(LARGEST_HANDED, room) for room in rooms] + [(allowance, dice.choice(rooms)) for allowance in tight]
-    return [(run_case(own, drawn, pushed, *each), each) for each in asked]
+        rooms += dice.choices(rooms, k=3)
+    return [(run_case(own, drawn, pushed, dice.choice(ALLOWANCES), room), room) for room in rooms]
 
 
 def long_runs(dice):
@@ -214,23 +209,22 @@ def long_runs(dice):
     ring = wired(dice, 3, 0, [(REGULAR, relay, [[[LOWER, (relay + 1) % 3]]]) for relay in range(3)])
     most = wired(dice, 32, 1, [(REGULAR, relay, [[[UPPER, relay + 1]]]) for relay in range(31)] + [(REGULAR, 31, [[[BUTTON, 0]]])])
     boards = [(h3, set()), (ring, set()), (most, {0})]
-    return [run_case(model.Board(*own, MOST_CHAINS), set(), pushed, LARGEST_HANDED, model.LONGEST_LOG) for own, pushed in boards]
+    return [run_case(model.Board(*own), set(), pushed, LARGEST_HANDED, model.LONGEST_LOG) for own, pushed in boards]
 
 
-def shunt_cases():
-    """Moves and runs on the boards with shunts."""
-    found = []
-    for each in shunt_boards.every_one():
+def boards_by_hand():
+    """Moves and runs on the boards worked out by hand, some with more chains than any allowance, at each allowance."""
+    for each in shunt_boards.every_one() + feed_boards.every_one():
         counts, parts, drawn, pushed, relay, _ = each.asked
-        own = model.Board(counts, parts, MOST_CHAINS)
-        for allowance in around([each.effort]):
-            found += [move_case(own, drawn, pushed, relay, allowance), run_case(own, drawn, pushed, allowance, SHOWN)]
-    return found
+        own = model.Board(counts, parts)
+        for allowance in ALLOWANCES:
+            yield move_case(own, drawn, pushed, relay, allowance)
+            yield run_case(own, drawn, pushed, allowance, SHOWN)
 
 
 def goes_on(less, more):
-    """Whether the second line, of a run that is no less generous, starts with every move of the first, and is the same if
-    that one ended idle or in conflict."""
+    """Whether the second line, of a run with no shorter log, starts with every move of the first, and is the same if that one
+    ended idle or in conflict."""
     (counts, log), (more_counts, more_log) = ([part.split() for part in kept_model.unsaid(line).split(":")] for line in (less, more))
     if counts[1] in ("idle", "conflict"):
         return more == less
@@ -238,10 +232,10 @@ def goes_on(less, more):
 
 
 def disagreeing(group):
-    """The runs from one board and state, each as what was asked and the line printed, that break demand 3."""
-    taken = [(asked, line) for asked, line in group if line and line.startswith("ran ") and "refused" not in line]
+    """The runs from one board and state, each as the room in its log and the line printed, that break demand 3."""
+    taken = [(room, line) for room, line in group if line and line.startswith("ran ") and "refused" not in line]
     pairs = itertools.permutations(taken, 2)
-    return [(less, more) for less, more in pairs if all(a <= b for a, b in zip(less[0], more[0])) and not goes_on(less[1], more[1])]
+    return [(less, more) for less, more in pairs if less[0] <= more[0] and not goes_on(less[1], more[1])]
 
 
 def presses(dice, own):
@@ -256,9 +250,9 @@ def met(found):
     """Whether what must occur does."""
     for word in ("done", "refused 7", "refused 12", "refused 14"):
         yield f"some press is {word}", any(line.startswith("pressed " + word) for _, line in found)
-    for word in ("drew", "dropped", "rests", "undecided", "conflict", "refused 11", "refused 14"):
+    for word in ("drew", "dropped", "rests", "conflict", "refused 11", "refused 14"):
         yield f"some move is {word}", any(line.startswith("moved " + word) for _, line in found)
-    for word in ("idle", "spent", "undecided", "conflict", "refused 13", "refused 14"):
+    for word in ("idle", "spent", "conflict", "refused 13", "refused 14"):
         yield f"some run is {word}", any(line.startswith("ran " + word) for _, line in found)
     made = [kept_model.unsaid(line).split() for _, line in found if line.startswith("ran ") and "refused" not in line]
     yield "some run is idle after 3 moves or more", any(words[1] == "idle" and int(words[2]) >= 3 for words in made)
@@ -268,9 +262,9 @@ def met(found):
 def shunts_met(boards):
     """Whether enough relays have a shunt in the states that these boards came to."""
     regular, steel = 0, 0
-    for (drawn, _), relays in (state for own in boards for state in own.known.items()):
-        regular += sum(windings == [model.SHUNTED] and relay in drawn for relay, windings in enumerate(relays))
-        steel += sum(model.SHUNTED in windings and any(is_live for _, is_live in windings) for windings in relays)
+    for ((drawn, _), relay), windings in (each for own in boards for each in own.known.items()):
+        regular += windings == [SHUNTED] and relay in drawn
+        steel += SHUNTED in windings and LIVE in windings
     yield f"{regular} drawn regular relays are shunted, at least {OFTEN}", regular >= OFTEN
     yield f"of {steel} steel relays one winding is shunted and one live, at least {OFTEN}", steel >= OFTEN
 
@@ -278,22 +272,19 @@ def shunts_met(boards):
 def compare(seed, count):
     dice, found, groups, boards = random.Random(seed), [], [], []
     for _ in range(count):
-        own = model.Board(*board(dice), MOST_CHAINS)
+        own = model.Board(*board(dice))
         boards.append(own)
         for _ in range(2):
             drawn, pushed = judging.state(dice, own.counts[1], own.counts[2], program.HANDED_BITS)
-            try:
-                of_moves, of_runs = moves(dice, own, drawn, pushed), runs(dice, own, drawn, pushed)
-            except model.TooManyChains:
-                continue
-            groups.append((len(found) + len(of_moves), [asked for _, asked in of_runs]))
+            of_moves, of_runs = moves(dice, own, drawn, pushed), runs(dice, own, drawn, pushed)
+            groups.append((len(found) + len(of_moves), [room for _, room in of_runs]))
             found += of_moves + [each for each, _ in of_runs]
-    found += long_runs(dice) + shunt_cases() + [each for own in boards for each in presses(dice, own)]
+    found += long_runs(dice) + list(boards_by_hand()) + [each for own in boards for each in presses(dice, own)]
     cases, wanted = zip(*found)
     told = program.answers(program.command("run_cases"), cases)
     checks = program.compared(cases, wanted, told)
-    for start, asked in groups:
-        wrong = disagreeing(list(zip(asked, told[start:])))
+    for start, rooms in groups:
+        wrong = disagreeing(list(zip(rooms, told[start:])))
         checks.append((f"{found[start][0].strip()}: of two runs from this state the one goes on as the other did: {wrong}", not wrong))
     return checks + list(met(found)) + list(shunts_met(boards))
 

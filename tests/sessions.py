@@ -27,11 +27,11 @@ SHOWN = 300  # characters of an answer in a message
 SESSION_SHOWN = 2_200  # and of a session: those with few events are shown whole
 ALONE = 6  # of each sort, so many sessions are given to the program itself, one to a process
 OFTEN = 10  # each word and refusal occurs at least so many times
-WORDS = ("idle", "spent", "undecided", "conflict")
+WORDS = ("idle", "spent", "conflict")
 FILE_REFUSALS = (*range(1, 10), 17, 10)
 EVENT_REFUSALS = (1, 2, 7)  # 12 has a line of its own form
 PLACES = 4  # each refusal but 10, the last, occurs at so many places
-RUN_LINE = re.compile(rb"(\d+) (idle|spent|undecided|conflict) (\d+) (\d+)")
+RUN_LINE = re.compile(rb"(\d+) (idle|spent|conflict) (\d+) (\d+)")
 DOUBLE_LINE = re.compile(rb"(\d+) refused 12")
 REFUSED_LINE = re.compile(rb"refused (\d+) (\d+)")
 
@@ -91,7 +91,7 @@ class Seen:
         self.words[word] += 1
         if moves > 0:
             self.words["a move after a run that stopped"] += stopped
-            self.words["undecided or conflict after a move"] += word in ("undecided", "conflict")
+            self.words["conflict after a move"] += word == "conflict"
             self.words["idle after 3 moves or more"] += word == "idle" and moves >= 3
 
     def refused(self, what, number, place):
@@ -102,7 +102,7 @@ class Seen:
     def checks(self):
         """That all that must occur does, and nothing else."""
         known = [f"file refused {number}" for number in FILE_REFUSALS] + [f"event refused {number}" for number in EVENT_REFUSALS]
-        known += [*WORDS, "event refused 12", "idle after 3 moves or more", "a move after a run that stopped", "undecided or conflict after a move"]
+        known += [*WORDS, "event refused 12", "idle after 3 moves or more", "a move after a run that stopped", "conflict after a move"]
         known += ["drawn from the start, without a move"]
         for word in known:
             yield f"{word} occurs {self.words[word]} times, at least {OFTEN}", self.words[word] >= OFTEN

@@ -1,15 +1,16 @@
 //! The calls, each with what it is handed: a board, a state, and what is asked.
 //!
 //! Renders, of "Numbers for no", lines 11, 13, 14 and 15 in the order of calls
-//! (15, 14, 13, 11), and what a refused call returns. Under 15 is also what
-//! request A2 asks of a board. What is handed in may break any rule; what was
-//! accepted is a `Board` and a `State`.
+//! (15, 14, 13, 11), and what a refused call returns; and 19 of request A6,
+//! after 11. Under 15 is also what request A2 asks of a board. What is handed
+//! in may break any rule; what was accepted is a `Board` and a `State`.
 
 use crate::board::{Board, Ends, Kind, Part, State, Windings};
 use crate::board::{MOST_BUTTONS, MOST_PARTS, MOST_RELAYS, MOST_TERMINALS};
 use crate::judge::{judge, Judgement};
 use crate::moves::{move_relay, Answer};
 use crate::runs::{run, RunAnswer, Word, NO_RELAY};
+use crate::tell::{divides, tell, Told};
 
 /// The longest log that a run takes.
 const LONGEST_LOG: usize = 65_536;
@@ -37,6 +38,9 @@ pub struct HandedState {
     pub drawn: u64,
     pub pushed: u64,
 }
+
+/// Which winding is asked about: a relay, and whether it is its second one.
+pub type Asked = (u32, bool);
 
 /// What a move answers: the word or the number for no, and the state.
 pub type Moved = (Result<Answer, No>, HandedState);
@@ -148,7 +152,7 @@ fn accepted(board: &HandedBoard, state: HandedState) -> Result<(Board, State), N
 }
 
 /// The ends of a relay's first or second winding; 11 where there is none.
-fn winding(board: &Board, relay: u32, is_second: bool) -> Result<Ends, No> {
+fn winding(board: &Board, (relay, is_second): Asked) -> Result<Ends, No> {
     match (board.windings(relay as usize), is_second) {
         (Some(Windings::Regular(ends)), false) => Ok(ends),
         (Some(Windings::Steel { drawing, .. }), false) => Ok(drawing),
@@ -157,20 +161,42 @@ fn winding(board: &Board, relay: u32, is_second: bool) -> Result<Ends, No> {
     }
 }
 
-/// Judges a relay's first or second winding with the allowance `w`.
+/// Judges a winding by the chains, with the allowance `w`.
 pub fn judge_call(
     board: &HandedBoard,
     state: HandedState,
-    (relay, is_second): (u32, bool),
+    asked: Asked,
     w: u32,
 ) -> Result<Judgement, No> {
     let (board, state) = accepted(board, state)?;
-    let ends = winding(&board, relay, is_second)?;
+    let ends = winding(&board, asked)?;
     Ok(judge(&board, &state, ends, w))
 }
 
-/// Moves a named relay, if it moves.
-pub fn move_call(board: &HandedBoard, handed: HandedState, relay: u32, w: u32) -> Moved {
+/// Judges a winding without an allowance.
+pub fn tell_call(board: &HandedBoard, state: HandedState, asked: Asked) -> Result<Told, No> {
+    let (board, state) = accepted(board, state)?;
+    let ends = winding(&board, asked)?;
+    Ok(tell(&board, &state, ends))
+}
+
+/// Checks whether the terminal `x` divides a winding.
+pub fn check_call(
+    board: &HandedBoard,
+    state: HandedState,
+    asked: Asked,
+    x: u32,
+) -> Result<bool, No> {
+    let (board, state) = accepted(board, state)?;
+    let ends = winding(&board, asked)?;
+    if x as usize >= board.terminals {
+        return Err(19);
+    }
+    Ok(divides(&board, &state, ends, x as usize))
+}
+
+/// Moves a named relay, if it moves. The allowance is not heeded.
+pub fn move_call(board: &HandedBoard, handed: HandedState, relay: u32, _w: u32) -> Moved {
     let (board, state) = match accepted(board, handed) {
         Ok(both) => both,
         Err(number) => return (Err(number), handed),
@@ -178,18 +204,18 @@ pub fn move_call(board: &HandedBoard, handed: HandedState, relay: u32, w: u32) -
     if relay as usize >= board.relays {
         return (Err(11), handed);
     }
-    let (answer, left) = move_relay(&board, state, relay as usize, w);
+    let (answer, left) = move_relay(&board, state, relay as usize);
     (Ok(answer), HandedState::of(&left))
 }
 
-/// Runs a board over the lent log.
-pub fn run_call(board: &HandedBoard, handed: HandedState, w: u32, log: &mut [u8]) -> Ran {
+/// Runs a board over the lent log. The allowance is not heeded.
+pub fn run_call(board: &HandedBoard, handed: HandedState, _w: u32, log: &mut [u8]) -> Ran {
     let both = accepted(board, handed).and_then(|both| match log.len() {
         0..=LONGEST_LOG => Ok(both),
         _ => Err(13),
     });
     match both {
-        Ok((board, state)) => ran(run(&board, state, w, log)),
+        Ok((board, state)) => ran(run(&board, state, log)),
         Err(number) => Ran {
             word: Err(number),
             moves: 0,
@@ -384,6 +410,8 @@ mod tests {
                 let asked = (0, false);
                 let judged = judge_call(&board, state, asked, MUCH);
                 assert_eq!(judged, judge_call(&h1(), state, asked, MUCH));
+                let told = tell_call(&board, state, asked);
+                assert_eq!(told, tell_call(&h1(), state, asked));
             }
         }
     }
@@ -417,6 +445,18 @@ mod tests {
         assert_eq!(judged(&h1(), FRESH, (7, false)), Err(11));
         assert_eq!(judged(&h1(), FRESH, (1, false)), Err(11));
         assert_eq!(judged(&h1(), FRESH, (0, true)), Err(11));
+        for (board, state, asked, number) in [
+            (&broken, BEYOND, (7, true), 15),
+            (&h1(), BEYOND, (7, true), 14),
+            (&h1(), FRESH, (7, false), 11),
+            (&h1(), FRESH, (1, false), 11),
+            (&h1(), FRESH, (0, true), 11),
+        ] {
+            assert_eq!(tell_call(board, state, asked), Err(number));
+            for x in [0, 3, u32::MAX] {
+                assert_eq!(check_call(board, state, asked, x), Err(number));
+            }
+        }
         assert_eq!(move_call(&broken, BEYOND, 7, MUCH), (Err(15), BEYOND));
         assert_eq!(move_call(&h1(), BEYOND, 7, MUCH), (Err(14), BEYOND));
         assert_eq!(move_call(&h1(), FRESH, 1, MUCH), (Err(11), FRESH));
@@ -450,6 +490,22 @@ mod tests {
     }
 
     #[test]
+    fn a_terminal_not_below_t_is_refused_by_19() {
+        let checked = |board: &HandedBoard, x| check_call(board, FRESH, (0, false), x);
+        let powers = (0..32).map(|power| 1 << power);
+        for x in powers.chain([3, u32::MAX]).filter(|&x| x >= 3) {
+            assert_eq!(checked(&h1(), x), Err(19));
+        }
+        let whole = marked(0, []);
+        assert_eq!(checked(&whole, 1), Ok(false));
+        assert_eq!(checked(&whole, 2), Err(19));
+        let mut highest = h1();
+        highest.terminals = 64;
+        assert_eq!(checked(&highest, 63), Ok(false));
+        assert_eq!(checked(&highest, 64), Err(19));
+    }
+
+    #[test]
     fn h1_judged_moved_and_run() {
         let pushed = HandedState {
             drawn: 0,
@@ -462,7 +518,10 @@ mod tests {
         let judgement = judge_call(&h1(), pushed, (0, false), 3).unwrap();
         assert_eq!((judgement.verdict, judgement.effort), (Verdict::Live, 3));
         assert_eq!(judgement.chain[..4], [0, 2, 1, 0]);
-        assert_eq!(move_call(&h1(), pushed, 0, 3), (Ok(Answer::Drew), drawn));
+        assert_eq!(tell_call(&h1(), pushed, (0, false)), Ok(Told::Live));
+        assert_eq!(tell_call(&h1(), FRESH, (0, false)), Ok(Told::Dead(1)));
+        assert_eq!(check_call(&h1(), FRESH, (0, false), 1), Ok(true));
+        assert_eq!(check_call(&h1(), pushed, (0, false), 1), Ok(false));
         let mut log = vec![77; 65_536];
         let idle = Ran {
             word: Ok(Word::Idle),
@@ -470,7 +529,11 @@ mod tests {
             state: drawn,
             relay: 255,
         };
-        assert_eq!(run_call(&h1(), pushed, 3, &mut log), idle);
-        assert_eq!(log[..2], [128, 77]);
+        for w in [0, 2, 3, MUCH] {
+            assert_eq!(move_call(&h1(), pushed, 0, w), (Ok(Answer::Drew), drawn));
+            log.fill(77);
+            assert_eq!(run_call(&h1(), pushed, w, &mut log), idle);
+            assert_eq!(log[..2], [128, 77]);
+        }
     }
 }

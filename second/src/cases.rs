@@ -1,12 +1,15 @@
-//! Typed cases, each answered by a line: single judgements, moves and runs.
+//! Typed cases, each answered by a line: single judgements, checks of a
+//! terminal, moves and runs.
 //!
 //! This is for comparing programs and is not in the rule book. A case is pairs
-//! of hex digits, and white space between them as one likes; `@`, `^` or `=`
-//! ends it.
+//! of hex digits, and white space between them as one likes; `@`, `!`, `?`, `^`
+//! or `=` ends it.
 //!
-//! - `@`, a judgement: a board file and, in the file's form of numbers, which
-//!   relays are drawn and which buttons pushed (a bit for each), the relay, its
-//!   winding (0 for the first, else the second) and the allowance.
+//! - `@`, a judgement by the chains: a board file and, in the file's form of
+//!   numbers, which relays are drawn and which buttons pushed (a bit for each),
+//!   the relay, its winding (0 for the first, else the second) and the allowance.
+//! - `!`, a judgement without an allowance: the same without the last number.
+//! - `?`, a check of a terminal: the same with the terminal for the allowance.
 //! - `^`, a move: four numbers of three bytes, highest first, which are the
 //!   drawn relays, the pushed buttons, the relay and the allowance; then a
 //!   board handed in.
@@ -18,11 +21,13 @@
 //! above 7 are taken as 7, as no part has them; missing bytes are 0.
 
 use crate::board::{Kind, Part, State, MOST_PARTS};
-use crate::calls::{judge_call, move_call, run_call, HandedBoard, HandedState};
+use crate::calls::{check_call, judge_call, move_call, run_call, tell_call};
+use crate::calls::{Asked, HandedBoard, HandedState};
 use crate::file::read_board;
 use crate::judge::{Judgement, Verdict};
 use crate::moves::Answer;
 use crate::number::{Reader, Refusal};
+use crate::tell::Told;
 
 /// A log is lent full of this byte, which no move is logged as.
 const FILLER: u8 = 0x7e;
@@ -35,10 +40,12 @@ pub fn answers(text: &str) -> Option<String> {
     let mut lines = String::new();
     let mut rest = text.trim_start();
     while !rest.is_empty() {
-        let end = rest.find(['@', '^', '='])?;
+        let end = rest.find(['@', '!', '?', '^', '='])?;
         let case = bytes(&rest[..end])?;
         let line = match rest.as_bytes()[end] {
-            b'@' => judge_case(&case)?,
+            b'@' => filed_case(&case, judge_line)?,
+            b'!' => filed_case(&case, tell_line)?,
+            b'?' => filed_case(&case, check_line)?,
             b'^' => move_case(&case),
             _ => run_case(&case),
         };
@@ -60,22 +67,23 @@ fn bytes(text: &str) -> Option<Vec<u8>> {
     Some(found)
 }
 
-/// The answer to a judgement, also where its board is refused; none where the
-/// numbers after the board are not five.
-fn judge_case(case: &[u8]) -> Option<String> {
+/// The answer to a case with a board file, also where this is refused; none
+/// where the numbers after it are not the four that each has and those that the
+/// line is made from.
+fn filed_case<const MORE: usize>(
+    case: &[u8],
+    line: fn(&HandedBoard, HandedState, Asked, [u32; MORE]) -> String,
+) -> Option<String> {
     let mut reader = Reader::open(case).ok()?;
     let board = match read_board(&mut reader) {
         Ok(board) => board,
         Err(Refusal { number, place }) => return Some(format!("refused {number} {place}")),
     };
-    let mut asked = [0; 5];
-    for number in &mut asked {
-        *number = reader.number().ok()?.value;
-    }
+    let [drawn, pushed, relay, which] = numbers(&mut reader)?;
+    let more = numbers(&mut reader)?;
     if !reader.at_end() {
         return None;
     }
-    let [drawn, pushed, relay, which, w] = asked;
     let board = HandedBoard {
         terminals: board.terminals,
         relays: board.relays,
@@ -88,10 +96,40 @@ fn judge_case(case: &[u8]) -> Option<String> {
         drawn: drawn.into(),
         pushed: pushed.into(),
     };
-    Some(match judge_call(&board, state, (relay, which != 0), w) {
+    Some(line(&board, state, (relay, which != 0), more))
+}
+
+/// So many numbers in the file's form; none if one is bad.
+fn numbers<const COUNT: usize>(reader: &mut Reader) -> Option<[u32; COUNT]> {
+    let mut values = [0; COUNT];
+    for value in &mut values {
+        *value = reader.number().ok()?.value;
+    }
+    Some(values)
+}
+
+fn judge_line(board: &HandedBoard, state: HandedState, asked: Asked, [w]: [u32; 1]) -> String {
+    match judge_call(board, state, asked, w) {
         Ok(judgement) => judgement_line(&judgement),
         Err(number) => format!("judged refused {number}"),
-    })
+    }
+}
+
+fn tell_line(board: &HandedBoard, state: HandedState, asked: Asked, []: [u32; 0]) -> String {
+    match tell_call(board, state, asked) {
+        Ok(Told::Live) => "told live".to_string(),
+        Ok(Told::Shunted) => "told shunted".to_string(),
+        Ok(Told::Dead(lowest)) => format!("told dead {lowest}"),
+        Err(number) => format!("told refused {number}"),
+    }
+}
+
+fn check_line(board: &HandedBoard, state: HandedState, asked: Asked, [x]: [u32; 1]) -> String {
+    match check_call(board, state, asked, x) {
+        Ok(true) => "checked divides".to_string(),
+        Ok(false) => "checked does not divide".to_string(),
+        Err(number) => format!("checked refused {number}"),
+    }
 }
 
 fn judgement_line(judgement: &Judgement) -> String {
@@ -236,6 +274,82 @@ mod tests {
     }
 
     #[test]
+    fn the_allowance_of_a_judgement_is_not_narrowed() {
+        // each of these has many bits 0
+        for allowance in ["08", "8001", "8002", "808001", "80808001", "8080808008"] {
+            let case = format!("{H1_FILE} 00 01 00 00 {allowance} @");
+            assert_answers(&case, &["judged live 3 3: 0 2 1"]);
+        }
+    }
+
+    #[test]
+    fn judgements_without_an_allowance() {
+        let h1 = |asked: &str| format!("{H1_FILE} {asked} !\n");
+        assert_answers(&h1("00 00 00 00"), &["told dead 1"]);
+        assert_answers(&h1("01 00 00 00"), &["told dead 1"]);
+        assert_answers(&h1("00 01 00 00"), &["told live"]);
+        for (asked, number) in [
+            ("02 01 01 00", 14),
+            ("00 02 00 01", 14),
+            ("00 ffffffff0f 00 00", 14),
+            ("00 00 01 00", 11),
+            ("00 00 8080808001 00", 11),
+            ("00 00 00 01", 11),
+            ("00 00 00 8002", 11),
+        ] {
+            assert_answers(&h1(asked), &[&format!("told refused {number}")]);
+        }
+        let h6 = "03 01 00 03  00 00 02  00 02 01  04 02 01 00  00 00 00 00 !";
+        assert_answers(h6, &["told shunted"]);
+        assert_answers("01! 0200!", &["refused 3 0", "refused 1 2"]);
+    }
+
+    #[test]
+    fn judgements_of_either_winding_without_an_allowance() {
+        // H5: buttons 0 on 0-2 and 1 on 0-3, windings 2-1 and 3-1
+        let h5 = "04 01 02 04  03 00 02 00  03 00 03 01  05 02 01 00  06 03 01 00";
+        let told = |asked: &str| answers(&format!("{h5} {asked} !")).unwrap();
+        for which in ["01", "02", "80808008"] {
+            assert_eq!(told(&format!("00 01 00 {which}")), "told dead 1\n");
+            assert_eq!(told(&format!("00 02 00 {which}")), "told live\n");
+        }
+        assert_eq!(told("00 01 00 00"), "told live\n");
+        assert_eq!(told("00 02 00 00"), "told dead 1\n");
+    }
+
+    #[test]
+    fn checks_of_a_terminal() {
+        let h1 = |asked: &str| format!("{H1_FILE} {asked} ?\n");
+        assert_answers(&h1("00 00 00 00 00"), &["checked does not divide"]);
+        assert_answers(&h1("00 00 00 00 01"), &["checked divides"]);
+        assert_answers(&h1("00 00 00 00 02"), &["checked does not divide"]);
+        assert_answers(&h1("00 01 00 00 01"), &["checked does not divide"]);
+        for (asked, number) in [
+            ("02 00 01 00 03", 14),
+            ("00 02 00 01 03", 14),
+            ("00 00 01 00 03", 11),
+            ("00 00 00 01 03", 11),
+            ("00 00 00 00 03", 19),
+            ("00 01 00 00 40", 19),
+            ("00 00 00 00 8102", 19),
+            ("00 00 00 00 8180808001", 19),
+            ("00 00 00 00 ffffffff0f", 19),
+        ] {
+            assert_answers(&h1(asked), &[&format!("checked refused {number}")]);
+        }
+        // H4 is shunted, and 0 and 2 divide it all the same
+        let h4 = "05 01 00 04  00 00 02  00 02 03  00 04 02  04 03 04 00";
+        for x in 0..5 {
+            let line = match x {
+                0 | 2 => "checked divides",
+                _ => "checked does not divide",
+            };
+            assert_answers(&format!("{h4} 00 00 00 00 {x:02x} ?"), &[line]);
+        }
+        assert_answers("01? 0200?", &["refused 3 0", "refused 1 2"]);
+    }
+
+    #[test]
     fn judgements_with_the_highest_relay_and_button_drawn_and_pushed() {
         // 32 regular relays on 2-1, button 31 on 0-2
         let windings: String = (0..32)
@@ -275,10 +389,10 @@ mod tests {
     #[test]
     fn a_kind_above_7_stands_for_7_and_bytes_not_given_for_0() {
         let steel = format!("{ZERO} 03 01 00 02 00  0000000000  05 00 02 00  06 02 01 00 ^");
-        assert_answers(&steel, &["moved undecided 0 0"]);
+        assert_answers(&steel, &["moved conflict 0 0"]);
         for kind in ["07", "08", "ff"] {
             let marked = format!("{ZERO} 02 01 00 02 00  0100000000  04 00 01 00  {kind} ^");
-            assert_answers(&marked, &["moved undecided 0 0"]);
+            assert_answers(&marked, &["moved drew 1 0"]);
         }
         assert_answers(
             &format!("{ZERO} =^"),
@@ -302,7 +416,7 @@ mod tests {
             ("03", "0200000000"),
             ("04", "0300000000"),
         ] {
-            assert_answers(&case(count, start), &["moved undecided 0 0"]);
+            assert_answers(&case(count, start), &["moved drew 1 0"]);
         }
         for (count, start) in [
             ("02", "0100000000"),
@@ -357,9 +471,19 @@ mod tests {
             "00",
             "0@",
             "0g@",
-            "00!",
+            "00;",
             &format!("{H1_FILE}@"),
+            &format!("{H1_FILE} 00 00 00 00 @"),
             &format!("{H1_FILE} 00 00 00 00 00 00 @"),
+            &format!("{H1_FILE}!"),
+            &format!("{H1_FILE} 00 00 00 !"),
+            &format!("{H1_FILE} 00 00 00 00 00 !"),
+            &format!("{H1_FILE} 00 00 00 00 80 !"),
+            &format!("{H1_FILE} 00 00 00 80 00 !"),
+            &format!("{H1_FILE}?"),
+            &format!("{H1_FILE} 00 00 00 00 ?"),
+            &format!("{H1_FILE} 00 00 00 00 00 00 ?"),
+            &format!("{H1_FILE} 00 00 00 00 80 00 ?"),
         ] {
             assert_eq!(answers(text), None);
         }

@@ -1,12 +1,13 @@
 //! An independent second program for Herdspiral, the relay-board simulator.
 //!
-//! Each module renders one part of the rule book, as requests A1, A2 and A4
+//! Each module renders one part of the rule book, as requests A1, A2, A4 and A6
 //! changed it, in its order: `number` and `file` are "The board file" with the
 //! refusals of a read, `board` is "Parts of a board", `chains`, `shunts` and
-//! `judge` are "Chains and current", `moves` and `runs` are "How a relay
-//! moves", `calls` is the order of refusals for what is handed in, `session` is
-//! "The session program". Only `streams` and `cases` are not in the rule book:
-//! they fetch sessions, and single calls, from a stream.
+//! `judge` are "Chains and current", `ways`, `leaps` and `tell` are the judge of
+//! A6, `moves` and `runs` are "How a relay moves", `calls` is the order of
+//! refusals for what is handed in, `session` is "The session program". Only
+//! `groups`, `streams` and `cases` are not in the rule book: the first links
+//! terminals, the others fetch sessions, and single calls, from a stream.
 #![forbid(unsafe_code)]
 
 pub mod board;
@@ -14,13 +15,19 @@ pub mod calls;
 pub mod cases;
 pub mod chains;
 pub mod file;
+pub mod groups;
 pub mod judge;
+pub mod leaps;
 pub mod moves;
 pub mod number;
 pub mod runs;
 pub mod session;
 pub mod shunts;
 pub mod streams;
+pub mod tell;
+pub mod ways;
 
+#[cfg(test)]
+mod samples;
 #[cfg(test)]
 mod vectors;

@@ -1,9 +1,11 @@
 //! A single move of a named relay.
 //!
-//! Renders the first paragraph of "How a relay moves".
+//! Renders the first paragraph of "How a relay moves", as request A6 changed
+//! it: windings are judged without an allowance, and a shunted one is dead. So
+//! no move answers undecided, which is still one of the words until A7.
 
 use crate::board::{Board, Ends, State, Windings};
-use crate::judge::{judge, Verdict};
+use crate::tell::{tell, Told};
 
 /// What a single move answers.
 #[derive(Clone, Copy, Debug, PartialEq, Eq)]
@@ -16,8 +18,8 @@ pub enum Answer {
 }
 
 /// Moves one relay of the board, if it moves, and hands back the state.
-pub fn move_relay(board: &Board, state: State, relay: usize, w: u32) -> (Answer, State) {
-    let answer = look(board, &state, relay, w);
+pub fn move_relay(board: &Board, state: State, relay: usize) -> (Answer, State) {
+    let answer = look(board, &state, relay);
     match answer {
         Answer::Drew => (answer, state.draw(relay)),
         Answer::Dropped => (answer, state.drop(relay)),
@@ -25,35 +27,33 @@ pub fn move_relay(board: &Board, state: State, relay: usize, w: u32) -> (Answer,
     }
 }
 
-fn look(board: &Board, state: &State, relay: usize, w: u32) -> Answer {
-    let verdict = |ends: Ends| judge(board, state, ends, w).verdict;
+fn look(board: &Board, state: &State, relay: usize) -> Answer {
+    let is_live = |ends: Ends| tell(board, state, ends) == Told::Live;
     let is_drawn = state.is_drawn(relay);
     match board.windings(relay) {
-        Some(Windings::Regular(ends)) => regular(is_drawn, verdict(ends)),
+        Some(Windings::Regular(ends)) => regular(is_drawn, is_live(ends)),
         Some(Windings::Steel { drawing, dropping }) => {
-            steel(is_drawn, verdict(drawing), verdict(dropping))
+            steel(is_drawn, is_live(drawing), is_live(dropping))
         }
         None => panic!("a relay without its windings, which refusal 9 shuts out"),
     }
 }
 
-fn regular(is_drawn: bool, winding: Verdict) -> Answer {
-    match (is_drawn, winding) {
-        (_, Verdict::Undecided) => Answer::Undecided,
-        (false, Verdict::Live) => Answer::Drew,
-        (true, Verdict::Dead) => Answer::Dropped,
-        (true, Verdict::Live) | (false, Verdict::Dead) => Answer::Rests,
+fn regular(is_drawn: bool, is_live: bool) -> Answer {
+    match (is_drawn, is_live) {
+        (false, true) => Answer::Drew,
+        (true, false) => Answer::Dropped,
+        (true, true) | (false, false) => Answer::Rests,
     }
 }
 
-fn steel(is_drawn: bool, drawing: Verdict, dropping: Verdict) -> Answer {
+/// The answer of a steel relay, by whether its drawing winding is live and
+/// whether its dropping winding is.
+fn steel(is_drawn: bool, drawing: bool, dropping: bool) -> Answer {
     match (is_drawn, drawing, dropping) {
-        (_, Verdict::Undecided, _) | (_, _, Verdict::Undecided) => Answer::Undecided,
-        (_, Verdict::Live, Verdict::Live) => Answer::Conflict,
-        (false, Verdict::Live, Verdict::Dead) => Answer::Drew,
-        (true, Verdict::Dead, Verdict::Live) => Answer::Dropped,
-        (true, Verdict::Live, Verdict::Dead)
-        | (false, Verdict::Dead, Verdict::Live)
-        | (_, Verdict::Dead, Verdict::Dead) => Answer::Rests,
+        (_, true, true) => Answer::Conflict,
+        (false, true, false) => Answer::Drew,
+        (true, false, true) => Answer::Dropped,
+        (true, true, false) | (false, false, true) | (_, false, false) => Answer::Rests,
     }
 }

@@ -1,6 +1,7 @@
 //! A run, until it is idle, stopped or spent.
 //!
-//! Renders the second paragraph of "How a relay moves".
+//! Renders the second paragraph of "How a relay moves". Since request A6 no run
+//! ends undecided, as no move does.
 
 use crate::board::{Board, State};
 use crate::moves::{move_relay, Answer};
@@ -39,12 +40,12 @@ pub struct RunAnswer {
 
 /// Runs the board from this state. The log's length is the move allowance; its
 /// bytes beyond the moves made stay as they were.
-pub fn run(board: &Board, mut state: State, w: u32, log: &mut [u8]) -> RunAnswer {
+pub fn run(board: &Board, mut state: State, log: &mut [u8]) -> RunAnswer {
     let mut moves = 0;
     let (word, relay) = 'run: loop {
         for relay in 0..board.relays {
             let number = relay as u8;
-            let (answer, moved) = move_relay(board, state, relay, w);
+            let (answer, moved) = move_relay(board, state, relay);
             let byte = match answer {
                 Answer::Rests => continue,
                 Answer::Undecided => break 'run (Word::Undecided, number),

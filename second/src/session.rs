@@ -1,7 +1,8 @@
 //! One whole session, from its bytes to its lines.
 //!
 //! Renders "The session program" and, of "Numbers for no", what a session can
-//! be refused for: 1 to 10, 12 and, of request A2, 17.
+//! be refused for: 1 to 10, 12 and, of request A2, 17. Since request A6 no run
+//! heeds W, but it is still read.
 
 use crate::board::{Board, State};
 use crate::file::read_board;
@@ -26,8 +27,8 @@ pub fn session(input: &[u8]) -> String {
 fn play(input: &[u8], lines: &mut String) -> Result<(), Refusal> {
     let mut reader = Reader::open(input)?;
     let board = read_board(&mut reader)?;
-    let w = reader.number()?.value;
-    let mut state = run_event(&board, State::fresh(&board), w, 0, lines);
+    read_w(&mut reader)?;
+    let mut state = run_event(&board, State::fresh(&board), 0, lines);
     let mut event = 0;
     while !reader.at_end() {
         event += 1;
@@ -41,8 +42,14 @@ fn play(input: &[u8], lines: &mut String) -> Result<(), Refusal> {
         } else {
             state.release(button)
         };
-        state = run_event(&board, acted, w, event, lines);
+        state = run_event(&board, acted, event, lines);
     }
+    Ok(())
+}
+
+/// Reads W, of which only the form can be refused.
+fn read_w(reader: &mut Reader) -> Result<(), Refusal> {
+    reader.number()?;
     Ok(())
 }
 
@@ -54,8 +61,8 @@ fn read_event(reader: &mut Reader, board: &Board) -> Result<(usize, bool), Refus
 }
 
 /// Runs the board, adds the line of this event and hands back the state left.
-fn run_event(board: &Board, state: State, w: u32, event: usize, lines: &mut String) -> State {
-    let answer = run(board, state, w, &mut [0; LOG]);
+fn run_event(board: &Board, state: State, event: usize, lines: &mut String) -> State {
+    let answer = run(board, state, &mut [0; LOG]);
     let word = answer.word.text();
     let (moves, drawn) = (answer.moves, answer.state.drawn_sum());
     *lines += &format!("{event} {word} {moves} {drawn}\n");

@@ -2,70 +2,34 @@
 //!
 //! Renders request A4: a winding is shunted if its two ends are linked through
 //! conducting parts none of which is a winding, over any terminals. Terminals
-//! that are linked so form a group. At first each terminal is a group of its
-//! own; then each such part, in the order of the board, merges the groups of
-//! its two ends. No way from one end to the other is looked for.
+//! that are linked so form a group.
 
 use crate::board::{Board, Ends, State};
+use crate::groups::Groups;
 
 /// Whether the winding with these ends is shunted.
 pub fn is_shunted(board: &Board, state: &State, ends: Ends) -> bool {
-    let groups = Groups::of(board, state);
+    let groups = groups(board, state);
     groups.head(ends.0) == groups.head(ends.1)
 }
 
-/// The groups of linked terminals. The head of a group is its lowest terminal.
-/// For each terminal a lower one of its group is kept; for a head, itself.
-struct Groups {
-    lower: Vec<usize>,
-}
-
-impl Groups {
-    fn of(board: &Board, state: &State) -> Self {
-        let mut groups = Groups {
-            lower: (0..board.terminals).collect(),
-        };
-        let conducting = board.parts.iter().filter(|part| part.conducts(state));
-        for part in conducting.filter(|part| !part.is_winding()) {
-            groups.merge(part.ends);
-        }
-        groups
-    }
-
-    /// The head of this terminal's group.
-    fn head(&self, terminal: usize) -> usize {
-        let mut at = terminal;
-        while self.lower[at] != at {
-            at = self.lower[at];
-        }
-        at
-    }
-
-    /// Makes one group of the groups of both ends.
-    fn merge(&mut self, (a, b): Ends) {
-        let (a, b) = (self.head(a), self.head(b));
-        self.lower[a.max(b)] = a.min(b);
-    }
+fn groups(board: &Board, state: &State) -> Groups {
+    let conducting = board.parts.iter().filter(|part| part.conducts(state));
+    Groups::linked(
+        board.terminals,
+        conducting.filter(|part| !part.is_winding()),
+    )
 }
 
 #[cfg(test)]
 mod tests {
     use super::*;
-    use crate::board::{Kind, Part, NO_ENDS};
-
-    fn board(terminals: usize, parts: &[(Kind, Ends)]) -> Board {
-        let part = |&(kind, ends)| Part { ends, kind };
-        Board {
-            terminals,
-            relays: 2,
-            buttons: 2,
-            parts: parts.iter().map(part).collect(),
-        }
-    }
+    use crate::board::{Kind, NO_ENDS};
+    use crate::samples::{any_board, any_state, board, dice};
 
     /// The head of each terminal's group.
     fn heads(board: &Board, state: &State) -> Vec<usize> {
-        let groups = Groups::of(board, state);
+        let groups = groups(board, state);
         (0..board.terminals).map(|at| groups.head(at)).collect()
     }
 
@@ -145,41 +109,12 @@ mod tests {
         }
     }
 
-    /// Up to eleven parts of any kind, on two to six terminals.
-    fn any_board(roll: &mut impl FnMut(usize) -> usize) -> Board {
-        let kinds = [
-            Kind::Wire,
-            Kind::UpperContact(0),
-            Kind::LowerContact(1),
-            Kind::Button(0),
-            Kind::RegularWinding(0),
-            Kind::DrawingWinding(1),
-            Kind::DroppingWinding(1),
-            Kind::Mark(0),
-        ];
-        let terminals = 2 + roll(5);
-        let mut parts = Vec::new();
-        for _ in 0..roll(12) {
-            let (a, b) = (roll(terminals), roll(terminals));
-            if a != b {
-                parts.push((kinds[roll(kinds.len())], (a, b)));
-            }
-        }
-        board(terminals, &parts)
-    }
-
     #[test]
     fn groups_are_those_of_the_definition() {
-        let mut dice: u32 = 4;
-        let mut roll = |sides: usize| {
-            dice = dice.wrapping_mul(1_664_525).wrapping_add(1_013_904_223);
-            (dice >> 16) as usize % sides
-        };
-        let empty = State::empty();
-        let states = [empty, empty.draw(0), empty.draw(0).push(0), empty.draw(1)];
+        let mut roll = dice(4);
         let mut found = [0; 2];
         for _ in 0..2_000 {
-            let (board, state) = (any_board(&mut roll), states[roll(4)]);
+            let (board, state) = (any_board(&mut roll), any_state(&mut roll));
             for (a, b) in (0..board.terminals).flat_map(|b| (0..b).map(move |a| (a, b))) {
                 let by_definition = linked(&board, &state, &[a], b);
                 assert_eq!(is_shunted(&board, &state, (a, b)), by_definition);

@@ -1,6 +1,6 @@
-//! Tests over several modules: "Boards to try" as request A4 amended them,
-//! "Slips to rule out" and the sessions of the rule book, the figure of document
-//! 000, the marks of request A2, and a few more.
+//! Tests over several modules: "Boards to try" as requests A4 and A6 amended
+//! them, "Slips to rule out" and the sessions of the rule book, the figure of
+//! document 000, the marks of request A2, and a few more.
 
 use crate::board::{Board, Ends, Kind, State, Windings};
 use crate::file::read_board;
@@ -9,6 +9,7 @@ use crate::moves::{move_relay, Answer};
 use crate::number::Reader;
 use crate::runs::{run, RunAnswer, Word};
 use crate::session::session;
+use crate::tell::{divides, tell, Told};
 
 const MUCH: u32 = u32::MAX;
 
@@ -64,6 +65,18 @@ fn judge_second(bytes: &[u8], state: State, w: u32) -> Judgement {
     judge(&board, &state, ends(&board, 0).1.unwrap(), w)
 }
 
+fn tell_first(bytes: &[u8], state: State) -> Told {
+    let board = board(bytes);
+    tell(&board, &state, ends(&board, 0).0)
+}
+
+/// The terminals that divide the first winding of relay 0.
+fn dividing(bytes: &[u8], state: State) -> Vec<usize> {
+    let board = board(bytes);
+    let is_dividing = |&x: &usize| divides(&board, &state, ends(&board, 0).0, x);
+    (0..board.terminals).filter(is_dividing).collect()
+}
+
 fn live(effort: u32, chain: &[u8]) -> Judgement {
     let mut places = [0; 64];
     places[..chain.len()].copy_from_slice(chain);
@@ -103,9 +116,9 @@ fn assert_turns_at_effort(bytes: &[u8], state: State, expected: Judgement) {
 
 /// Runs with a log of `allowance`; the answer's parts and the log, where the
 /// bytes lent held 77.
-fn run_logged(bytes: &[u8], state: State, w: u32, allowance: usize) -> (RunAnswer, Vec<u8>) {
+fn run_logged(bytes: &[u8], state: State, allowance: usize) -> (RunAnswer, Vec<u8>) {
     let mut log = vec![77; allowance];
-    let answer = run(&board(bytes), state, w, &mut log);
+    let answer = run(&board(bytes), state, &mut log);
     (answer, log)
 }
 
@@ -122,8 +135,8 @@ fn answer(word: Word, moves: usize, state: State, relay: u8) -> RunAnswer {
 fn h0_is_idle() {
     let h0 = &[2, 0, 0, 0];
     let idle = answer(Word::Idle, 0, fresh(), 255);
-    assert_eq!(run_logged(h0, fresh(), MUCH, 2), (idle, vec![77, 77]));
-    assert_eq!(run_logged(h0, fresh(), 0, 0), (idle, vec![]));
+    assert_eq!(run_logged(h0, fresh(), 2), (idle, vec![77, 77]));
+    assert_eq!(run_logged(h0, fresh(), 0), (idle, vec![]));
 }
 
 #[test]
@@ -131,6 +144,12 @@ fn h1_is_dead_unpushed_and_live_pushed() {
     assert_turns_at_effort(H1, fresh(), dead(1));
     assert_turns_at_effort(H1, fresh().push(0), live(3, &[0, 2, 1]));
     assert_eq!(judge_first(H1, fresh().push(0), 2), undecided(2));
+    // without plus the end 1, which is a pole, remains; without 1 the end 2
+    // reaches nothing
+    assert_eq!(tell_first(H1, fresh()), Told::Dead(1));
+    assert_eq!(dividing(H1, fresh()), [1]);
+    assert_eq!(tell_first(H1, fresh().push(0)), Told::Live);
+    assert_eq!(dividing(H1, fresh().push(0)), []);
 }
 
 #[test]
@@ -142,12 +161,12 @@ fn h2_prints_exactly_these_lines() {
 fn h3_is_spent() {
     let spent = answer(Word::Spent, 5, fresh().draw(0), 0);
     let log = vec![128, 0, 128, 0, 128];
-    assert_eq!(run_logged(H3, fresh(), MUCH, 5), (spent, log));
+    assert_eq!(run_logged(H3, fresh(), 5), (spent, log));
     let unmoved = answer(Word::Spent, 0, fresh(), 0);
-    assert_eq!(run_logged(H3, fresh(), MUCH, 0), (unmoved, vec![]));
+    assert_eq!(run_logged(H3, fresh(), 0), (unmoved, vec![]));
     let from_drawn = answer(Word::Spent, 2, fresh().draw(0), 0);
     assert_eq!(
-        run_logged(H3, fresh().draw(0), MUCH, 2),
+        run_logged(H3, fresh().draw(0), 2),
         (from_drawn, vec![0, 128])
     );
 }
@@ -156,9 +175,10 @@ fn h3_is_spent() {
 fn both_h4_boards_are_shunted() {
     for bytes in [H4, H4_ADDED] {
         assert_turns_at_effort(bytes, fresh(), dead(0));
+        assert_eq!(tell_first(bytes, fresh()), Told::Shunted);
         let dropped = answer(Word::Idle, 1, fresh(), 255);
         assert_eq!(
-            run_logged(bytes, fresh().draw(0), 0, 2),
+            run_logged(bytes, fresh().draw(0), 2),
             (dropped, vec![0, 77])
         );
     }
@@ -169,6 +189,18 @@ fn h4_with_a_winding_for_a_wire_is_dead_though_both_ends_are_reached() {
     assert_turns_at_effort(H4_WOUND, fresh(), dead(6));
     assert_eq!(judge_first(H4_WOUND, fresh(), 5), undecided(5));
     assert_turns_at_effort(H4_WOUND_ADDED, fresh(), dead(7));
+    assert_eq!(tell_first(H4_WOUND, fresh()), Told::Dead(0));
+    assert_eq!(tell_first(H4_WOUND_ADDED, fresh()), Told::Dead(2));
+}
+
+#[test]
+fn terminals_divide_the_h4_boards_shunted_or_not() {
+    for bytes in [H4, H4_WOUND] {
+        assert_eq!(dividing(bytes, fresh()), [0, 2]);
+    }
+    for bytes in [H4_ADDED, H4_WOUND_ADDED] {
+        assert_eq!(dividing(bytes, fresh()), [2]);
+    }
 }
 
 #[test]
@@ -178,12 +210,10 @@ fn h5_with_both_pushed_is_a_conflict() {
     assert_eq!(judge_second(H5, both, MUCH), live(5, &[0, 3, 1]));
     for state in [both, both.draw(0)] {
         let h5 = board(H5);
-        assert_eq!(move_relay(&h5, state, 0, 5), (Answer::Conflict, state));
-        assert_eq!(move_relay(&h5, state, 0, 4), (Answer::Undecided, state));
+        assert_eq!(move_relay(&h5, state, 0), (Answer::Conflict, state));
         let conflict = answer(Word::Conflict, 0, state, 0);
-        assert_eq!(run_logged(H5, state, 5, 1), (conflict, vec![77]));
-        let undecided = answer(Word::Undecided, 0, state, 0);
-        assert_eq!(run_logged(H5, state, 4, 0), (undecided, vec![]));
+        assert_eq!(run_logged(H5, state, 0), (conflict, vec![]));
+        assert_eq!(run_logged(H5, state, 1), (conflict, vec![77]));
     }
 }
 
@@ -192,17 +222,14 @@ fn h5_draws_and_keeps_its_state_without_current() {
     let h5 = board(H5);
     let pushed = fresh().push(0);
     let drawn = pushed.draw(0);
-    assert_eq!(move_relay(&h5, pushed, 0, MUCH), (Answer::Drew, drawn));
-    assert_eq!(move_relay(&h5, drawn, 0, MUCH), (Answer::Rests, drawn));
+    assert_eq!(move_relay(&h5, pushed, 0), (Answer::Drew, drawn));
+    assert_eq!(move_relay(&h5, drawn, 0), (Answer::Rests, drawn));
     let left = drawn.release(0);
-    assert_eq!(move_relay(&h5, left, 0, MUCH), (Answer::Rests, left));
+    assert_eq!(move_relay(&h5, left, 0), (Answer::Rests, left));
     let dropping = left.push(1);
     let dropped = dropping.drop(0);
-    assert_eq!(
-        move_relay(&h5, dropping, 0, MUCH),
-        (Answer::Dropped, dropped)
-    );
-    assert_eq!(move_relay(&h5, dropped, 0, MUCH), (Answer::Rests, dropped));
+    assert_eq!(move_relay(&h5, dropping, 0), (Answer::Dropped, dropped));
+    assert_eq!(move_relay(&h5, dropped, 0), (Answer::Rests, dropped));
 }
 
 #[test]
@@ -216,13 +243,12 @@ fn h5_as_a_session() {
 #[test]
 fn h6_is_shunted_by_a_wire() {
     assert_turns_at_effort(H6, fresh(), dead(0));
-    for w in [0, 2, 3, MUCH] {
-        let idle = answer(Word::Idle, 0, fresh(), 255);
-        assert_eq!(run_logged(H6, fresh(), w, 1), (idle, vec![77]));
-        let h6 = board(H6);
-        let dropped = (Answer::Dropped, fresh());
-        assert_eq!(move_relay(&h6, fresh().draw(0), 0, w), dropped);
-    }
+    assert_eq!(tell_first(H6, fresh()), Told::Shunted);
+    assert_eq!(dividing(H6, fresh()), []);
+    let idle = answer(Word::Idle, 0, fresh(), 255);
+    assert_eq!(run_logged(H6, fresh(), 1), (idle, vec![77]));
+    let dropped = (Answer::Dropped, fresh());
+    assert_eq!(move_relay(&board(H6), fresh().draw(0), 0), dropped);
 }
 
 #[test]
@@ -238,7 +264,10 @@ fn terminals_are_left_again_on_the_way_back_and_windings_crossed_both_ways() {
 #[test]
 fn a_winding_from_plus_to_minus() {
     for (a, b) in [(0, 1), (1, 0)] {
-        assert_turns_at_effort(&[2, 1, 0, 1, 4, a, b, 0], fresh(), live(2, &[0, 1]));
+        let bytes = [2, 1, 0, 1, 4, a, b, 0];
+        assert_turns_at_effort(&bytes, fresh(), live(2, &[0, 1]));
+        assert_eq!(tell_first(&bytes, fresh()), Told::Live);
+        assert_eq!(dividing(&bytes, fresh()), []);
     }
 }
 
@@ -247,9 +276,9 @@ fn a_full_log_does_not_hide_that_a_run_is_idle() {
     let h2 = &H2[..16];
     let drawn = fresh().push(0).draw(0);
     let idle = answer(Word::Idle, 1, drawn, 255);
-    assert_eq!(run_logged(h2, fresh().push(0), MUCH, 1), (idle, vec![128]));
+    assert_eq!(run_logged(h2, fresh().push(0), 1), (idle, vec![128]));
     let already = answer(Word::Idle, 0, drawn, 255);
-    assert_eq!(run_logged(h2, drawn, MUCH, 0), (already, vec![]));
+    assert_eq!(run_logged(h2, drawn, 0), (already, vec![]));
 }
 
 #[test]
@@ -262,9 +291,9 @@ fn a_run_looks_again_from_the_first_relay() {
     ];
     let all = answer(Word::Idle, 3, fresh().draw(0).draw(1).draw(2), 255);
     let log = vec![129, 128, 130, 77];
-    assert_eq!(run_logged(&bytes, fresh(), MUCH, 4), (all, log));
+    assert_eq!(run_logged(&bytes, fresh(), 4), (all, log));
     let two = answer(Word::Spent, 2, fresh().draw(0).draw(1), 2);
-    assert_eq!(run_logged(&bytes, fresh(), MUCH, 2), (two, vec![129, 128]));
+    assert_eq!(run_logged(&bytes, fresh(), 2), (two, vec![129, 128]));
 }
 
 #[test]
@@ -277,11 +306,15 @@ fn a_session_has_a_log_of_4096_and_goes_on_after_spent() {
 }
 
 #[test]
-fn a_session_goes_on_after_undecided() {
-    // H1 with W 2: pushed it is undecided, released it is dead again
-    let lines = "0 idle 0 0\n1 undecided 0 0\n2 idle 0 0\n";
-    assert_eq!(session(&[H1, &[2, 1, 0]].concat()), lines);
-    assert_eq!(session(&[H1, &[0]].concat()), "0 undecided 0 0\n");
+fn a_session_does_not_heed_its_allowance() {
+    // H1, whose effort is 3 when it is pushed, and H5, which was undecided at 4
+    // when both are pushed
+    for w in 0..10 {
+        let lines = "0 idle 0 0\n1 idle 1 1\n2 idle 1 0\n";
+        assert_eq!(session(&[H1, &[w, 1, 0]].concat()), lines);
+        let lines = "0 idle 0 0\n1 idle 1 1\n2 conflict 0 1\n";
+        assert_eq!(session(&[H5, &[w, 1, 3]].concat()), lines);
+    }
 }
 
 #[test]
@@ -289,7 +322,7 @@ fn the_figure_of_document_000_moves_as_it_says() {
     let lines = "0 idle 0 0\n1 idle 2 3\n2 idle 0 3\n";
     assert_eq!(session(&[FIGURE, &[100, 1, 0]].concat()), lines);
     let idle = answer(Word::Idle, 2, fresh().push(0).draw(0).draw(1), 255);
-    let run = run_logged(FIGURE, fresh().push(0), MUCH, 3);
+    let run = run_logged(FIGURE, fresh().push(0), 3);
     assert_eq!(run, (idle, vec![128, 129, 77]));
 }
 
@@ -440,11 +473,9 @@ fn a_mark_changes_no_judgement_and_no_run() {
         ] {
             for w in [0, 1, 2, 3, 4, 5, 6, 7, MUCH] {
                 assert_eq!(judge_first(&marked, state, w), judge_first(bytes, state, w));
-                assert_eq!(
-                    run_logged(&marked, state, w, 5),
-                    run_logged(bytes, state, w, 5)
-                );
             }
+            assert_eq!(tell_first(&marked, state), tell_first(bytes, state));
+            assert_eq!(run_logged(&marked, state, 5), run_logged(bytes, state, 5));
         }
     }
 }
@@ -469,4 +500,7 @@ fn a_dense_board_stays_within_its_allowance() {
     let bytes = [&head[..], &parts, &[0, 0, 2, 4, 24, 25, 0]].concat();
     let great = 2_097_151;
     assert_eq!(judge_first(&bytes, fresh(), great), undecided(great));
+    // its winding is by itself, so that each terminal divides it
+    assert_eq!(tell_first(&bytes, fresh()), Told::Dead(0));
+    assert_eq!(dividing(&bytes, fresh()), (0..26).collect::<Vec<_>>());
 }

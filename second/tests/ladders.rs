@@ -1,6 +1,7 @@
 //! Ladder boards, for which request A1 was made: they have more chains than a
 //! number of three bytes can say. A winding that such a ladder shunts is dead
-//! all the same with no allowance, by request A4.
+//! all the same with no allowance, by request A4. By request A6 the allowance
+//! matters only where chains are listed: a session comes to an end at any.
 //!
 //! A ladder has two rails and a rung in each column, all of wire; plus feeds
 //! one end of the first rung, and nothing else joins the ladder. Let c(n, k) be
@@ -11,12 +12,16 @@
 //! by 1. So c(n, k) = 2 + k + c(n - 1, 0) + c(n - 1, k + 1), with c(0, k) = 0,
 //! and this gives c(n, 0) = 3 x 2^n - n - 3.
 
+use second::board::{Board, Ends, State, Windings};
+use second::file::read_board;
+use second::judge::{judge, Verdict};
+use second::number::Reader;
 use second::session::session;
+use second::tell::{tell, Told};
 
 /// A session cannot say more than this before request A1.
 const THREE_BYTES: u32 = 2_097_151;
 
-const UNDECIDED: &str = "0 undecided 0 0\n";
 const DEAD: &str = "0 idle 0 0\n";
 const LIVE: &str = "0 idle 1 1\n";
 
@@ -94,6 +99,39 @@ fn lines(board: &[u8], w: u32) -> String {
     session(&[board, &shortest(w)].concat())
 }
 
+/// A board and the ends of its winding.
+fn read(board: &[u8]) -> (Board, Ends) {
+    let board = read_board(&mut Reader::open(board).unwrap()).unwrap();
+    let Some(Windings::Regular(ends)) = board.windings(0) else {
+        panic!("no regular winding");
+    };
+    (board, ends)
+}
+
+/// The verdict on the winding by its chains, and the effort.
+fn judged(board: &[u8], w: u32) -> (Verdict, u32) {
+    let (board, ends) = read(board);
+    let judgement = judge(&board, &State::fresh(&board), ends, w);
+    (judgement.verdict, judgement.effort)
+}
+
+/// What is told of the winding without a look at its chains.
+fn told(board: &[u8]) -> Told {
+    let (board, ends) = read(board);
+    tell(&board, &State::fresh(&board), ends)
+}
+
+/// Asserts that the verdict by chains turns at this effort, and that a session
+/// has these lines on both sides of it.
+fn assert_turns(board: &[u8], effort: u32, verdict: Verdict, expected: &str) {
+    let below = effort - 1;
+    assert_eq!(judged(board, below), (Verdict::Undecided, below));
+    assert_eq!(judged(board, effort), (verdict, effort));
+    for w in [0, below, effort, u32::MAX] {
+        assert_eq!(lines(board, w), expected);
+    }
+}
+
 #[test]
 fn the_number_of_ways_is_that_of_the_recurrence() {
     for columns in 0..20 {
@@ -105,11 +143,9 @@ fn the_number_of_ways_is_that_of_the_recurrence() {
 fn small_ladders_turn_at_their_effort() {
     for columns in 1..10 {
         let (dead, effort) = dead_ladder(columns);
-        assert_eq!(lines(&dead, effort - 1), UNDECIDED);
-        assert_eq!(lines(&dead, effort), DEAD);
+        assert_turns(&dead, effort, Verdict::Dead, DEAD);
         let (live, effort) = live_ladder(columns);
-        assert_eq!(lines(&live, effort - 1), UNDECIDED);
-        assert_eq!(lines(&live, effort), LIVE);
+        assert_turns(&live, effort, Verdict::Live, LIVE);
     }
 }
 
@@ -117,24 +153,20 @@ fn small_ladders_turn_at_their_effort() {
 fn a_dead_ladder_needs_more_than_three_bytes() {
     let (board, effort) = dead_ladder(20);
     assert_eq!(effort, 3_145_706);
-    for w in [THREE_BYTES, effort - 1] {
-        assert_eq!(lines(&board, w), UNDECIDED);
-    }
-    for w in [effort, u32::MAX] {
-        assert_eq!(lines(&board, w), DEAD);
-    }
+    assert_turns(&board, effort, Verdict::Dead, DEAD);
+    let undecided = (Verdict::Undecided, THREE_BYTES);
+    assert_eq!(judged(&board, THREE_BYTES), undecided);
+    assert_eq!(judged(&board, u32::MAX), (Verdict::Dead, effort));
 }
 
 #[test]
 fn a_live_ladder_needs_more_than_three_bytes() {
     let (board, effort) = live_ladder(20);
     assert_eq!(effort, 3_145_708);
-    for w in [THREE_BYTES, effort - 1] {
-        assert_eq!(lines(&board, w), UNDECIDED);
-    }
-    for w in [effort, u32::MAX] {
-        assert_eq!(lines(&board, w), LIVE);
-    }
+    assert_turns(&board, effort, Verdict::Live, LIVE);
+    let undecided = (Verdict::Undecided, THREE_BYTES);
+    assert_eq!(judged(&board, THREE_BYTES), undecided);
+    assert_eq!(judged(&board, u32::MAX), (Verdict::Live, effort));
 }
 
 #[test]
@@ -143,14 +175,17 @@ fn a_winding_shunted_by_a_ladder_is_dead_however_many_chains_there_are() {
     // last, and then between plus and the last rung
     for (a, b) in [(62, 63), (2, 63), (62, 3), (63, 0)] {
         let board = whole_ladder(WIRE_FEED, &[vec![4, a, b, 0]]);
+        assert_eq!(told(&board), Told::Shunted);
         for w in [0, 1, THREE_BYTES, u32::MAX] {
+            assert_eq!(judged(&board, w), (Verdict::Dead, 0));
             assert_eq!(lines(&board, w), DEAD);
         }
     }
     // the winding that feeds the ladder is not shunted by it
     let board = whole_ladder(WINDING_FEED, &[]);
     for w in [0, 1, 10_000] {
-        assert_eq!(lines(&board, w), UNDECIDED);
+        assert_eq!(judged(&board, w), (Verdict::Undecided, w));
+        assert_eq!(lines(&board, w), DEAD);
     }
 }
 
@@ -159,8 +194,22 @@ fn a_small_ladder_fed_by_the_winding_turns_at_its_effort() {
     for columns in 1..10 {
         let board = with_ladder(columns, WINDING_FEED, |_| vec![]);
         let effort = 1 + ways(columns.into());
-        assert_eq!(lines(&board, effort - 1), UNDECIDED);
-        assert_eq!(lines(&board, effort), DEAD);
+        assert_turns(&board, effort, Verdict::Dead, DEAD);
+    }
+}
+
+#[test]
+fn windings_of_a_ladder_of_64_terminals() {
+    // fed by the winding, and then with a wire from its last rung to minus
+    assert_eq!(told(&whole_ladder(WINDING_FEED, &[])), Told::Dead(0));
+    let board = whole_ladder(WINDING_FEED, &[vec![0, 63, 1]]);
+    assert_eq!(told(&board), Told::Live);
+    // the winding goes from the last rung to minus; fed at 2, and then not fed
+    let leaving = [vec![4, 63, 1, 0]];
+    assert_eq!(told(&whole_ladder(WIRE_FEED, &leaving)), Told::Live);
+    assert_eq!(told(&whole_ladder(&[0, 4, 2], &leaving)), Told::Dead(1));
+    for (board, line) in [(dead_ladder(30).0, DEAD), (live_ladder(30).0, LIVE)] {
+        assert_eq!(lines(&board, 0), line);
     }
 }
 
@@ -169,8 +218,7 @@ fn a_small_ladder_fed_by_the_winding_turns_at_its_effort() {
 fn a_dead_ladder_needs_all_32_bits() {
     let (board, effort) = dead_ladder(30);
     assert_eq!(effort, 3_221_225_440);
-    assert_eq!(lines(&board, effort), DEAD);
-    assert_eq!(lines(&board, effort - 1), UNDECIDED);
+    assert_turns(&board, effort, Verdict::Dead, DEAD);
 }
 
 #[test]
@@ -178,5 +226,5 @@ fn a_dead_ladder_needs_all_32_bits() {
 fn a_ladder_of_64_terminals_has_too_many_chains_for_any_allowance() {
     // the ladder is fed by the winding, which nothing shunts
     let board = whole_ladder(WINDING_FEED, &[]);
-    assert_eq!(lines(&board, u32::MAX), UNDECIDED);
+    assert_eq!(judged(&board, u32::MAX), (Verdict::Undecided, u32::MAX));
 }

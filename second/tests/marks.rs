@@ -1,6 +1,7 @@
 //! Request A2 over whole sessions: relays that start drawn, and what a mark is
 //! refused for.
 
+use second::cases::answers;
 use second::session::session;
 
 /// Parts that the boards here are made of, but for a few.
@@ -71,8 +72,8 @@ fn a_mark_of_a_steel_relay() {
 fn runs_that_stop_leave_the_start_they_found() {
     let h3 = [LOWER_CONTACT, WINDING, MARK];
     assert_eq!(lines(&h3, &[]), "0 spent 4096 1\n");
-    let undecided = [&[3, 1, 0, 2][..], WINDING, MARK, &[0]].concat();
-    assert_eq!(session(&undecided), "0 undecided 0 1\n");
+    let conflict = [3, 1, 0, 3, 5, 0, 2, 0, 6, 2, 1, 0, 7, 0, 0];
+    assert_eq!(session(&conflict), "0 conflict 0 1\n");
 }
 
 #[test]
@@ -80,10 +81,13 @@ fn a_mark_joins_and_conducts_nothing() {
     // the winding's effort is 3 with the mark and without it
     for parts in [&[WIRE, WINDING][..], &[WIRE, WINDING, MARK]] {
         let board = [&[3, 1, 0, parts.len() as u8][..], &parts.concat()].concat();
-        let drawn = parts.len() - 2;
-        let line = |w| session(&[&board[..], &[w]].concat());
-        assert_eq!(line(2), format!("0 undecided 0 {drawn}\n"));
-        assert_eq!(line(3), format!("0 idle {} 1\n", 1 - drawn));
+        let moves = 3 - parts.len();
+        let line = session(&[&board[..], &[3]].concat());
+        assert_eq!(line, format!("0 idle {moves} 1\n"));
+        let digits: String = board.iter().map(|byte| format!("{byte:02x}")).collect();
+        let judged = |w| answers(&format!("{digits} 00 00 00 00 {w:02x} @")).unwrap();
+        assert_eq!(judged(2), "judged undecided 2\n");
+        assert_eq!(judged(3), "judged live 3 3: 0 2 1\n");
     }
     assert_eq!(lines(&[WINDING, MARK], &[]), "0 idle 1 0\n");
 }

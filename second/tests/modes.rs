@@ -88,6 +88,19 @@ fn typed_cases_and_one_that_is_malformed() {
 }
 
 #[test]
+fn typed_cases_of_request_a6() {
+    let h1 = "03 01 01 02  03 00 02 00  04 02 01 00";
+    let text = format!("{h1} 00 00 00 00 !\n{h1} 00 01 00 00 !\n{h1} 00 00 00 00 01 ?\n");
+    let output = play(&["--cases"], text.as_bytes());
+    assert_eq!(output.status.code(), Some(0));
+    assert_eq!(lines(&output), "told dead 1\ntold live\nchecked divides\n");
+    let malformed = format!("{text} {h1} 00 00 00 00 00 !");
+    let output = play(&["--cases"], malformed.as_bytes());
+    assert_eq!(output.status.code(), Some(1));
+    assert!(output.stdout.is_empty());
+}
+
+#[test]
 fn other_arguments_get_the_usage() {
     for arguments in [
         &["--few"][..],

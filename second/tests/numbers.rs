@@ -189,12 +189,9 @@ fn a_kind_of_260_is_not_kind_4() {
 }
 
 #[test]
-fn w_is_not_narrowed() {
-    // the session needs no more than 5; each of these has many bits 0
-    for power in 3..32 {
-        let w = shortest(1 << power);
-        assert_eq!(session(&replaced(W, &w)), LINES.concat());
+fn no_w_changes_a_line() {
+    // since request A6 no run heeds it
+    for w in (0..32).map(|power| 1 << power).chain(0..10) {
+        assert_eq!(session(&replaced(W, &shortest(w))), LINES.concat());
     }
-    let undecided = "0 undecided 0 1\n1 undecided 0 1\n2 undecided 0 1\n";
-    assert_eq!(session(&replaced(W, &[0])), undecided);
 }

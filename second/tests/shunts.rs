@@ -1,6 +1,6 @@
 //! Request A4: which windings are shunted, that they are dead with effort 0 at
 //! every allowance, that they still conduct for others, and what this makes of
-//! moves, runs and sessions.
+//! moves, runs and sessions, which since request A6 heed no allowance.
 
 use second::board::{Board, Ends, State, Windings};
 use second::cases::answers;
@@ -9,6 +9,7 @@ use second::judge::{judge, Judgement, Verdict};
 use second::moves::{move_relay, Answer};
 use second::number::Reader;
 use second::session::session;
+use second::tell::{tell, Told};
 
 const ALLOWANCES: [u32; 7] = [0, 1, 2, 3, 100, 2_097_151, u32::MAX];
 
@@ -46,9 +47,10 @@ fn judgement(verdict: Verdict, effort: u32, shown: &[u8]) -> Judgement {
     }
 }
 
-/// Asserts that the relay's first winding is dead, with effort 0 and without a
-/// chain, at every allowance.
+/// Asserts that the relay's first winding is told to be shunted, and by chains
+/// is dead, with effort 0 and none shown, at every allowance.
 fn assert_shunted(board: &Board, state: State, relay: usize) {
+    assert_eq!(tell(board, &state, first(board, relay)), Told::Shunted);
     for w in ALLOWANCES {
         let judged = judge(board, &state, first(board, relay), w);
         assert_eq!(judged, judgement(Verdict::Dead, 0, &[]));
@@ -56,12 +58,18 @@ fn assert_shunted(board: &Board, state: State, relay: usize) {
 }
 
 /// Asserts that the relay's first winding has this effort: live with the chain
-/// if one is shown, else dead; and undecided below it.
+/// if one is shown, else dead; and undecided below it. Without an allowance it
+/// is told live or dead as well.
 fn assert_not_shunted(board: &Board, state: State, relay: usize, effort: u32, shown: &[u8]) {
     let verdict = match shown {
         [] => Verdict::Dead,
         _ => Verdict::Live,
     };
+    match tell(board, &state, first(board, relay)) {
+        Told::Live => assert_eq!(verdict, Verdict::Live),
+        Told::Dead(_) => assert_eq!(verdict, Verdict::Dead),
+        Told::Shunted => panic!("shunted"),
+    }
     let judged = |w| judge(board, &state, first(board, relay), w);
     for w in 0..effort {
         assert_eq!(judged(w), judgement(Verdict::Undecided, w, &[]));
@@ -230,40 +238,33 @@ fn a_shunted_winding_still_conducts_for_others() {
 }
 
 #[test]
-fn a_shunt_settles_a_regular_relay_at_any_allowance() {
+fn a_shunt_settles_a_regular_relay() {
     let board = board(3, 1, &[&[0, 0, 2], &[4, 2, 1, 0], &[3, 2, 1, 0]]);
     let (dropped, drawn) = (none().push(0), none().push(0).draw(0));
-    for w in ALLOWANCES {
-        let rests = (Answer::Rests, dropped);
-        assert_eq!(move_relay(&board, dropped, 0, w), rests);
-        let drops = (Answer::Dropped, dropped);
-        assert_eq!(move_relay(&board, drawn, 0, w), drops);
-    }
+    let rests = (Answer::Rests, dropped);
+    assert_eq!(move_relay(&board, dropped, 0), rests);
+    let drops = (Answer::Dropped, dropped);
+    assert_eq!(move_relay(&board, drawn, 0), drops);
 }
 
 #[test]
 fn a_steel_relay_is_moved_by_the_winding_that_is_not_shunted() {
     // drawing winding 2-1 and dropping winding 3-1, each fed by the winding of
-    // another relay and with a button beside it; their efforts are 3 and 5
+    // another relay and with a button beside it
     let feeds: &[&[u8]] = &[&[4, 0, 2, 1], &[4, 0, 3, 2], &[3, 2, 1, 0], &[3, 3, 1, 1]];
     let steel: &[&[u8]] = &[&[5, 2, 1, 0], &[6, 3, 1, 0]];
     let board = board(4, 3, &[feeds, steel].concat());
-    let assert_moves = |state: State, w, answers| {
-        let moved = |state| move_relay(&board, state, 0, w).0;
+    let assert_moves = |state: State, answers| {
+        let moved = |state| move_relay(&board, state, 0).0;
         assert_eq!((moved(state), moved(state.draw(0))), answers);
     };
-    let undecided = (Answer::Undecided, Answer::Undecided);
-    assert_moves(none(), 4, undecided);
-    assert_moves(none(), 5, (Answer::Conflict, Answer::Conflict));
+    assert_moves(none(), (Answer::Conflict, Answer::Conflict));
     let shunted_drawing = none().push(0);
-    assert_moves(shunted_drawing, 4, undecided);
-    assert_moves(shunted_drawing, 5, (Answer::Rests, Answer::Dropped));
+    assert_moves(shunted_drawing, (Answer::Rests, Answer::Dropped));
     let shunted_dropping = none().push(1);
-    assert_moves(shunted_dropping, 2, undecided);
-    assert_moves(shunted_dropping, 3, (Answer::Drew, Answer::Rests));
-    for w in ALLOWANCES {
-        assert_moves(none().push(0).push(1), w, (Answer::Rests, Answer::Rests));
-    }
+    assert_moves(shunted_dropping, (Answer::Drew, Answer::Rests));
+    let both = none().push(0).push(1);
+    assert_moves(both, (Answer::Rests, Answer::Rests));
 }
 
 /// The lines of a session over such a board, with this allowance, below 128,
@@ -276,10 +277,8 @@ fn lines(terminals: u8, relays: u8, parts: &[&[u8]], w: u8, events: &[u8]) -> St
 fn a_session_in_which_a_button_shunts() {
     let parts: &[&[u8]] = &[&[0, 0, 2], &[4, 2, 1, 0], &[3, 2, 1, 0]];
     let moved = "0 idle 1 1\n1 idle 1 0\n2 idle 1 1\n";
-    assert_eq!(lines(3, 1, parts, 3, &[1, 0]), moved);
-    for w in 0..3 {
-        let settled = "0 undecided 0 0\n1 idle 0 0\n2 undecided 0 0\n";
-        assert_eq!(lines(3, 1, parts, w, &[1, 0]), settled);
+    for w in 0..5 {
+        assert_eq!(lines(3, 1, parts, w, &[1, 0]), moved);
     }
 }
 
@@ -294,8 +293,9 @@ fn a_session_without_any_allowance() {
     let marked = [h6, &[&[7, 0]]].concat();
     assert_eq!(lines(3, 1, &marked, 0, &[]), "0 idle 1 0\n");
     let more = [&marked[..], &[&[4, 3, 1, 1]]].concat();
-    assert_eq!(lines(4, 2, &more, 0, &[]), "0 undecided 1 0\n");
-    assert_eq!(lines(4, 2, &more, 3, &[]), "0 idle 1 0\n");
+    for w in [0, 3] {
+        assert_eq!(lines(4, 2, &more, w, &[]), "0 idle 1 0\n");
+    }
 }
 
 #[test]

@@ -1,16 +1,17 @@
-"""Sessions for tests/sessions.py that are long or much work, as bytes: runs that fill the log, the largest and the densest
-boards, efforts of two and four million chains, boards that only shunts make little work, and inputs around the longest. A
-function that makes a session takes the dice and what its variant is; tests/lib/session_sorts.py has the variants."""
+"""Sessions for tests/sessions.py that are long, or were much work while runs listed chains, as bytes: runs that fill the log, the
+largest and the densest boards, efforts of two and four million chains, boards worked out by hand, some with more chains than any
+allowance, and inputs around the longest. A function that makes a session takes the dice and what its variant is;
+tests/lib/session_sorts.py has the variants."""
 import session_boards as boards
 from damaged_sessions import damaged_session
-from session_files import enough, presses, session, typed
+from session_files import much, presses, session, some_allowance, typed
 
 LONGEST = 65_536
 
 
 def full_log_session(dice, variant):
     """Runs that end just before the log is full, where it is full, and after; the next events act on the state left."""
-    return session(boards.counting(dice, *variant), enough(dice), [3, 1, 0])
+    return session(boards.counting(dice, *variant), much(dice), [3, 1, 0])
 
 
 def largest_board_session(dice, allowance):
@@ -33,10 +34,16 @@ def millions_session(dice, variant):
     return session(board, effort + more, [])
 
 
+def fed_session(dice, own):
+    """A board worked out by hand, and its button, where it has one, pushed and released."""
+    counts, parts, *_ = own.asked
+    return session((counts, parts), some_allowance(dice), [1, 0] * counts[2])
+
+
 def filled(dice, calm, length):
     """A session of so many bytes on a board of this sort, nearly all of them events; none is refused."""
     board = calm(dice)
-    begin = session(board, enough(dice), [])
+    begin = session(board, much(dice), [])
     return begin + typed(presses(dice, board[0][2], length - len(begin)))
 
 
@@ -47,7 +54,7 @@ def longest_session(dice, calm):
 def doubles_session(dice, calm):
     """As long as may be, each event any push or release, so that about half of them are refused by 12."""
     board = calm(dice)
-    begin = session(board, enough(dice), [])
+    begin = session(board, much(dice), [])
     return begin + bytes(dice.randrange(2 * board[0][2]) for _ in range(LONGEST - len(begin)))
 
 

@@ -21,6 +21,7 @@ ELSEWHERE = {
     "definitions": "a column of a table",
     "flock": "a command of the system",
     "head": "a command of the system",
+    "ladder-w2097151": "a sample of before, in the note on request A1",
     "lost-files": "a part of `rt ci`",
     "open": "a word of the proof language",
     "proof": "a column of a table",

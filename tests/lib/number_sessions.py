@@ -7,9 +7,8 @@ import run_model
 from board_model import LARGEST, LONGEST_NUMBER, NARROW, number_bytes
 from running import total
 
-MOST_CHAINS = 10  # it has fewer
 COUNTS, PARTS = [3, 1, 1], [[3, 0, 2, 0], [1, 0, 2, 0], [4, 2, 1, 0]]
-H2 = run_model.Board(COUNTS, PARTS, MOST_CHAINS)
+H2 = run_model.Board(COUNTS, PARTS)
 REST = [100, 1, 0]  # W 100, a push and a release
 NUMBERS = [*COUNTS, len(PARTS), *(number for part in PARTS for number in part)]
 NAMES = "T R B C kind a b button kind a b relay kind a b relay W event event".split()
@@ -54,13 +53,13 @@ def lines(data):
     found, pushed, event = [], set(), None
     try:
         at, drawn = model.read(data)
-        allowance, at = model.number_at(data, at)
+        _, at = model.number_at(data, at)  # W, which no run heeds
         while True:
             if event is not None and event % 2 == (event // 2 in pushed):
                 found.append(f"{len(found)} refused 12")
             else:
                 pushed = pushed if event is None else pushed ^ {event // 2}
-                word, log, drawn, _ = run_model.run(H2, drawn, pushed, allowance, LOG)
+                word, log, drawn, _ = run_model.run(H2, drawn, pushed, LOG)
                 found.append(f"{len(found)} {word} {len(log)} {total(drawn)}")
             if at == len(data):
                 return found

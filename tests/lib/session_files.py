@@ -1,15 +1,9 @@
-"""Sessions for tests/sessions.py, as bytes: fine boards with an allowance and events, and those with an event or an allowance
-that is refused. A session's work is about its allowance, or its number of chains, times its windings, moves and events; none
-here has much. A function that makes a session takes the dice; tests/lib/session_sorts.py says of which sort it is."""
-import judge_model
-import run_model
-import running
+"""Sessions for tests/sessions.py, as bytes: fine boards with an allowance, which no run heeds, and events, and those with an event
+or an allowance that is refused. A function that makes a session takes the dice; tests/lib/session_sorts.py says of which sort it
+is."""
 import session_boards as boards
 from board_model import LARGEST, LONGEST_NUMBER, NARROW, file_of, number_bytes
 
-MOST_CHAINS = 1_000  # of a board whose efforts are worked out
-MOST_MOVES = 4_096
-MUCH_WORK = 2_000_000  # chains, of a session on a board with more of them
 TOP = 128  # the top bit of a byte
 CUT = range(1, LONGEST_NUMBER)  # so many bytes with their top bit set are a number that is cut, and one more are no form
 # Behind a byte with its top bit set: no form.
@@ -41,54 +35,19 @@ def some_presses(dice, board, most=6):
     return presses(dice, board[0][2], dice.randint(1, most))
 
 
-def enough(dice):
-    """An allowance that is enough for a board of few chains."""
+def much(dice):
+    """A large allowance."""
     return dice.choice([LARGEST, LARGEST - 1, 2**31, 268_435_456, 268_435_455, 2_097_152, 2_097_151, 16_384, 16_383, 5_000])
 
 
 def some_allowance(dice):
-    """An allowance that is enough, or one that may not be."""
-    return dice.choice([enough(dice), enough(dice), 0, 1, 5, 10, 20, 127, 128])
-
-
-def pressed_states(own, events):
-    """Runs a board from a fresh state and after each event, so that it knows the efforts of all states on the way. Whether
-    every run comes to an end."""
-    drawn, pushed = judge_model.start(own.parts), set()
-    for event in [None] + events:
-        if event is not None:
-            pushed ^= {event // 2}
-        word, _, drawn, _ = run_model.run(own, drawn, pushed, LARGEST, running.MANY_MOVES)
-        if word == "spent":
-            return False
-    return True
-
-
-def efforts(board, events):
-    """The efforts of all windings in the states that a session comes to; none where that is much work."""
-    own = run_model.Board(*board, MOST_CHAINS)
-    try:
-        if not pressed_states(own, events):
-            return []
-    except run_model.TooManyChains:
-        return []
-    return sorted({effort for state in own.known.values() for windings in state for effort, _ in windings})
-
-
-def allowance_around(dice, board, events):
-    """An allowance around the effort of a winding in a state that a session comes to, seldom the largest; a small one where
-    there is much work."""
-    found = efforts(board, events)
-    if found:
-        return dice.choice([max(0, dice.choice(found) + dice.choice([-1, 0, 1]))] * 5 + [LARGEST])
-    windings = sum(part[0] in judge_model.WINDINGS for part in board[1])
-    affordable = MUCH_WORK // (max(windings, 1) * MOST_MOVES * (len(events) + 1))
-    return dice.choice([affordable, dice.randint(0, affordable)])
+    """An allowance that is large, or one that is less than most boards have chains."""
+    return dice.choice([much(dice), much(dice), 0, 1, 2, 5, 10, 20, 127, 128])
 
 
 def feeding_session(dice):
     board = boards.feeding(dice)
-    return session(board, enough(dice), some_presses(dice, board))
+    return session(board, some_allowance(dice), some_presses(dice, board))
 
 
 def shunting_session(dice):
@@ -98,18 +57,17 @@ def shunting_session(dice):
 
 def buzzing_session(dice):
     board = boards.buzzing(dice)
-    return session(board, enough(dice), some_presses(dice, board, 3))
+    return session(board, some_allowance(dice), some_presses(dice, board, 3))
 
 
 def counting_session(dice):
     board = boards.marked(dice, boards.counting(dice, dice.randint(2, 7), dice.randint(0, 3)))
-    events = some_presses(dice, board)
-    return session(board, dice.choice([LARGEST, allowance_around(dice, board, events)]), events)
+    return session(board, some_allowance(dice), some_presses(dice, board))
 
 
 def conflicting_session(dice):
     board = boards.conflicting(dice)
-    return session(board, enough(dice), some_presses(dice, board, 12))
+    return session(board, some_allowance(dice), some_presses(dice, board, 12))
 
 
 def every_kind_session(dice):
@@ -119,14 +77,7 @@ def every_kind_session(dice):
 
 def web_session(dice):
     board = boards.web(dice)
-    events = some_presses(dice, board)
-    return session(board, allowance_around(dice, board, events), events)
-
-
-def effort_session(dice):
-    board = boards.feeding(dice)
-    events = some_presses(dice, board)
-    return session(board, allowance_around(dice, board, events), events)
+    return session(board, some_allowance(dice), some_presses(dice, board))
 
 
 def diamonds_session(dice):

@@ -2,26 +2,25 @@
 import random
 
 import damaged_sessions as damaged
+import feed_boards
 import long_sessions
 import session_boards as boards
 import session_files as fine
 from board_model import LARGEST, LONGEST_NUMBER
 from damaged_sessions import DAMAGES
-from judging import AFFORDABLE
 
 LEAST = 10  # of each sort of which there are many
 
 # Those sorts: the share of each in the sessions, and what makes one.
 SORTS = {
-    "relays that feed each other": (700, fine.feeding_session),
+    "relays that feed each other": (1_350, fine.feeding_session),
     "relays that are shunted": (300, fine.shunting_session),
     "relays that buzz": (120, fine.buzzing_session),
     "relays that count": (100, fine.counting_session),
     "steel relays in conflict": (300, fine.conflicting_session),
     "every kind of part": (200, fine.every_kind_session),
     "rings, ladders, paths and random boards": (450, fine.web_session),
-    "an allowance around an effort": (650, fine.effort_session),
-    "an allowance around the effort of a row of diamonds": (150, fine.diamonds_session),
+    "an allowance, which is not heeded, around the effort of a row of diamonds": (150, fine.diamonds_session),
     "128 to 256 parts": (150, fine.crowded_session),
     "the least allowances": (150, fine.least_allowance_session),
     "pushed or released twice": (300, fine.double_session),
@@ -47,9 +46,10 @@ BAD_ENDS = [b"\x80" * count for count in range(1, LONGEST_NUMBER + 1)] + [b"\x80
 FEW = {
     "runs of about 4,096 moves": (long_sessions.full_log_session, [(bits, followers) for bits in (12, 13) for followers in (0, 1, 2)]),
     "the largest boards": (long_sessions.largest_board_session, [LARGEST, LARGEST, 200, 40, 10] * 8),
-    "dense boards": (long_sessions.dense_session, [(9, LARGEST), (10, LARGEST), (11, LARGEST), (12, AFFORDABLE), (11, 300_000), (12, 1)]),
+    "dense boards": (long_sessions.dense_session, [(9, LARGEST), (12, LARGEST), (12, 1), (22, LARGEST), (22, 0)]),
     "all shunted, with very many chains": (long_sessions.short_session, [(22, LARGEST), (22, 0), (16, LARGEST), (16, 1)]),
-    "an allowance around an effort of two or four million": (long_sessions.millions_session, [(18, -1), (18, 0), (18, 1), (18, 5), (19, -1), (19, 0), (19, 1)]),
+    "an allowance, which is not heeded, around an effort of two or four million": (long_sessions.millions_session, [(18, -1), (18, 0), (18, 1), (18, 5), (19, -1), (19, 0), (19, 1)]),
+    "boards worked out by hand, some with more chains than any allowance": (long_sessions.fed_session, feed_boards.every_one()),
     "65,536 bytes, nearly all events": (long_sessions.longest_session, boards.CALM),
     "65,536 bytes, half the events refused by 12": (long_sessions.doubles_session, [boards.holding]),
     "65,536 bytes, the last event bad": (long_sessions.bad_end_session, BAD_ENDS),

@@ -25,12 +25,16 @@ def wires(*ends):
     return [[WIRE, a, b] for a, b in zip(ends, ends[1:])]
 
 
-def judged(name, terminals, parts, *asked, drawn=(), pushed=()):
-    """A board's judgements in a state. Each is the relay, which of its windings, the effort and the chain."""
+def asked_of(terminals, parts, relay, which, drawn=(), pushed=()):
+    """A winding of a board in a state, as it is asked for."""
     names = [{part[-1] for part in parts if part[0] in kinds} for kinds in ((REGULAR, DRAWING), (BUTTON,))]
     counts = [terminals, *(max(own, default=-1) + 1 for own in names)]
-    state = set(drawn), set(pushed)
-    return [Judged(name, (counts, parts, *state, relay, which), *comes_to) for relay, which, *comes_to in asked]
+    return counts, parts, set(drawn), set(pushed), relay, which
+
+
+def judged(name, terminals, parts, *asked, **state):
+    """A board's judgements in a state. Each is the relay, which of its windings, the effort and the chain."""
+    return [Judged(name, asked_of(terminals, parts, relay, which, **state), *comes_to) for relay, which, *comes_to in asked]
 
 
 def by_one_part():

@@ -60,7 +60,7 @@ first-below ok t l n m start most e =
     (λ below. e ∙ sym (fewer .0 (omega (arith, e, below))), λ past. end ∙ sym (fewer .1 (omega (arith, e, past, end))))
 
 -- the first passes, where there is one; where there is none, no number tried does
-first-found : (ok : ℕ → Bool) (k n : ℕ) → firstFrom ok k n < n + k → ok (firstFrom ok k n) ≡ true
+pub first-found : (ok : ℕ → Bool) (k n : ℕ) → firstFrom ok k n < n + k → ok (firstFrom ok k n) ≡ true
 unfolding firstFrom
 first-found ok zero n some = absurd (omega (arith, some))
 first-found ok (suc k) n some =
@@ -68,7 +68,7 @@ first-found ok (suc k) n some =
     (λ here. rw here here)
     (λ past. rw past (first-found ok k (suc n) (omega (arith, rw past at some))))
 
-first-absent : (ok : ℕ → Bool) (k n m : ℕ) → n + k ≤ firstFrom ok k n → n ≤ m → m < n + k → ok m ≡ false
+pub first-absent : (ok : ℕ → Bool) (k n m : ℕ) → n + k ≤ firstFrom ok k n → n ≤ m → m < n + k → ok m ≡ false
 unfolding firstFrom
 first-absent ok zero n m none from below = absurd (omega arith)
 first-absent ok (suc k) n m none from below =
@@ -79,7 +79,7 @@ first-absent ok (suc k) n m none from below =
     (λ here. let at-n : m ≡ n = omega arith in rw at-n past))
 
 -- no number before the first passes
-first-before : (ok : ℕ → Bool) (k n m : ℕ) → n ≤ m → m < firstFrom ok k n → ok m ≡ false
+pub first-before : (ok : ℕ → Bool) (k n m : ℕ) → n ≤ m → m < firstFrom ok k n → ok m ≡ false
 unfolding firstFrom
 first-before ok zero n m from before = absurd (omega (arith, from, before))
 first-before ok (suc k) n m from before =

@@ -172,6 +172,13 @@ no-members =
     (λ none. refl)
     (λ s half none. omega (arith, half (λ n. sym (member-next s n) ∙ none (suc n)), member-clear s 0 (none 0)))
 
+-- what is a member of the set of one number is that number
+pub member-alone : (n m : ℕ) → member (including 0 n) m ≡ true → n ≡ m
+member-alone n m is =
+    by-test (eqb m n)
+    (λ same. sym (eqb-true m n same))
+    (λ differ. absurd (false≢true (sym (member-including-other 0 n m (eqb-false m n differ) ∙ member-none m) ∙ is)))
+
 -- sets with the same members are one number
 pub members-equal : (s t : ℕ) → ((n : ℕ) → member s n ≡ member t n) → s ≡ t
 members-equal =

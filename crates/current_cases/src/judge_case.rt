@@ -1,43 +1,10 @@
-// A judgement as a case asks for it, and its verdict as it is printed.
-use crate::handed_sets;
+// A judgement by chains as a case asks for it, and its verdict as it is printed.
+use crate::asked;
 use crate::print;
 use board::Board;
-use board_reader::ReadAnswer;
-use judge::Which;
-use number::Number;
 use search::Finding;
 use search::PLACES;
 use search::Verdict;
-use state::State;
-
-// A place past every case.
-const PAST: usize = 65_537;
-
-// A number that follows the board, and the place just after it; that is past the case where there is no number.
-struct Asked {
-    value: u32,
-    next: usize,
-}
-
-// The number at a place.
-fn asked_at(bytes: &[u8], at: usize) -> Asked {
-    let Number::Read(value, next) = number::read_number(bytes, at) else {
-        return Asked {
-            value: 0,
-            next: PAST,
-        };
-    };
-    Asked { value, next }
-}
-
-// The winding of this number.
-fn which_of(number: u32) -> Which {
-    if number == 0 {
-        Which::First
-    } else {
-        Which::Second
-    }
-}
 
 // Prints one of a chain's places: its terminal, or past the length that it is used although it must not be.
 fn print_place(terminal: u8, at: usize, length: usize) {
@@ -80,35 +47,13 @@ fn print_verdict(verdict: Verdict) {
     print_chain(terminals, verdict.length);
 }
 
-// Judges as the numbers from a place on ask, which must end the case.
-fn judge_asked(board: Board, sets: &[u8], bytes: &[u8], start: usize) {
-    let drawn = asked_at(bytes, start);
-    let pushed = asked_at(bytes, drawn.next);
-    let relay = asked_at(bytes, pushed.next);
-    let which = asked_at(bytes, relay.next);
-    let allowance = asked_at(bytes, which.next);
+// Judges as the numbers from a place on ask, the allowance last, which must end the case.
+pub fn answer_judgement(board: Board, sets: &[u8], bytes: &[u8], start: usize) {
+    let winding = asked::winding_asked(board, sets, bytes, start);
+    let allowance = asked::number_asked(bytes, winding.next);
     if allowance.next != bytes.len() {
-        return print::words(b"bad case");
+        return print::bad_case();
     }
-    let state = State {
-        drawn: drawn.value as u64,
-        pushed: pushed.value as u64,
-    };
-    let kept = handed_sets::handed_kept(board, state, sets);
-    let which = which_of(which.value);
-    print_verdict(judge::judge(board, kept, relay.value, which, allowance.value));
-}
-
-// Judges as the case asks; where its board is refused, prints that.
-pub fn answer_case(sets: &[u8], bytes: &[u8]) {
-    let board_read = board_reader::read(bytes);
-    let answer = board_read.answer;
-    match answer {
-        ReadAnswer::Refused(refused) => print::read_refusal(refused),
-        ReadAnswer::Read(next) => {
-            let board = board_read.board;
-            judge_asked(board, sets, bytes, next);
-        }
-    }
-    print::words(b"\n");
+    let which = winding.which;
+    print_verdict(judge::judge(board, winding.kept, winding.relay, which, allowance.value));
 }

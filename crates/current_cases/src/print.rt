@@ -27,6 +27,11 @@ pub fn call_refusal(label: &[u8], refused: Refusal) {
     }
 }
 
+// Says that the numbers of a case do not end where it ends.
+pub fn bad_case() {
+    words(b"bad case");
+}
+
 // Says that the text of a case is malformed.
 pub fn bad_text() {
     words(b"bad text\n");

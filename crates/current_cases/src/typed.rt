@@ -1,5 +1,5 @@
 // The text of the cases, taken one character after the other; each case is answered where it ends.
-use crate::judge_case;
+use crate::board_case;
 use crate::print;
 ghost use Prim.Native.Nat.{_≤_};
 
@@ -81,7 +81,7 @@ fn end_case(character: u8, case: Case, bytes: &[u8; CASE_ROOM])
     let sets = &whole[..start];
     let asked = &whole[start..end];
     match character {
-        b'@' => judge_case::answer_case(sets, asked),
+        b'@' | b'!' | b'?' => board_case::answer_case(character, sets, asked),
         _ => print::bad_text(),
     }
 }

@@ -11,10 +11,13 @@ use Rattle.file_means.proofs.SecondEdition.{first-files-kept, only-by-four, mar
 use Rattle.judge_means.proofs.Circuits.{paths-are-chains, live-is-carrying}
 use Rattle.judge_means.proofs.Exactness.{judges-keep, shunted-dead, as-published}
 use Rattle.judge_means.proofs.Eleven.{the-winding, every-relay-wound}
-use Rattle.moves_means.proofs.SingleMoves.{move-exactly}
+use Rattle.judge_means.proofs.Dividing.{shown-undivided, served-exactly-on, linked-exactly, live-served, told-exactly}
+use Rattle.judge_means.proofs.Dividing.{checked-exactly}
+use Rattle.moves_means.proofs.SingleMoves.{move-exactly, move-decided}
 use Rattle.moves_means.proofs.ByChains.{regular-by-chains, steel-by-chains}
 use Rattle.moves_means.proofs.OneRelay.{changes-one-relay}
-use Rattle.runs_means.proofs.Courses.{run-exactly}
+use Rattle.moves_means.proofs.AsTold.{taken-as-told, regular-as-told, steel-as-told}
+use Rattle.runs_means.proofs.Courses.{run-exactly, run-decided}
 use Rattle.runs_means.proofs.KeptSets.{only-at-ends, belong-always}
 use Rattle.kept.proofs.OnlyEnds.{only-ends}
 use Rattle.session_means.proofs.HandedLines.{lines-handed-out, all-handed-out}
@@ -36,8 +39,19 @@ as-the-model-says = record {
   regular = regular-by-chains;
   steel = steel-by-chains;
   moves = move-exactly;
+  undivided = shown-undivided;
+  told = told-exactly;
+  checked = checked-exactly;
+  served = live-served;
+  serves = served-exactly-on;
+  links = linked-exactly;
+  taken = taken-as-told;
+  regular-told = regular-as-told;
+  steel-told = steel-as-told;
+  decided = move-decided;
   changes = changes-one-relay;
   runs = run-exactly;
+  runs-decided = run-decided;
   fresh = fresh-follows;
   belong = belong-always;
   only-at-ends = only-at-ends;

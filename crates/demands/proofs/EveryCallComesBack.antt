@@ -19,6 +19,7 @@ use Rattle.runs.specs.Looks.{Ending}
 use Rattle.runs.specs.Running.{Ran}
 use Rattle.file_means.proofs.FileRefusals.{file-refused}
 use Rattle.judge_means.proofs.Eleven.{eleven-exactly}
+use Rattle.judge_means.proofs.Dividing.{nineteen-exactly}
 use Rattle.moves_means.proofs.SingleMoves.{move-eleven-exactly}
 use Rattle.lines.specs.Lines.{toldLine}
 use Rattle.events.specs.Events.{Shown}
@@ -31,7 +32,8 @@ use Rattle.demands.specs.EveryCallComesBack.{InOrder, AsLent, EveryCallC
 use Rattle.demands.proofs.StandsLaws.{writing-stands, number-writing-stands, line-writing-stands}
 use Rattle.demands.proofs.StandsLaws.{nothing-written}
 use Rattle.demands.proofs.StandsLaws.{against-itself, push-stands, release-stands, move-stands, judge-stands}
-use Rattle.demands.proofs.StandsLaws.{run-stands, next-line-stands, next-lines-stand}
+use Rattle.demands.proofs.StandsLaws.{judge-at-once-stands, check-stands, run-stands, next-line-stands}
+use Rattle.demands.proofs.StandsLaws.{next-lines-stand}
 use Rattle.demands.proofs.EventLineLaws.{ran-line-stands, event-line-stands, shown-untouched}
 use Rattle.demands.proofs.OneAnswer.{one-answer}
 
@@ -73,6 +75,7 @@ in-order = record {
   forms = form-exactly;
   eleven = eleven-exactly;
   eleven-moved = move-eleven-exactly;
+  nineteen = nineteen-exactly;
   fourteen = fourteen-exactly;
   eighteen = eighteen-exactly;
   fifteen = fifteen-exactly;
@@ -82,6 +85,8 @@ in-order = record {
   pushes = λ b h n x press. sym (against-itself _) ∙ told-first pressed press (push-stands b h n);
   releases = λ b h n x press. sym (against-itself _) ∙ told-first pressed press (release-stands b h n);
   judges = λ b h r k w v told. told-first judged told (judge-stands b h r k w);
+  judges-at-once = λ b h r k a told. ap against told ∙ judge-at-once-stands b h r k;
+  checks = λ b h r k x a told. ap against told ∙ check-stands b h r k x;
   moves = λ b h r w a told. told-first moved told (move-stands b h r w);
   runs = λ b h w log log′ a told. told-first ran told (run-stands b h log w);
   tells-run = λ b e h w x told. told-first shown told (ran-line-stands b e w h);

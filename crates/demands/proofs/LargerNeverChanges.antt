@@ -14,7 +14,8 @@ use Rattle.board.specs.Rules.{boardFine}
 use Rattle.board.specs.Sorts.{carries}
 use Rattle.state.specs.declared.State.{State}
 use Rattle.state.specs.States.{emptyState, stateFine}
-use Rattle.neighbours.specs.Neighbours.{setFrom, setAt, tableFrom, setsAt, neighbours, bareNeighbours}
+use Rattle.lists.specs.Tables.{tableFrom}
+use Rattle.neighbours.specs.Neighbours.{setFrom, setAt, setsAt, neighbours, bareNeighbours}
 use Rattle.kept.specs.declared.Kept.{Kept}
 use Rattle.kept.specs.Kept.{keptAt, sameRow, belongs}
 use Rattle.chains.specs.ChainList.{isIn, canFollow, tries, beyond, chains, crosses, someCrosses, beside, shows}
@@ -32,6 +33,7 @@ use Rattle.judge_means.proofs.Exactness.{liveVerdict, deadVerdict, the-chains, 
 use Rattle.judge_means.proofs.Exactness.{as-afresh, live-exactly, dead-exactly, undecided-exactly, live-shows}
 use Rattle.judge_means.proofs.Exactness.{shunted-dead, dead-counts, undecided-reports}
 use Rattle.judge_means.proofs.Allowances.{larger-allowance, turns-at-effort, effort-some-always}
+use Rattle.judge_means.proofs.Dividing.{agree-where-settled}
 use Rattle.runs_means.proofs.LongerRuns.{longer-run}
 use Rattle.demands.specs.Starred.{h1, pushed0}
 use Rattle.demands.specs.LargerNeverChanges.{JudgedExactly, NoWordAlways, LargerNeverChanges}
@@ -117,5 +119,6 @@ larger-never-changes = record {
   numbers = effort-numbers;
   judge = judged-exactly _ judges-keep;
   always = no-word-always;
+  agree = agree-where-settled;
   runs = longer-run;
 }

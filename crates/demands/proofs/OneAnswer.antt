@@ -5,14 +5,15 @@ use Prim.Native.Nat.{ℕ}
 use mathlib.Core.Path.{_≡_, refl, sym, ap, _∙_}
 use mathlib.Core.List.{List}
 use Rattle.refusals.specs.Outcomes.{Outcome}
-use Rattle.refusals.proofs.Told.{Told, told-injective, ToldLent, told-lent-injective}
+use Rattle.refusals.proofs.Told.{Told, told-injective, list-told, ToldLent, told-lent-injective}
 use Rattle.refusals.proofs.OrderLaws.{against-told}
 use Rattle.number.proofs.NumberLaws.{number-told, number-written-told}
 use Rattle.presses.proofs.PressLaws.{pressed-told}
 use Rattle.board_reader.proofs.ToldLaws.{board-read-told}
 use Rattle.board_writer.proofs.FileLaws.{written-told}
 use Rattle.search.proofs.VerdictLaws.{verdict-told}
-use Rattle.judge.proofs.ScannedLaws.{windings-told}
+use Rattle.judge.proofs.ScannedLaws.{windings-told, asked-told}
+use Rattle.divide.proofs.AtOnceLaws.{judgement-told, checked-told}
 use Rattle.moves.proofs.MovingLaws.{move-told, moved-told}
 use Rattle.runs.proofs.RunningLaws.{ran-told}
 use Rattle.lines.proofs.ToldLaws.{line-written-told}
@@ -101,13 +102,19 @@ one-answer = record {
   kept-usable = λ b h. one-told _ against-told _;
   reach-flood = λ near from out. one-itself _;
   search-search = λ near t v w. one-told _ verdict-told _;
+  feed-reached-without = λ near x. one-itself _;
+  feed-feed-by = λ k t. one-itself _;
+  feed-is-live = λ s l v. one-itself _;
   judge-find-windings = λ b r. one-told _ windings-told _;
-  judge-judge-by = λ k t v w. one-told _ verdict-told _;
+  judge-find-all-windings = λ b. one-told _ (list-told _ windings-told) _;
+  judge-winding-for = λ b h r k. one-told _ asked-told _;
+  judge-is-shunted = λ k v. one-itself _;
   judge-judge = λ b h r k w. one-told _ verdict-told _;
+  divide-judge = λ b h r k. one-told _ judgement-told _;
+  divide-check = λ b h r k x. one-told _ checked-told _;
   presses-push = λ b h n. one-told _ pressed-told _;
   presses-release = λ b h n. one-told _ pressed-told _;
-  moves-decide = λ d f. one-told _ move-told _;
-  moves-step = λ b h r w. one-told _ move-told _;
+  moves-step = λ n l x d. one-told _ move-told _;
   moves-after = λ b h r m. one-itself _;
   moves-move-relay = λ b h r w. one-told _ moved-told _;
   runs-run = λ b h log w. one-lent _ ran-told _;

@@ -5,30 +5,29 @@ use mathlib.Core.Path.{_≡_, refl, sym, ap, subst, _∙_}
 use mathlib.Core.Bool.{Bool, true, false, cond}
 use mathlib.Core.List.{List, [], _∷_}
 use mathlib.Core.Option.{Option, none, some}
-use lib.Dec.{leb}
-use Rattle.refusals.specs.Outcomes.{Outcome, given, refused, _>>_}
-use Rattle.refusals.specs.Refusals.{noSuchWinding}
+use lib.Dec.{leb, ltb}
+use Rattle.refusals.specs.Outcomes.{Outcome, given, refused, _>>_, _>>=_}
+use Rattle.refusals.specs.Refusals.{terminalBeyond}
 use Rattle.refusals.specs.Order.{Order, firstNo, answering, against}
 use Rattle.refusals.proofs.OutcomeLaws.{refused-never}
 use Rattle.refusals.proofs.OrderLaws.{StandsAgainst, answering-stands, asks-append}
 use Rattle.number.specs.Numbers.{numberLines, numberWriting}
 use Rattle.board.specs.declared.Board.{Board}
-use Rattle.board.specs.Parts.{partsOf}
 use Rattle.state.specs.declared.State.{State}
 use Rattle.state.specs.States.{withPushed, withReleased}
 use Rattle.kept.specs.declared.Kept.{Kept}
-use Rattle.kept.specs.Kept.{keptAt, usableLines, left}
+use Rattle.kept.specs.Kept.{keptAt, left}
 use Rattle.presses.specs.Presses.{pushLines, releaseLines, pushing, releasing}
 use Rattle.board_writer.specs.declared.Written.{Written}
 use Rattle.board_writer.specs.declared.Written.the-variants.{Bytes, Refused}
 use Rattle.board_writer.specs.Writing.{writeLines, writing, toldWritten, bytesWritten}
-use Rattle.neighbours.specs.Neighbours.{setsOf}
+use Rattle.neighbours.specs.Neighbours.{neighbours, setsOf}
 use Rattle.search.specs.declared.Winding.{Winding}
 use Rattle.search.specs.Verdicts.{Verdict, settled, unsettled, firstShown, effort, weighed, places}
 use Rattle.judge.specs.declared.Which.{Which}
-use Rattle.judge.specs.RelayWindings.{windingOf, isThere, orNoSuchWinding}
 use Rattle.judge.specs.Judging.{judgeLines, windingFor, verdictOn, judging}
-use Rattle.judge.proofs.JudgeLaws.{judged-weighed}
+use Rattle.judge.proofs.JudgeLaws.{judged-weighed, winding-for-lines}
+use Rattle.divide.specs.AtOnce.{divides, judgingAtOnce, checkLines, checking}
 use Rattle.moves.specs.Steps.{made, stepOf}
 use Rattle.moves.specs.Moving.{moveLines, movable, moving}
 use Rattle.runs.specs.Runs.{noRelay}
@@ -99,9 +98,9 @@ pub move-stands : (b : Board) (h : Kept) (r w : ℕ) → LeftStands h (firstNo (
 unfolding moving movable
 move-stands b h r w =
     subst (λ o. LeftStands h o (moving b h r w))
-    (against-then (firstNo (moveLines b h r)) (stepOf b (h .state) r w))
+    (against-then (firstNo (moveLines b h r)) (stepOf b (h .state) r))
     (left-stands h (λ m. keptAt b (made (h .state) r m))
-    (firstNo (moveLines b h r) >> given (stepOf b (h .state) r w)))
+    (firstNo (moveLines b h r) >> given (stepOf b (h .state) r)))
 
 -- ---- judging
 
@@ -131,33 +130,45 @@ verdict-stands b s w (given v) =
     record { first = gives; left = λ n p e. absurd (refused-never n p tt (sym (ap against e) ∙ gives)) }
 verdict-stands b s w (refused n p) = record { first = refl; left = λ m q e. (refl, (refl, refl)) }
 
--- 11 is asked as the last line, so the winding is there once it has passed
-asked-last : (o : Outcome (Unit {0})) (v : Option Winding)
-    → against ((o >> firstNo ((isThere v, noSuchWinding) ∷ [])) >> orNoSuchWinding v)
-    ≡ (o >> firstNo ((isThere v, noSuchWinding) ∷ []))
-unfolding firstNo
-asked-last (given u) (some v) = refl
-asked-last (given u) none = refl
-asked-last (refused n p) v = refl
-
 pub judge-stands : (b : Board) (h : Kept) (r : ℕ) (k : Which) (w : ℕ)
     → StandsAgainst (λ (v : Verdict). v .finding) NoVerdict (firstNo (judgeLines b h r k)) (judging b h r k w)
-unfolding judging windingFor
+unfolding judging
 judge-stands b h r k w =
-    subst (λ o. StandsAgainst (λ (v : Verdict). v .finding) NoVerdict o (judging b h r k w)) lines
+    subst (λ o. StandsAgainst (λ (v : Verdict). v .finding) NoVerdict o (judging b h r k w)) (winding-for-lines b h r k)
     (verdict-stands b (h .state) w (windingFor b h r k))
+
+-- judging without listing chains, and the check of a terminal: 19 is asked as the last line
+against-on : {A B : Type 0} (o : Outcome A) (f : A → B) → against (o >>= λ a. given (f a)) ≡ against o
+against-on (given a) f = refl
+against-on (refused n p) f = refl
+
+pub judge-at-once-stands : (b : Board) (h : Kept) (r : ℕ) (k : Which)
+    → against (judgingAtOnce b h r k) ≡ firstNo (judgeLines b h r k)
+unfolding judgingAtOnce
+judge-at-once-stands b h r k = against-on (windingFor b h r k) _ ∙ winding-for-lines b h r k
+
+asked-after : {A B : Type 0} (o : Outcome A) (q : Outcome (Unit {0})) (f : A → B)
+    → against (against o >> q >> o >>= λ a. given (f a)) ≡ (against o >> q)
+asked-after (given a) (given u) f = refl
+asked-after (given a) (refused n p) f = refl
+asked-after (refused n p) q f = refl
+
+pub check-stands : (b : Board) (h : Kept) (r : ℕ) (k : Which) (x : ℕ)
+    → against (checking b h r k x) ≡ firstNo (checkLines b h r k x)
+unfolding checking
+check-stands b h r k x =
+    ap
+    (λ (o : Outcome (Unit {0})).
+    against (o >> windingFor b h r k >>= λ v. given (divides (neighbours b (h .state)) v x))) lines
+    ∙ asked-after (windingFor b h r k) (firstNo last) (λ v. divides (neighbours b (h .state)) v x) ∙ sym lines
   where
-    winding : Option Winding
-    winding = windingOf k r (partsOf b)
+    last : Order
+    last = (ltb x (b .counts .terminals), terminalBeyond) ∷ []
 
-    split : firstNo (judgeLines b h r k)
-        ≡ (firstNo (usableLines b h) >> firstNo ((isThere winding, noSuchWinding) ∷ []))
-    split = asks-append (usableLines b h) ((isThere winding, noSuchWinding) ∷ [])
-
-    lines : against (firstNo (judgeLines b h r k) >> orNoSuchWinding winding) ≡ firstNo (judgeLines b h r k)
+    lines : firstNo (checkLines b h r k x) ≡ (against (windingFor b h r k) >> firstNo last)
     lines =
-        ap (λ (o : Outcome (Unit {0})). against (o >> orNoSuchWinding winding)) split
-        ∙ asked-last (firstNo (usableLines b h)) winding ∙ sym split
+        asks-append (judgeLines b h r k) last
+        ∙ ap (λ (o : Outcome (Unit {0})). o >> firstNo last) (sym (winding-for-lines b h r k))
 
 -- ---- running
 

@@ -14,14 +14,17 @@ use Rattle.state.specs.States.{stateFine}
 use Rattle.presses.specs.Presses.{pushing, releasing}
 use Rattle.board_reader.specs.Reading.{wanted, countsAt, nameAt, endsAt, partAt, partsAt, boardFrom, boardAt}
 use Rattle.board_reader.specs.Reading.{answered, reading}
-use Rattle.neighbours.specs.Neighbours.{setFrom, setAt, tableFrom, setsAt, neighbours, bareNeighbours}
+use Rattle.lists.specs.Tables.{tableFrom}
+use Rattle.neighbours.specs.Neighbours.{setFrom, setAt, setsAt, neighbours, bareNeighbours}
 use Rattle.kept.specs.Kept.{sameRow, belongs, left}
 use Rattle.chains.specs.ChainList.{isIn, canFollow, tries, beyond, chains, crosses, someCrosses, beside, shows}
 use Rattle.reach.specs.Floods.{nextSeen, floodOn, flooded}
 use Rattle.search.specs.Verdicts.{firstShown, effort, places, weighed, verdictBy, inSets}
+use Rattle.feed.specs.Feeds.{reachedWithout, servedOn, served, linkedTo, linked, shuntedBy, liveBy}
 use Rattle.judge.specs.RelayWindings.{windingOf, windingsAt}
 use Rattle.judge.specs.Judging.{shunted, judgedBy, windingFor, judging}
-use Rattle.moves.specs.Steps.{regularMove, steelMove, decide, findingsOn, stepBy, stepOf}
+use Rattle.divide.specs.AtOnce.{divides, lowestDividing, judgedAtOnce, judgingAtOnce, checking}
+use Rattle.moves.specs.Steps.{regularMove, steelMove, takenLive, stepBy, stepOf}
 use Rattle.moves.specs.Moving.{movable, moving}
 use Rattle.runs.specs.Looks.{lookFrom}
 use Rattle.runs.specs.Runs.{runOf}
@@ -44,7 +47,9 @@ unfolding firstNo kindOf below form placed numberAt member including excluding r
     carries stateFine left pushing releasing wanted countsAt nameAt endsAt partAt partsAt boardFrom boardAt answered
     reading setFrom setAt tableFrom setsAt neighbours bareNeighbours sameRow belongs nextSeen floodOn flooded isIn
     canFollow tries beyond chains crosses someCrosses beside shows firstShown effort places weighed verdictBy inSets
-    windingOf windingsAt shunted judgedBy windingFor judging regularMove steelMove decide findingsOn stepBy stepOf
+    windingOf windingsAt shunted judgedBy windingFor judging reachedWithout servedOn served linkedTo linked shuntedBy
+    liveBy divides
+    lowestDividing judgedAtOnce judgingAtOnce checking regularMove steelMove takenLive stepBy stepOf
     movable moving lookFrom runOf runnable ran running digitsOf decimal lineText eventAt pressing ranLine pressedLine
     eventLine withAllowance headAt linesFrom headLines sessionLines lineTexts printed sessionText
 starred-boards =
@@ -63,4 +68,9 @@ starred-boards =
     & (λ v told. told) & (λ a k told. told) & (λ v told. told) & (λ v told. told) & (λ a told. told)
     & (λ x told. told) & (λ x told. told) & (λ x told. told) & (λ a told. told) & (λ a told. told)
     & (λ x told. told) & (λ x told. told) & (λ v told. told) & (λ v told. told) & (λ v told. told)
-    & (λ v told. told) & (λ a told. told) & (λ a k told. told) & (λ v told. told) & tt
+    & (λ v told. told) & (λ a told. told) & (λ a k told. told) & (λ v told. told)
+    & (λ a told. told) & (λ a told. told) & (λ a told. told) & (λ a told. told) & (λ a told. told)
+    & (λ a told. told) & (λ a told. told) & (λ a told. told) & (λ a told. told) & (λ a told. told)
+    & (λ a told. told) & (λ a told. told) & (λ a told. told) & (λ a told. told) & (λ a told. told)
+    & (λ a told. told) & (λ a told. told) & (λ a told. told) & (λ a told. told) & (λ a told. told)
+    & (λ a told. told) & (λ a told. told) & (λ a told. told) & (λ a told. told) & (λ a k told. told) & tt

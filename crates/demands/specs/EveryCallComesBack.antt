@@ -7,20 +7,20 @@
 --         `in-order`: the first line that holds, of each call's lines in the stated order. What stands behind some of
 --         these lines: `forms`, a number that is cut, too long, too large or not shortest; `fifteen`, a board that
 --         breaks a rule; `fourteen`, a state with what the board lacks; `eighteen`, kept sets that don't belong to
---         board and state; `eleven`, a winding that isn't there
+--         board and state; `eleven`, a winding that isn't there; `nineteen`, a terminal handed in that isn't
 --     "with the state as given and no byte of a lent log or output buffer written."
 --         `as-lent`
 -- The words:
---     `numberLines` and the like  calls, since request A5: 15, 14, 18, 13, 11, 7, 12, 16, those that apply. Each call
---                                 is defined by its lines in that order, each a test that must hold and the number for
---                                 no; `usableLines` are the three that every call on a board and a state with kept sets
---                                 has first. `firstNo` of them is the first whose test fails, by its number at place 0,
---                                 or nothing
+--     `numberLines` and the like  calls, since request A6: 15, 14, 18, 13, 11, 19, 7, 12, 16, those that apply. Each
+--                                 call is defined by its lines in that order, each a test that must hold and the number
+--                                 for no; `usableLines` are the three that every call on a board and a state with kept
+--                                 sets has first. `firstNo` of them is the first whose test fails, by its number at
+--                                 place 0, or nothing
 --     wordOf l                    the word of the run that a line tells of, or what refused it
 --     InOrder                     what stands against each call is the first of its lines whose test fails; a file is
---                                 refused exactly by the first line of the table that holds, from left to right, and
---                                 a number by itself exactly by its form (1, 2); 11, 14, 15 and 18 are given exactly if
---                                 their lines hold
+--                                 refused exactly by the first line of the table that holds, from left to right, and a
+--                                 number by itself exactly by its form (1, 2); 11, 14, 15, 18 and 19 are given exactly
+--                                 if their lines hold
 --     AsLent                      "A refused read returns number, place and the empty board (T 2, else 0). A refused
 --                                 call returns the number, place 0 and the state it was given, if it takes one; a
 --                                 refused run also 0 moves and relay 255, a refused judgement no verdict, effort 0 and
@@ -53,7 +53,11 @@ use Rattle.search.specs.declared.Verdict.{Verdict}
 use Rattle.search.specs.Verdicts.{places, toldFinding}
 use Rattle.judge.specs.declared.Which.{Which}
 use Rattle.judge.specs.Judging.{judgeLines, Judges}
+use Rattle.divide.specs.declared.Judgement.{Judgement}
+use Rattle.divide.specs.declared.Checked.{Checked}
+use Rattle.divide.specs.AtOnce.{checkLines, toldJudgement, toldChecked, JudgesAtOnce, ChecksTerminal}
 use Rattle.judge_means.specs.Eleven.{ElevenExactly}
+use Rattle.judge_means.specs.Dividing.{NineteenExactly}
 use Rattle.moves.specs.declared.Moved.{Moved}
 use Rattle.moves.specs.Moving.{moveLines, toldMoveAnswer, Moves}
 use Rattle.moves_means.specs.SingleMoves.{MoveElevenExactly}
@@ -83,6 +87,7 @@ pub record InOrder : Type 0 where
   pub forms : FormExactly
   pub eleven : ElevenExactly
   pub eleven-moved : MoveElevenExactly
+  pub nineteen : NineteenExactly
   pub fourteen : FourteenExactly
   pub eighteen : EighteenExactly
   pub fifteen : FifteenExactly
@@ -104,6 +109,12 @@ pub record InOrder : Type 0 where
   pub judges : (b : Board) (h : Kept) (r : ℕ) (k : Which) (w : ℕ) (v : Verdict)
       → Judges b h r k w v
       → against (toldFinding (v .finding)) ≡ firstNo (judgeLines b h r k)
+  pub judges-at-once : (b : Board) (h : Kept) (r : ℕ) (k : Which) (a : Judgement)
+      → JudgesAtOnce b h r k a
+      → against (toldJudgement a) ≡ firstNo (judgeLines b h r k)
+  pub checks : (b : Board) (h : Kept) (r : ℕ) (k : Which) (x : ℕ) (a : Checked)
+      → ChecksTerminal b h r k x a
+      → against (toldChecked a) ≡ firstNo (checkLines b h r k x)
   pub moves : (b : Board) (h : Kept) (r w : ℕ) (a : Moved)
       → Moves b h r w a
       → against (toldMoveAnswer (a .answer)) ≡ firstNo (moveLines b h r)

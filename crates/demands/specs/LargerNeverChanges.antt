@@ -10,7 +10,8 @@
 --         Request A4: "live" means live and not shunted, and "a shunted winding is called dead at every allowance,
 --         however many chains there are": `shunted`. Rule book: "a judge that says undecided always, or dead always",
 --         is shut out "by the "exactly" in demand 3": `always`. Request A5: judgements by kept sets "are the old ones,
---         efforts included": `afresh`
+--         efforts included": `afresh`. Request A6: wherever an allowance settles a winding, the judge that knows none
+--         says the same: `agree`
 --     "So of two accepted runs from one board and state, the one with no shorter log and no less allowance per winding
 --     starts with every move of the other, and where the other ended idle or in conflict it ends with that word in that
 --     same state."
@@ -26,6 +27,7 @@ use Rattle.judge.specs.Judging.{Judges}
 use Rattle.judge_means.specs.Exactness.{Judge, TheChains, EffortNumbers, AsAfresh, LiveExactly, DeadExactly}
 use Rattle.judge_means.specs.Exactness.{UndecidedExactly, LiveShows, ShuntedDead, DeadCounts, UndecidedReports}
 use Rattle.judge_means.specs.Allowances.{LargerAllowance, TurnsAtEffort, EffortSome}
+use Rattle.judge_means.specs.Dividing.{AgreeWhereSettled}
 use Rattle.runs_means.specs.LongerRuns.{LongerRun}
 
 pub record JudgedExactly (J : Judge) : Type 0 where
@@ -59,5 +61,7 @@ pub record LargerNeverChanges : Type 0 where
   -- what `judge` answers, and that no judge of one word answers so
   pub judge : JudgedExactly Judges
   pub always : NoWordAlways
-  -- of two accepted runs
+  -- the judge that knows no allowance says the same wherever this one settles
+  pub agree : AgreeWhereSettled
+  -- of two accepted runs; since request A6 the allowance does not bear on them
   pub runs : LongerRun

@@ -38,13 +38,15 @@ use Rattle.kept.specs.Upkeep.{KeptChanged}
 use Rattle.reach.specs.Floods.{Floods}
 use Rattle.search.specs.declared.Winding.{Winding}
 use Rattle.search.specs.Verdicts.{Searches}
+use Rattle.feed.specs.Feeds.{ReachedWithout, Feeds, LiveBy}
 use Rattle.judge.specs.declared.Which.{Which}
-use Rattle.judge.specs.RelayWindings.{FindsWindings}
-use Rattle.judge.specs.Judging.{JudgesBy, Judges}
+use Rattle.judge.specs.declared.Windings.{Windings}
+use Rattle.judge.specs.RelayWindings.{FindsWindings, FindsAllWindings}
+use Rattle.judge.specs.Judging.{AsksFor, FindsShunt, Judges}
+use Rattle.divide.specs.AtOnce.{JudgesAtOnce, ChecksTerminal}
 use Rattle.presses.specs.Presses.{Pushes, Releases}
-use Rattle.moves.specs.declared.Findings.{Findings}
 use Rattle.moves.specs.declared.Move.{Move}
-use Rattle.moves.specs.Steps.{Decides, StepsRelay, AfterMove}
+use Rattle.moves.specs.Steps.{StepsRelay, AfterMove}
 use Rattle.moves.specs.Moving.{Moves}
 use Rattle.runs.specs.Running.{Runs}
 use Rattle.lines.specs.declared.Line.{Line}
@@ -113,13 +115,19 @@ pub record OneAnswer : Type 0 where
   pub kept-usable : (b : Board) (h : Kept) → One (Usable b h)
   pub reach-flood : (near : List ℕ) (from out : ℕ) → One (Floods near from out)
   pub search-search : (near : List ℕ) (t : ℕ) (v : Winding) (w : ℕ) → One (Searches near t v w)
+  pub feed-reached-without : (near : List ℕ) (x : ℕ) → One (ReachedWithout near x)
+  pub feed-feed-by : (k : Sets) (t : ℕ) → One (Feeds k t)
+  pub feed-is-live : (s : ℕ) (l : List ℕ) (v : Winding) → One (LiveBy s l v)
   pub judge-find-windings : (b : Board) (r : ℕ) → One (FindsWindings b r)
-  pub judge-judge-by : (k : Sets) (t : ℕ) (v : Winding) (w : ℕ) → One (JudgesBy k t v w)
+  pub judge-find-all-windings : (b : Board) → One (FindsAllWindings b)
+  pub judge-winding-for : (b : Board) (h : Kept) (r : ℕ) (k : Which) → One (AsksFor b h r k)
+  pub judge-is-shunted : (k : Sets) (v : Winding) → One (FindsShunt k v)
   pub judge-judge : (b : Board) (h : Kept) (r : ℕ) (k : Which) (w : ℕ) → One (Judges b h r k w)
+  pub divide-judge : (b : Board) (h : Kept) (r : ℕ) (k : Which) → One (JudgesAtOnce b h r k)
+  pub divide-check : (b : Board) (h : Kept) (r : ℕ) (k : Which) (x : ℕ) → One (ChecksTerminal b h r k x)
   pub presses-push : (b : Board) (h : Kept) (n : ℕ) → One (Pushes b h n)
   pub presses-release : (b : Board) (h : Kept) (n : ℕ) → One (Releases b h n)
-  pub moves-decide : (d : Bool) (f : Findings) → One (Decides d f)
-  pub moves-step : (b : Board) (h : Kept) (r w : ℕ) → One (StepsRelay b h r w)
+  pub moves-step : (n : ℕ) (l : List ℕ) (x : Windings) (d : Bool) → One (StepsRelay n l x d)
   pub moves-after : (b : Board) (h : Kept) (r : ℕ) (m : Move) → One (AfterMove b h r m)
   pub moves-move-relay : (b : Board) (h : Kept) (r w : ℕ) → One (Moves b h r w)
   pub runs-run : (b : Board) (h : Kept) (log : List ℕ) (w : ℕ) → OneLent (Runs b h log w)

@@ -7,6 +7,7 @@
 --     h4wound, h4woundWired         both H4 boards with the winding of a second relay for the wire 4-2: they show the
 --                                   slip that H4 showed before it was shunted
 --     byButton, overPlus, bridged   shunts by a button, over plus, and of a drawing winding
+--     onPoles                       a winding right on the poles
 --     takenOver                     a hut that was taken over in service: both relays were up, and one holds itself
 --     pushed0, pushedBoth           the states with button 0 pushed, and with buttons 0 and 1
 --     drawn0 s                      the state s with relay 0 drawn
@@ -22,12 +23,17 @@
 --     doubled                       a button and an upper contact side by side
 --     Row                           a call and the answer that the rule book states for it:
 --       reads s b o                 `read` of the bytes s: the board, and the place just after it or the refusal
---       judged b h k w j            `judge` of winding k of relay 0 of board b, by h, within the allowance w
+--       judged b h k w j            `judge::judge` of winding k of relay 0 of board b, by h, within the allowance w
+--       tells b h k j               `divide::judge` of that winding
+--       checked b h k x o           `divide::check` of terminal x against that winding: whether it divides, or the
+--                                   refusal
 --       moved b h w t o             `move_relay` of relay 0: what it came to, o, and what it leaves, t
 --       ran b h log w x             `run` over the lent log: all that it tells
 --       pressed p b h n t o         `push` of button n, `release` if not p: what it came to, o, and what it leaves, t
 --       prints s x                  a session and all that it prints
 --     judges b s k w j              `judged` in state s, with its sets
+--     says b s k j                  `tells` in state s, with its sets: the judgement j
+--     dividing b s k x t            `checked` likewise: terminal x divides the winding if t
 --     moves b s w t m               `moved` from state s with its sets: the word m, and the state t with its sets
 --     runs b s log w e m t r l      `ran` likewise: the word e, m moves, the state t with its sets, the relay r, and
 --                                   the log l afterwards
@@ -35,15 +41,18 @@
 --                                   session prints is computed (`lines` and `all-lines` of `AsTheModelSays` say that
 --                                   the calls hand out just these lines)
 --     starred                       the rows that the rule book stars
---     besides                       rows that it does not star, and H2, with rows of ours: two relays that can move
---                                   at once, logs that are just long enough, the numbers of request A1
+--     besides                       rows that it does not star, and H2, with rows of ours: two relays that can move at
+--                                   once, logs that are just long enough, the numbers of request A1
 --     marks                         rows on the marks of request A2: in files, on boards handed in, and in a session
 --     shunts                        rows on the shunted windings of request A4, by which H4 and H6 are dead
 --     kept                          rows on the kept sets of request A5: a pair that a second part joins stays joined,
 --                                   both ends are updated, a lower contact opens on a draw; sets of another state, or
 --                                   with a bit too few, are refused by 18, after 14 and before 11 and 12, with state
 --                                   and sets as given
---     Starred                       every row of the five holds
+--     divided                       rows on the judge of request A6, and on the check of a terminal: an end that is a
+--                                   pole, poles that divide, the lowest of several, a shunted winding that is divided;
+--                                   the refusals in their order, 19 the last; and a move and a run at W 0
+--     Starred                       every row of the six holds
 use Prim.Native.Nat.{ℕ, _-_}
 use mathlib.Core.Path.{_≡_}
 use mathlib.Core.List.{List, [], _∷_, _++_}
@@ -54,6 +63,7 @@ use Rattle.lists.specs.Members.{All}
 use Rattle.refusals.specs.Outcomes.{Outcome, given, refused}
 use Rattle.refusals.specs.Refusals.{inputEnds, badForm, outOfRange, noSuchKind, noSuchName, windingLacking}
 use Rattle.refusals.specs.Refusals.{noSuchWinding, alreadySo, stateBeyondBoard, brokenBoard, markedTwice, foreignSets}
+use Rattle.refusals.specs.Refusals.{terminalBeyond}
 use Rattle.kinds.specs.declared.Kind.{Kind}
 use Rattle.kinds.specs.declared.Kind.the-variants.{Wire, Upper, Lower, Button, Regular, Drawing, Dropping, Mark}
 use Rattle.board.specs.declared.Part.{Part}
@@ -75,10 +85,14 @@ use Rattle.search.specs.Verdicts.{Verdict, settled, unsettled, unanswered, told
 use Rattle.judge.specs.declared.Which.{Which}
 use Rattle.judge.specs.declared.Which.the-variants.{First, Second}
 use Rattle.judge.specs.Judging.{Judges}
+use Rattle.divide.specs.declared.Judgement as code-judgement
+use Rattle.divide.specs.declared.Checked.{Checked}
+use Rattle.divide.specs.AtOnce.{Judgement, live, shunted, dead, toldJudgement, toldChecked, JudgesAtOnce}
+use Rattle.divide.specs.AtOnce.{ChecksTerminal}
 use Rattle.moves.specs.Steps as step
 use Rattle.moves.specs.declared.Moved.{Moved}
 use Rattle.moves.specs.Moving.{toldMoved, Moves}
-use Rattle.runs.specs.Looks.{Ending, idle, spent, undecided, conflict}
+use Rattle.runs.specs.Looks.{Ending, idle, spent, conflict}
 use Rattle.runs.specs.Runs.{noRelay}
 use Rattle.runs.specs.declared.Ran.{Ran}
 use Rattle.runs.specs.Running as told
@@ -193,6 +207,10 @@ takenOverFile =
 abbrev pub doubled : Board
 doubled = board 3 1 1 (part (Button 0) 0 2 ∷ part (Upper 0) 0 2 ∷ part (Regular 0) 2 1 ∷ [])
 
+-- T 2, winding on 0-1
+abbrev pub onPoles : Board
+onPoles = board 2 1 0 (part (Regular 0) 0 1 ∷ [])
+
 abbrev pub pushed0 : State
 pushed0 = withPushed emptyState 0
 
@@ -227,6 +245,8 @@ withSets s xs ys =
 pub data Row : Type 0 where
   reads : List ℕ → Board → Outcome ℕ → Row
   judged : Board → Kept → Which → ℕ → Verdict → Row
+  tells : Board → Kept → Which → Outcome Judgement → Row
+  checked : Board → Kept → Which → ℕ → Outcome Bool → Row
   moved : Board → Kept → ℕ → Kept → Outcome step.Move → Row
   ran : Board → Kept → List ℕ → ℕ → told.Ran → Row
   pressed : Bool → Board → Kept → ℕ → Kept → Outcome (Unit {0}) → Row
@@ -234,6 +254,12 @@ pub data Row : Type 0 where
 
 abbrev pub judges : Board → State → Which → ℕ → Verdict → Row
 judges b s k w j = judged b (keptAt b s) k w j
+
+abbrev pub says : Board → State → Which → Judgement → Row
+says b s k j = tells b (keptAt b s) k (given j)
+
+abbrev pub dividing : Board → State → Which → ℕ → Bool → Row
+dividing b s k x t = checked b (keptAt b s) k x (given t)
 
 abbrev pub moves : Board → State → ℕ → State → step.Move → Row
 moves b s w t m = moved b (keptAt b s) w (keptAt b t) (given m)
@@ -245,6 +271,8 @@ runs b s log w e m t r l =
 abbrev pub RowHolds : Row → Type 0
 RowHolds (reads s b o) = (x : BoardRead) → Reads s x → toldBoardRead x ≡ (b, o)
 RowHolds (judged b h k w j) = (v : code-verdict.Verdict) → Judges b h 0 k w v → toldVerdict v ≡ j
+RowHolds (tells b h k j) = (a : code-judgement.Judgement) → JudgesAtOnce b h 0 k a → toldJudgement a ≡ j
+RowHolds (checked b h k x o) = (a : Checked) → ChecksTerminal b h 0 k x a → toldChecked a ≡ o
 RowHolds (moved b h w t o) = (a : Moved) → Moves b h 0 w a → toldMoved a ≡ (t, o)
 RowHolds (ran b h log w x) = (a : Ran) (k : List ℕ) → Runs b h log w a k → toldRan a k ≡ x
 RowHolds (pressed true b h n t o) = (x : Pressed) → Pushes b h n x → toldPressed x ≡ (t, o)
@@ -282,9 +310,9 @@ besides =
     ∷ reads (64 ∷ 0 ∷ 0 ∷ 0 ∷ []) (board 64 0 0 []) (given 4)
     ∷ prints h2Session h2Lines
     ∷ judges h5 pushedBoth Second 4 (unsettled 4)
-    ∷ moves h5 pushedBoth 4 pushedBoth step.undecided
+    ∷ moves h5 pushedBoth 4 pushedBoth step.conflict
     ∷ runs h5 pushedBoth (lent 2) 100 conflict 0 pushedBoth 0 (lent 2)
-    ∷ runs h5 pushedBoth (lent 2) 4 undecided 0 pushedBoth 0 (lent 2)
+    ∷ runs h5 pushedBoth (lent 2) 4 conflict 0 pushedBoth 0 (lent 2)
     ∷ runs h5 pushed0 (lent 2) 100 idle 1 (drawn0 pushed0) noRelay (128 ∷ 7 ∷ [])
     ∷ runs h5 pushed0 (lent 1) 100 idle 1 (drawn0 pushed0) noRelay (128 ∷ [])
     ∷ runs h5 (withReleased (drawn0 pushed0) 0) (lent 2) 100 idle 0 (drawn0 emptyState) noRelay (lent 2)
@@ -361,5 +389,34 @@ kept =
     ∷ judged h0 (astray h0 emptyState pushed0) First 100 (unanswered noSuchWinding 0)
     ∷ []
 
+abbrev pub divided : List Row
+divided =
+    says h4wound emptyState First (dead 0)
+    ∷ says h4woundWired emptyState First (dead 2)
+    ∷ says h1 emptyState First (dead 1)
+    ∷ says h1 pushed0 First live
+    ∷ says onPoles emptyState First live
+    ∷ says h5 pushedBoth Second live
+    ∷ says h4wired emptyState First shunted
+    ∷ says h6 emptyState First shunted
+    ∷ dividing h4woundWired emptyState First 0 false
+    ∷ dividing h4woundWired emptyState First 2 true
+    ∷ dividing h4wired emptyState First 2 true
+    ∷ dividing h6 emptyState First 2 false
+    ∷ dividing h6 emptyState First 1 false
+    ∷ dividing h1 emptyState First 1 true
+    ∷ tells (started 1 h1) (keptAt h1 emptyState) First (refused brokenBoard 0)
+    ∷ tells h1 (astray h1 pushedBoth emptyState) First (refused stateBeyondBoard 0)
+    ∷ tells h1 (astray h1 pushed0 emptyState) Second (refused foreignSets 0)
+    ∷ tells h1 (keptAt h1 emptyState) Second (refused noSuchWinding 0)
+    ∷ checked (started 1 h1) (keptAt h1 emptyState) First 3 (refused brokenBoard 0)
+    ∷ checked h1 (astray h1 pushedBoth emptyState) First 3 (refused stateBeyondBoard 0)
+    ∷ checked h1 (astray h1 pushed0 emptyState) First 3 (refused foreignSets 0)
+    ∷ checked h1 (keptAt h1 emptyState) Second 3 (refused noSuchWinding 0)
+    ∷ checked h1 (keptAt h1 emptyState) First 3 (refused terminalBeyond 0)
+    ∷ moves h1 pushed0 0 (drawn0 pushed0) step.drew
+    ∷ runs h1 pushed0 (lent 2) 0 idle 1 (drawn0 pushed0) noRelay (128 ∷ 7 ∷ [])
+    ∷ []
+
 abbrev pub Starred : Type 0
-Starred = All RowHolds (starred ++ besides ++ marks ++ shunts ++ kept)
+Starred = All RowHolds (starred ++ besides ++ marks ++ shunts ++ kept ++ divided)

@@ -14,7 +14,7 @@
 --                              its refusal
 --     eventLine b e h v w      event e, which is v, from h
 --     toldShown                the code's line in the rule book's words
---     RunLine b e h w r        promise: `run_line` of event e on board b from h, within the allowance w, answers r
+--     RunLine b e h w r        promise: `run_line` of event e on board b from h, with the allowance w, answers r
 --     EventLine b e h v w r    promise: `event_line` of event e, which is v, likewise
 use Prim.Native.Nat.{ℕ, _/_, _%_}
 use mathlib.Core.Path.{_≡_}

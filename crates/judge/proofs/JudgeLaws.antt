@@ -15,8 +15,9 @@ use Rattle.refusals.specs.declared.Against.the-variants as stands
 use Rattle.refusals.specs.declared.Refusal.{Refusal}
 use Rattle.refusals.specs.Outcomes.{Outcome, given, refused, _>>_}
 use Rattle.refusals.specs.Refusals.{noSuchWinding}
-use Rattle.refusals.specs.Order.{firstNo, toldAgainst}
+use Rattle.refusals.specs.Order.{firstNo, against, toldAgainst}
 use Rattle.refusals.proofs.OutcomeLaws.{both-given}
+use Rattle.refusals.proofs.OrderLaws.{asks-append}
 use Rattle.board.specs.declared.Board.{Board}
 use Rattle.board.specs.Parts.{partsOf}
 use Rattle.board.specs.Rules.{mostTerminals, boardFine}
@@ -25,7 +26,7 @@ use Rattle.state.specs.States.{stateFine}
 use Rattle.neighbours.specs.declared.Sets.{Sets}
 use Rattle.neighbours.specs.Neighbours.{joined, setsOf}
 use Rattle.kept.specs.declared.Kept.{Kept}
-use Rattle.kept.specs.Kept.{usable}
+use Rattle.kept.specs.Kept.{usableLines, usable}
 use Rattle.kept.proofs.KeptLaws.{kept-sets, usable-given, usable-lines, usable-next}
 use Rattle.chains.specs.ChainList.{chains, shows}
 use Rattle.reach.specs.Floods.{flooded}
@@ -34,7 +35,7 @@ use Rattle.search.specs.Verdicts.{undecided, Verdict, firstShown, effort, settl
 use Rattle.search.proofs.VerdictLaws.{verdict-by-larger, in-sets-all}
 use Rattle.judge.specs.declared.Which.{Which}
 use Rattle.judge.specs.RelayWindings.{OfRelay, windingOf, windingsAt, windingNamed, isThere, orNoSuchWinding}
-use Rattle.judge.specs.Judging.{shunted, judgedBy, windingFor, verdictOn, judging}
+use Rattle.judge.specs.Judging.{shunted, judgedBy, judgeLines, windingFor, verdictOn, judging}
 use Rattle.judge.proofs.ScannedLaws.{asked-given, asked-refused}
 use Rattle.judge.proofs.WoundLaws.{windings-named}
 
@@ -116,7 +117,30 @@ then-once : {A : Type 0} (o q : Outcome (Unit {0})) (x : Outcome A) → (q >> x)
 then-once (given u) q x once = once
 then-once (refused n p) q x once = refl
 
+-- 11 is asked as the last line, so the winding is there once it has passed
+asked-last : (o : Outcome (Unit {0})) (v : Option Winding)
+    → against ((o >> firstNo ((isThere v, noSuchWinding) ∷ [])) >> orNoSuchWinding v)
+    ≡ (o >> firstNo ((isThere v, noSuchWinding) ∷ []))
+unfolding firstNo
+asked-last (given u) (some v) = refl
+asked-last (given u) none = refl
+asked-last (refused n p) v = refl
+
 module _ (b : Board) (h : Kept) (r : ℕ) (n : Which) where
+  -- what stands against a call that asks for a winding is the first of its lines whose test fails
+  pub winding-for-lines : against (windingFor b h r n) ≡ firstNo (judgeLines b h r n)
+  unfolding windingFor
+  winding-for-lines =
+      ap (λ (o : Outcome (Unit {0})). against (o >> orNoSuchWinding winding)) split
+      ∙ asked-last (firstNo (usableLines b h)) winding ∙ sym split
+    where
+      winding : Option Winding
+      winding = windingOf n r (partsOf b)
+
+      split : firstNo (judgeLines b h r n)
+          ≡ (firstNo (usableLines b h) >> firstNo ((isThere winding, noSuchWinding) ∷ []))
+      split = asks-append (usableLines b h) ((isThere winding, noSuchWinding) ∷ [])
+
   -- 11 is asked after 15, 14 and 18
   pub winding-for-asked : windingFor b h r n ≡ (usable b h >> orNoSuchWinding (windingOf n r (partsOf b)))
   unfolding windingFor
@@ -146,7 +170,7 @@ module _ (b : Board) (h : Kept) (r : ℕ) (n : Which) where
       let both = winding-for-both e taken in
       let fit = usable-given b h (both .0) in (fit .0, fit .1, both .1)
 
-  winding-for-kept : (e : Winding) → windingFor b h r n ≡ given e → h .sets ≡ setsOf b (h .state)
+  pub winding-for-kept : (e : Winding) → windingFor b h r n ≡ given e → h .sets ≡ setsOf b (h .state)
   winding-for-kept e taken = kept-sets b h (usable-given b h (winding-for-both e taken .0) .2)
 
   -- where 11 is given, neither 15 nor 14 nor 18 holds, and the winding is not there

@@ -12,7 +12,7 @@ use borrow.Author.Tests.{eq-eqb, ne-eqb}
 use Rattle.refusals.specs.Outcomes.{given, refused}
 use Rattle.refusals.specs.Refusals.{noSuchWinding}
 use Rattle.refusals.proofs.OutcomeLaws.{refused-never, given-injective}
-use Rattle.refusals.proofs.Told.{Told}
+use Rattle.refusals.proofs.Told.{Told, answerOf, given-or-refused}
 use Rattle.kinds.specs.declared.Kind.{Kind}
 use Rattle.kinds.specs.Kinds.{regularKind, drawingKind, droppingKind, kindNumber, nameOf}
 use Rattle.board.specs.declared.Part.{Part}
@@ -26,7 +26,10 @@ use Rattle.judge.specs.declared.Windings.{Windings}
 use Rattle.judge.specs.declared.Windings.the-variants.{Regular, Steel, Absent}
 use Rattle.judge.specs.RelayWindings.{isFirst, isSecond, isWinding, endsOf, windingOf, OfRelay, regular}
 use Rattle.judge.specs.RelayWindings.{steel, absent, ofRelay}
-use Rattle.judge.specs.RelayWindings.{windingsAt, windingNamed, orNoSuchWinding, toldWindings, seenWith}
+use Rattle.judge.specs.declared.Asked.{Asked}
+use Rattle.judge.specs.declared.Asked.the-variants.{Given, Refused}
+use Rattle.judge.specs.RelayWindings.{windingsAt, windingNamed, orNoSuchWinding, toldWindings, toldAsked}
+use Rattle.judge.specs.RelayWindings.{seenWith}
 
 -- ---- a kind that carries a relay, by its number n and its name m
 
@@ -157,3 +160,10 @@ windings-told = record { untold = untold; back = back; onto = onto }
     onto (regular v) = refl
     onto (steel v u) = refl
     onto absent = refl
+
+pub asked-told : Told toldAsked
+asked-told = given-or-refused toldAsked Given Refused (λ v. refl) (λ n p. refl) back
+  where
+    back : (x : Asked) → answerOf Given Refused (toldAsked x) ≡ x
+    back (Given v) = refl
+    back (Refused r) = refl

@@ -1,21 +1,23 @@
--- Judging. Calls, since request A5: 15, 14, 18, 13, 11, 7, 12, 16, those that apply; "a refused judgement no verdict,
--- effort 0 and length 0". Request A4: "a winding is shunted if its two ends are linked through conducting parts none of
--- which is a winding, over any terminals. A shunted winding is dead with effort 0, so any allowance settles it".
+-- Judging. Calls, since request A6: 15, 14, 18, 13, 11, 19, 7, 12, 16, those that apply; "a refused judgement no
+-- verdict, effort 0 and length 0". Request A4: "a winding is shunted if its two ends are linked through conducting
+-- parts none of which is a winding, over any terminals. A shunted winding is dead with effort 0, so any allowance
+-- settles it".
 --     shunted k v           by the sets k, one end of winding v reaches the other over parts that are no winding
 --     judgedBy k t v w      the verdict on winding v within the allowance w, by the sets k: dead with effort 0 if it is
---                           shunted, else by the chains of t terminals. It is the one way to judge, which the call, a
---                           single move and a run go by
+--                           shunted, else by the chains of t terminals
 --     judgeLines b h r n    the lines of judging winding n of relay r of board b in the state and by the sets of h: 15,
 --                           14, 18, 11
 --     windingFor b h r n    the winding that is judged, after these
 --     verdictOn b s o w     the verdict on it in state s within the allowance w, or the refusal: the kept sets do not
 --                           bear on it
 --     judging b h r n w     the call
---     JudgesBy k t v w r    promise: `judge_by` of winding v by the sets k of t terminals, within the allowance w,
---                           answers r
+--     AsksFor b h r n a     promise: `winding_for` winding n of relay r of board b, by h, answers a
+--     FindsShunt k v r      promise: `is_shunted` of winding v by the sets k answers r
 --     Judges b h r n w v    promise: `judge` of winding n of relay r of board b, by h and within the allowance w,
 --                           answers v
 -- What the functions of this crate promise each other:
+--     JudgesBy k t v w r    `judge_by` of winding v by the sets k of t terminals, within the allowance w, answers r;
+--                           `AsAfresh` of `judge_means` cites it
 --     atOnce f              the finding f without effort, and no chain shown
 -- `judge_means` shows that `shunted` says what the request says, of a board whose counts and parts fit.
 use Prim.Native.Nat.{ℕ}
@@ -39,7 +41,8 @@ use Rattle.search.specs.declared.Winding.{Winding}
 use Rattle.search.specs.declared.Verdict as code-verdict
 use Rattle.search.specs.Verdicts.{Finding, Verdict, settled, verdictBy, places, inSets, unanswered, toldVerdict}
 use Rattle.judge.specs.declared.Which.{Which}
-use Rattle.judge.specs.RelayWindings.{windingOf, isThere, orNoSuchWinding}
+use Rattle.judge.specs.declared.Asked.{Asked}
+use Rattle.judge.specs.RelayWindings.{windingOf, isThere, orNoSuchWinding, toldAsked}
 
 unfoldable pub shunted : Sets → Winding → Bool
 shunted k v = member (flooded (k .bare) (including 0 (v .a)) 0) (v .b)
@@ -59,6 +62,12 @@ verdictOn b s (refused n p) w = unanswered n p
 
 unfoldable pub judging : Board → Kept → ℕ → Which → ℕ → Verdict
 judging b h r n w = verdictOn b (h .state) (windingFor b h r n) w
+
+abbrev pub AsksFor : Board → Kept → ℕ → Which → Asked → Type 0
+AsksFor b h r n a = toldAsked a ≡ windingFor b h r n
+
+abbrev pub FindsShunt : Sets → Winding → Bool → Type 0
+FindsShunt k v r = r ≡ shunted k v
 
 abbrev pub JudgesBy : Sets → ℕ → Winding → ℕ → code-verdict.Verdict → Type 0
 JudgesBy k t v w r = toldVerdict r ≡ judgedBy k t v w

@@ -14,18 +14,23 @@
 --     windingNamed n x             what x has for winding n
 --     isThere o                    whether o is something, and not none
 --     orNoSuchWinding o            the winding o of which a call asks; where there is none, 11
+--     windingsIf b r               the windings of relay r of board b; absent where it has no such relay
 --     toldWindings                 the answer's cases as windings
+--     toldAsked                    the cases of an answer to a call that asks for one, as a winding or a refusal
 --     FindsWindings b r x          promise: `find_windings` of relay r of board b answers x
+--     FindsAllWindings b x         promise: `find_all_windings` of board b answers x
 -- What the functions of this crate promise each other:
---     toldSeen, toldAsked          their answers' cases as a winding or none, and as a winding or a refusal
+--     toldSeen                     their answers' cases as a winding or none
 --     seenWith o p t               what is seen of a winding after o was seen, with part p besides, which is it if t
 -- `judge_means` shows that on a board that breaks no rule 11 is given exactly if its line holds, and that the winding
 -- is the only one.
 use Prim.Native.Nat.{ℕ}
 use mathlib.Core.Path.{_≡_}
 use mathlib.Core.Bool.{Bool, true, false, cond, _||_}
-use mathlib.Core.List.{List, [], _∷_}
+use mathlib.Core.List.{List, [], _∷_, map}
 use mathlib.Core.Option.{Option, none, some}
+use lib.Dec.{ltb}
+use Rattle.lists.specs.Tables.{tableFrom}
 use Rattle.refusals.specs.Outcomes.{Outcome, given, refused}
 use Rattle.refusals.specs.Refusals.{noSuchWinding}
 use Rattle.kinds.specs.declared.Kind.{Kind}
@@ -33,6 +38,7 @@ use Rattle.kinds.specs.Kinds.{regularKind, drawingKind, droppingKind}
 use Rattle.board.specs.declared.Part.{Part}
 use Rattle.board.specs.declared.Board.{Board}
 use Rattle.board.specs.Parts.{partsOf}
+use Rattle.board.specs.Rules.{mostRelays}
 use Rattle.board.specs.Sorts.{carries}
 use Rattle.search.specs.declared.Winding.{Winding}
 use Rattle.judge.specs.declared.Which.{Which}
@@ -96,6 +102,12 @@ toldWindings Absent = absent
 
 abbrev pub FindsWindings : Board → ℕ → Windings → Type 0
 FindsWindings b r x = toldWindings x ≡ windingsAt r (partsOf b)
+
+unfoldable pub windingsIf : Board → ℕ → OfRelay Winding
+windingsIf b r = cond (ltb r (b .counts .relays)) (windingsAt r (partsOf b)) absent
+
+abbrev pub FindsAllWindings : Board → List Windings → Type 0
+FindsAllWindings b x = map toldWindings x ≡ tableFrom (windingsIf b) mostRelays 0
 
 abbrev pub toldSeen : Seen → Option Winding
 toldSeen (Between v) = some v

@@ -4,10 +4,11 @@ ghost use mathlib.Core.Path.{_≡_};
 ghost use Rattle.board.specs.Sorts.{carries};
 ghost use Rattle.search.specs.Verdicts.{toldFinding, toldVerdict};
 ghost use Rattle.judge.specs.RelayWindings.{isFirst, ofRelay, windingNamed, orNoSuchWinding, toldWindings};
-ghost use Rattle.judge.specs.RelayWindings.{toldSeen, seenWith, toldAsked, FindsWindings};
-ghost use Rattle.judge.specs.Judging.{shunted, atOnce, windingFor, JudgesBy, Judges};
+ghost use Rattle.judge.specs.RelayWindings.{toldSeen, seenWith, toldAsked, FindsWindings, FindsAllWindings};
+ghost use Rattle.judge.specs.Judging.{atOnce, AsksFor, FindsShunt, JudgesBy, Judges};
 use board::Board;
 use board::MOST_PARTS;
+use board::MOST_RELAYS;
 use board::Part;
 use kept::Kept;
 use kinds::DRAWING_KIND;
@@ -43,7 +44,7 @@ enum Seen {
 }
 
 // What a call that asks for a winding comes to: the winding, or the refusal.
-enum Asked {
+pub enum Asked {
     Given(Winding),
     Refused(Refusal),
 }
@@ -127,6 +128,23 @@ pub fn find_windings(board: Board, relay: u32) -> Windings
     of_relay(first, second)
 }
 
+// For each of 32 relays its windings; absent where the board has no such relay.
+pub fn find_all_windings(board: Board) -> [Windings; 32]
+    ensures { λ r. ⌜ FindsAllWindings board r ⌝ }
+{
+    let relays = board.counts.relays;
+    let mut all = [Windings::Absent; 32];
+    let mut relay = 0;
+    while relay < relays {
+        if MOST_RELAYS <= relay {
+            return all;
+        }
+        all[relay as usize] = find_windings(board, bits::wide(relay));
+        relay += 1;
+    }
+    all
+}
+
 // That one of a relay's windings; refused by 11 where the relay lacks it. A call's place is 0.
 fn asked_of(windings: Windings, which: Which) -> Asked
     ensures { λ r. ⌜ toldAsked r ≡ orNoSuchWinding (windingNamed which (toldWindings windings)) ⌝ }
@@ -149,8 +167,8 @@ fn asked_of(windings: Windings, which: Which) -> Asked
 }
 
 // The winding that a call judges, after 15, 14, 18 and 11.
-fn winding_for(board: Board, kept: Kept, relay: u32, which: Which) -> Asked
-    ensures { λ r. ⌜ toldAsked r ≡ windingFor board kept relay which ⌝ }
+pub fn winding_for(board: Board, kept: Kept, relay: u32, which: Which) -> Asked
+    ensures { λ r. ⌜ AsksFor board kept relay which r ⌝ }
 {
     let usable = kept::usable(board, kept);
     match usable {
@@ -160,8 +178,8 @@ fn winding_for(board: Board, kept: Kept, relay: u32, which: Which) -> Asked
 }
 
 // Whether a winding is shunted: over conducting parts that are no winding, one of its ends reaches the other.
-fn is_shunted(sets: Sets, winding: Winding) -> bool
-    ensures { λ r. ⌜ r ≡ shunted sets winding ⌝ }
+pub fn is_shunted(sets: Sets, winding: Winding) -> bool
+    ensures { λ r. ⌜ FindsShunt sets winding r ⌝ }
 {
     let end = bits::with(0, bits::wide(winding.a));
     let reached = reach::flood(&sets.bare, end, 0);
@@ -183,7 +201,7 @@ fn at_once(finding: Finding) -> Verdict
 
 // Judges a winding by the sets of neighbours of so many terminals, within the allowance. A shunted one is dead at every
 // allowance.
-pub fn judge_by(sets: Sets, terminals: u8, winding: Winding, allowance: u32) -> Verdict
+fn judge_by(sets: Sets, terminals: u8, winding: Winding, allowance: u32) -> Verdict
     ensures { λ r. ⌜ JudgesBy sets terminals winding allowance r ⌝ }
 {
     if is_shunted(sets, winding) {

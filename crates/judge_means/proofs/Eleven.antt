@@ -48,7 +48,7 @@ use Rattle.lists.proofs.CountedLaws.{member-counted, counted-only}
 
 module _ (b : Board) (r : ℕ) (n : Which) (most : these n r (partsOf b) ≤ 1) where
   -- the winding found is the relay's, and the only one
-  found-its : (e : Winding) → windingOf n r (partsOf b) ≡ some e → ItsWinding b r n e
+  pub found-its : (e : Winding) → windingOf n r (partsOf b) ≡ some e → ItsWinding b r n e
   found-its e answer =
       let f = some-found n r (partsOf b) e answer in
       let same = Option·some-injective (endsOf (f .part)) e (sym (f .found) ∙ answer) in
@@ -72,7 +72,7 @@ module _ (b : Board) (r : ℕ) (n : Which) (most : these n r (partsOf b) ≤ 1) 
 
 module _ (b : Board) (r : ℕ) (n : Which) (fine : boardFine b ≡ true) where
   -- at most one part is that winding
-  fine-most : these n r (partsOf b) ≤ 1
+  pub fine-most : these n r (partsOf b) ≤ 1
   fine-most =
       by-test (ltb r (b .counts .relays))
       (λ below. sorted-most r (partsOf b) n (fine-relays-wound b fine r (ltb-true r (b .counts .relays) below)))
@@ -95,7 +95,7 @@ module _ (b : Board) (r : ℕ) (n : Which) (fine : boardFine b ≡ true) where
   line-none (inr regular) = regular-second r (partsOf b) n regular
 
   -- the winding is missing exactly if the line of 11 holds
-  missing-exactly : windingOf n r (partsOf b) ≡ none ↔ LineEleven b r n
+  pub missing-exactly : windingOf n r (partsOf b) ≡ none ↔ LineEleven b r n
   missing-exactly = (
     λ missing. none-line (missing-counted n r (partsOf b) missing),
     λ line. counted-missing n r (partsOf b) (line-none line),

@@ -6,11 +6,8 @@ use mathlib.Core.Path.{_≡_, refl, sym, subst, _∙_}
 use mathlib.Core.Logic.{inl}
 use mathlib.Core.Bool.{true, false≢true}
 use mathlib.Core.Option.{some, Option·some-injective}
-use lib.Dec.{eqb}
-use borrow.Author.Tests.{eqb-true, eqb-false}
 use Rattle.bits.specs.Sets.{member, including}
-use Rattle.bits.proofs.BoolLaws.{by-test}
-use Rattle.bits.proofs.SetLaws.{member-none, member-including-same, member-including-other}
+use Rattle.bits.proofs.SetLaws.{member-none, member-alone, member-including-same}
 use Rattle.kinds.specs.declared.Kind.{Kind}
 use Rattle.kinds.specs.declared.Kind.the-variants.{Wire, Upper, Lower, Button, Regular, Drawing, Dropping, Mark}
 use Rattle.board.specs.declared.Board.{Board}
@@ -65,12 +62,6 @@ found-on-board b r n e fits is =
 
 -- ---- the flood and the rows
 
-only-member : (a y : ℕ) → member (including 0 a) y ≡ true → a ≡ y
-only-member a y is =
-    by-test (eqb y a)
-    (λ same. sym (eqb-true y a same))
-    (λ differ. absurd (false≢true (sym (member-including-other 0 a y (eqb-false y a differ) ∙ member-none y) ∙ is)))
-
 module _ (b : Board) (s : State) (e : Winding) (fits : BoardFits b) (inside : OnBoard b e) where
   abbrev RowTo : ℕ → Type 0
   RowTo y = Link (JoinedBare b s) (b .counts .terminals) (e .a) y
@@ -82,7 +73,7 @@ module _ (b : Board) (s : State) (e : Winding) (fits : BoardFits b) (inside : On
   unfolding shunted
   flood-row =
       flood-least (bareNeighbours b s) (including 0 (e .a)) 0 RowTo
-      (λ y begun apart. subst RowTo (only-member (e .a) y begun) (row-alone _ _ (e .a) (inside .0)))
+      (λ y begun apart. subst RowTo (member-alone (e .a) y begun) (row-alone _ _ (e .a) (inside .0)))
       (λ x y below row join apart.
       let part = bare-part b s x y join in
       row-on _ _ (e .a) x y row part (joined-terminals b s x y fits (part .joined) .1))

@@ -3,3 +3,4 @@ pub mod MemberLaws
 pub mod CountedLaws
 pub mod FilledLaws
 pub mod FirstLaws
+pub mod TableLaws

@@ -1,2 +1,3 @@
 -- The definitions, which later crates use in theirs.
 pub mod Members
+pub mod Tables

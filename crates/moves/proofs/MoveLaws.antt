@@ -1,19 +1,14 @@
--- Laws of what a relay does: by plain tests, one for each way out of `regular` and `steel`; and by what was found on
--- its windings, one for each way out of `decide`, and that undecided alone can change with the allowance.
+-- Laws of what a relay does by plain tests, one for each way out of `regular` and `steel`; and by its windings, one for
+-- each way out of `step`.
+use Prim.Native.Nat.{ℕ}
+use native.Mathlib.Omega.{arith}
 use mathlib.Core.Path.{_≡_, refl, sym, ap, _∙_}
-use mathlib.Core.Logic.{_⊎_, inl, inr}
 use mathlib.Core.Bool.{Bool, true, false, cond}
-use Rattle.bits.proofs.BoolLaws.{true-either}
-use Rattle.refusals.specs.Outcomes.{Outcome, given}
 use Rattle.search.specs.declared.Winding.{Winding}
-use Rattle.search.specs.declared.Finding.{Finding}
-use Rattle.search.specs.Verdicts as verdict
-use Rattle.search.specs.Verdicts.{toldFinding}
-use Rattle.judge.specs.RelayWindings.{OfRelay, regular, steel, absent}
-use Rattle.moves.specs.declared.Findings.{Findings}
-use Rattle.moves.specs.declared.Findings.the-variants as found
-use Rattle.moves.specs.Steps.{Move, drew, dropped, rests, undecided, conflict, regularMove, steelMove, isLive}
-use Rattle.moves.specs.Steps.{isUndecided, anyUndecided, moveBy, decide, findingsBy, toldFindings}
+use Rattle.judge.specs.declared.Windings.{Windings}
+use Rattle.judge.specs.declared.Windings.the-variants as found
+use Rattle.judge.specs.RelayWindings.{OfRelay, regular, steel, absent, toldWindings}
+use Rattle.moves.specs.Steps.{Move, drew, dropped, rests, undecided, conflict, regularMove, steelMove, moveBy}
 
 -- ---- a regular relay, drawn if d, its winding live if l
 
@@ -48,61 +43,50 @@ unfolding steelMove
 steel-rests true x y dead also = rw (dead, also) refl
 steel-rests false x y dead also = rw dead refl
 
--- ---- either sort, by what was found on its windings
+-- ---- either sort, by its windings x
 
-module _ (d : Bool) (f : OfRelay (Outcome verdict.Finding)) where
-  pub decide-undecided : anyUndecided f ≡ true → undecided ≡ decide d f
-  unfolding decide
-  decide-undecided some = rw some refl
+module _ (live : Winding → Bool) (d : Bool) (x : Windings) where
+  told-by : (y : Windings) → x ≡ y → moveBy live d (toldWindings y) ≡ moveBy live d (toldWindings x)
+  told-by y is = ap (λ (z : Windings). moveBy live d (toldWindings z)) (sym is)
 
-  pub decide-settled : anyUndecided f ≡ false → moveBy d f ≡ decide d f
-  unfolding decide
-  decide-settled settled = rw settled refl
+  pub moves-regular : (v : Winding) (l : Bool) (m : Move) → x ≡ found.Regular v → l ≡ live v → m ≡ regularMove d l
+      → m ≡ moveBy live d (toldWindings x)
+  moves-regular v l m is on moves = moves ∙ ap (regularMove d) on ∙ told-by (found.Regular v) is
 
--- as the code has it, f, one law for each way out of `decide`
-module _ (d : Bool) (f : Findings) (settled : anyUndecided (toldFindings f) ≡ false) where
-  decide-told : (g : Findings) → f ≡ g → moveBy d (toldFindings g) ≡ decide d (toldFindings f)
-  decide-told g is =
-      ap (λ (h : Findings). moveBy d (toldFindings h)) (sym is) ∙ decide-settled d (toldFindings f) settled
+  pub moves-steel : (v u : Winding) (l k : Bool) (m : Move) → x ≡ found.Steel v u → l ≡ live v → k ≡ live u
+      → m ≡ steelMove d l k → m ≡ moveBy live d (toldWindings x)
+  moves-steel v u l k m is on also moves = moves ∙ rw (on, also) refl ∙ told-by (found.Steel v u) is
 
-  pub decide-regular : (x : Finding) (l : Bool) (m : Move) → f ≡ found.Regular x → l ≡ isLive (toldFinding x)
-      → m ≡ regularMove d l → m ≡ decide d (toldFindings f)
-  decide-regular x l m is live moves = moves ∙ ap (regularMove d) live ∙ decide-told (found.Regular x) is
+-- ---- undecided is nothing that a relay comes to
 
-  pub decide-steel : (x y : Finding) (l k : Bool) (m : Move) → f ≡ found.Steel x y → l ≡ isLive (toldFinding x)
-      → k ≡ isLive (toldFinding y) → m ≡ steelMove d l k → m ≡ decide d (toldFindings f)
-  decide-steel x y l k m is live also moves =
-      moves ∙ rw (live, also) refl ∙ decide-told (found.Steel x y) is
+abbrev isUndecided : Move → ℕ
+isUndecided undecided = 1
+isUndecided drew = 0
+isUndecided dropped = 0
+isUndecided rests = 0
+isUndecided conflict = 0
 
-  pub decide-absent : f ≡ found.Absent → rests ≡ decide d (toldFindings f)
-  decide-absent is = decide-told found.Absent is
+regular-decided : (d l : Bool) → isUndecided (regularMove d l) ≡ 0
+unfolding regularMove
+regular-decided true true = refl
+regular-decided true false = refl
+regular-decided false true = refl
+regular-decided false false = refl
 
--- ---- a larger allowance
+steel-decided : (d x y : Bool) → isUndecided (steelMove d x y) ≡ 0
+unfolding steelMove
+steel-decided d true true = refl
+steel-decided true true false = refl
+steel-decided false true false = refl
+steel-decided true false true = refl
+steel-decided false false true = refl
+steel-decided true false false = refl
+steel-decided false false false = refl
 
--- one finding that is undecided is enough
-undecided-first : (x y : Outcome verdict.Finding) → x ≡ given verdict.undecided → anyUndecided (steel x y) ≡ true
-undecided-first x y e = rw e refl
-
-undecided-second : (x y : Outcome verdict.Finding) → y ≡ given verdict.undecided → anyUndecided (steel x y) ≡ true
-undecided-second x y e = true-either (isUndecided x) (isUndecided y) (inr (ap isUndecided e))
-
--- the finding g on each winding is undecided or the same as h: then what the relay does is undecided or the same
-module _ (d : Bool) (g h : Winding → Outcome verdict.Finding)
-    (same : (v : Winding) → (g v ≡ given verdict.undecided) ⊎ (h v ≡ g v)) where
-  pub decide-larger : (x : OfRelay Winding) → (decide d (findingsBy g x) ≡ undecided)
-      ⊎ (decide d (findingsBy h x) ≡ decide d (findingsBy g x))
-  decide-larger absent = inr refl
-  decide-larger (regular v) = by-one (same v)
-    where
-      by-one : (g v ≡ given verdict.undecided) ⊎ (h v ≡ g v) → (decide d (regular (g v)) ≡ undecided)
-          ⊎ (decide d (regular (h v)) ≡ decide d (regular (g v)))
-      by-one (inl e) = inl (sym (decide-undecided d (regular (g v)) (ap isUndecided e)))
-      by-one (inr e) = inr (ap (λ (o : Outcome verdict.Finding). decide d (regular o)) e)
-  decide-larger (steel v u) = by-both (same v) (same u)
-    where
-      by-both : (g v ≡ given verdict.undecided) ⊎ (h v ≡ g v) → (g u ≡ given verdict.undecided) ⊎ (h u ≡ g u)
-          → (decide d (steel (g v) (g u)) ≡ undecided)
-          ⊎ (decide d (steel (h v) (h u)) ≡ decide d (steel (g v) (g u)))
-      by-both (inl e) k = inl (sym (decide-undecided d (steel (g v) (g u)) (undecided-first (g v) (g u) e)))
-      by-both (inr e) (inl k) = inl (sym (decide-undecided d (steel (g v) (g u)) (undecided-second (g v) (g u) k)))
-      by-both (inr e) (inr k) = inr (rw (e, k) refl)
+pub moves-decided : (live : Winding → Bool) (d : Bool) (x : OfRelay Winding) → ¬ (moveBy live d x ≡ undecided)
+moves-decided live d x is = omega (arith, decided x, ap isUndecided is)
+  where
+    decided : (x : OfRelay Winding) → isUndecided (moveBy live d x) ≡ 0
+    decided (regular v) = regular-decided d (live v)
+    decided (steel v u) = steel-decided d (live v) (live u)
+    decided absent = refl

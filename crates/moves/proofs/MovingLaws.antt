@@ -17,7 +17,7 @@ use Rattle.refusals.proofs.OrderLaws.{asks-first, asks-then}
 use Rattle.refusals.proofs.Told.{Told, answerOf, given-or-refused, beside-told}
 use Rattle.board.specs.declared.Board.{Board}
 use Rattle.board.specs.Rules.{boardFine}
-use Rattle.state.specs.States.{isDrawn, stateFine}
+use Rattle.state.specs.States.{stateFine}
 use Rattle.kept.specs.declared.Kept.{Kept}
 use Rattle.kept.specs.Kept.{keptAt, usableLines, usable, left}
 use Rattle.kept.proofs.KeptLaws.{kept-sets, usable-given, usable-lines, usable-next}
@@ -40,7 +40,7 @@ module _ (b : Board) (h : Kept) (r : ℕ) where
   movable-lacking fine past = movable-next ∙ rw (fine, le-ltb r (b .counts .relays) past) refl
 
   -- where a relay is moved, the board breaks no rule, the state fits it, the sets belong to both and the relay is there
-  movable-given : movable b h r ≡ given tt → (usable b h ≡ given tt) × (r < b .counts .relays)
+  pub movable-given : movable b h r ≡ given tt → (usable b h ≡ given tt) × (r < b .counts .relays)
   movable-given taken =
       let both = both-given (usable b h) _ tt (sym movable-next ∙ taken) in
       (both .0, ltb-true r (b .counts .relays) (asked (ltb r (b .counts .relays)) noSuchWinding 0 (both .1)))
@@ -70,18 +70,18 @@ module _ (b : Board) (h : Kept) (r : ℕ) where
   unfolding moving left
   moving-refused w k p e = rw e refl
 
-  pub moving-given : (w : ℕ) (m : Move) → movable b h r ≡ given tt → m ≡ stepOf b (h .state) r w
+  pub moving-given : (w : ℕ) (m : Move) → movable b h r ≡ given tt → m ≡ stepOf b (h .state) r
       → (keptAt b (made (h .state) r m), given m) ≡ moving b h r w
   unfolding moving left
   moving-given w m e is = rw (e, is) refl
 
   -- by the step m that the kept sets let see, and what is kept after it
   pub moving-moved : (w : ℕ) (m : Move) (t : Kept) → movable b h r ≡ given tt
-      → m ≡ stepBy (h .sets) b (isDrawn (h .state) r) r w → t ≡ keptMade b h r m → (t, given m) ≡ moving b h r w
+      → m ≡ stepBy (h .sets) b (h .state) r → t ≡ keptMade b h r m → (t, given m) ≡ moving b h r w
   moving-moved w m t e is leaves =
       let own = movable-kept e in
       ap (λ (k : Kept). (k, given m)) (leaves ∙ kept-made b h r m own)
-      ∙ moving-given w m e (step-by b (h .state) r w (h .sets) m (kept-sets b h own) is)
+      ∙ moving-given w m e (step-by b (h .state) r (h .sets) m (kept-sets b h own) is)
 
 -- what the code has asked, a, by the test t after o: its lines are those of the definition
 module _ (b : Board) (h : Kept) (r : ℕ) {t : Bool} {o : Outcome (Unit {0})} {a : Against} (first : o ≡ usable b h)

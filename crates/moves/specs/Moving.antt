@@ -1,13 +1,12 @@
--- A single move of a named relay, as a call. Calls, since request A5: 15, 14, 18, 13, 11, 7, 12, 16, those that apply;
--- "A single move of a named relay answers drew, dropped, rests, undecided or conflict, and changes the state only for
--- the first two"; "A refused call returns the number, place 0 and the state it was given", and the kept sets.
+-- A single move of a named relay, as a call. Calls, since request A6: 15, 14, 18, 13, 11, 19, 7, 12, 16, those that
+-- apply; "A single move of a named relay answers drew, dropped, rests, undecided or conflict, and changes the state
+-- only for the first two"; "A refused call returns the number, place 0 and the state it was given", and the kept sets.
 --     moveLines b h r              the lines of moving relay r of board b from h: 15, 14, 18, 11
 --     movable b h r                what stands against it
 --     moving b h r w               the call: where it is not refused, it leaves the state that the relay's step makes,
---                                  with the sets of the board in that state
+--                                  with the sets of the board in that state. The allowance w is not heeded
 --     toldMoveAnswer, toldMoved    the answer's cases in the rule book's words and numbers
---     Moves b h r w a              promise: `move_relay` of relay r of board b from h, within the allowance w, answers
---                                  a
+--     Moves b h r w a              promise: `move_relay` of relay r of board b from h, with the allowance w, answers a
 use Prim.Native.Nat.{ℕ}
 use mathlib.Core.Path.{_≡_}
 use mathlib.Core.List.{[], _∷_, _++_}
@@ -31,7 +30,7 @@ movable b h r = firstNo (moveLines b h r)
 
 unfoldable pub moving : Board → Kept → ℕ → ℕ → Kept × Outcome Move
 moving b h r w =
-    left h (λ m. keptAt b (made (h .state) r m)) (movable b h r >> given (stepOf b (h .state) r w))
+    left h (λ m. keptAt b (made (h .state) r m)) (movable b h r >> given (stepOf b (h .state) r))
 
 abbrev pub toldMoveAnswer : MoveAnswer → Outcome Move
 toldMoveAnswer (Says m) = given (toldMove m)

@@ -35,12 +35,12 @@ module _ (b : Board) (s : State) (r : ℕ) where
   can-drop-drawn (below, inl (regular, can)) = can .0
   can-drop-drawn (below, inr (steel, can)) = can .0
 
-  made-changes : (m : Move) (w : ℕ) → r < room → Comes b s r m w → Changes s r (given m) (made s r m)
-  made-changes drew w fits comes = (can-draw-dropped (comes .2), drawn-draw s r fits, made-else s r drew)
-  made-changes dropped w fits comes = (can-drop-drawn (comes .2), drawn-drop s r, made-else s r dropped)
-  made-changes rests w fits comes = refl
-  made-changes undecided w fits comes = refl
-  made-changes conflict w fits comes = refl
+  made-changes : (m : Move) → r < room → Comes b s r m → Changes s r (given m) (made s r m)
+  made-changes drew fits comes = (can-draw-dropped (comes .1), drawn-draw s r fits, made-else s r drew)
+  made-changes dropped fits comes = (can-drop-drawn (comes .1), drawn-drop s r, made-else s r dropped)
+  made-changes rests fits comes = refl
+  made-changes undecided fits comes = refl
+  made-changes conflict fits comes = refl
 
 -- what the call leaves, by what stands against it
 module _ (b : Board) (h : Kept) (r w : ℕ) where
@@ -51,9 +51,9 @@ module _ (b : Board) (h : Kept) (r w : ℕ) where
   moving-changes (given u) taken =
       let fit = movable-fine b h r taken in
       let few = fine-range b (fit .0) .most-relays in
-      let m = stepOf b (h .state) r w in
+      let m = stepOf b (h .state) r in
       subst ChangesTo (moving-given b h r w m taken refl)
-      (made-changes b (h .state) r m w (omega (arith, fit .2, few)) (step-means b w (h .state) r (fit .0) (fit .2)))
+      (made-changes b (h .state) r m (omega (arith, fit .2, few)) (step-means b (h .state) r (fit .0) (fit .2)))
   moving-changes (refused n p) off = subst ChangesTo (moving-refused b h r w n p off) refl
 
 pub changes-one-relay : ChangesOneRelay

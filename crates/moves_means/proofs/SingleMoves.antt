@@ -3,7 +3,7 @@
 -- holds.
 use Prim.Native.Nat.{ℕ, _<_}
 use mathlib.Core.Path.{_≡_, refl, sym, ap, subst, _∙_}
-use mathlib.Core.Logic.{_⊎_, ⊎-elim}
+use mathlib.Core.Logic.{⊎-elim}
 use mathlib.Core.Bool.{true}
 use Rattle.refusals.specs.Outcomes.{Outcome, given, refused}
 use Rattle.refusals.specs.Refusals.{noSuchWinding}
@@ -22,55 +22,46 @@ use Rattle.kept.specs.declared.Kept.{Kept}
 use Rattle.kept.specs.Kept.{keptAt}
 use Rattle.kept.proofs.KeptLaws.{usable-can, can-usable}
 use Rattle.search.specs.declared.Winding.{Winding}
-use Rattle.search.specs.Verdicts.{Finding}
 use Rattle.judge.specs.RelayWindings.{OfRelay, regular, steel, windingsAt}
-use Rattle.moves.specs.Steps.{Move, decide, findingsBy, findingOn, stepOf, made}
+use Rattle.moves.specs.Steps.{Move, undecided, moveBy, takenLive, stepOf, made}
 use Rattle.moves.specs.declared.Moved.{Moved}
 use Rattle.moves.specs.Moving.{movable, toldMoveAnswer, toldMoved, Moves}
-use Rattle.moves.proofs.StepLaws.{step-windings}
+use Rattle.moves.proofs.StepLaws.{step-windings, step-decided}
 use Rattle.moves.proofs.MovingLaws.{movable-fine, movable-lacking, movable-eleven, moving-refused, moving-given}
-use Rattle.moves_means.specs.SingleMoves.{Comes, StepExactly, MoveExactly, MoveElevenExactly}
-use Rattle.moves_means.proofs.FindingLaws.{regular-finding, drawing-finding, dropping-finding, second-within}
-use Rattle.moves_means.proofs.FindingLaws.{regular-windings, steel-windings}
+use Rattle.moves_means.specs.SingleMoves.{Comes, StepExactly, MoveExactly, MoveDecided, MoveElevenExactly}
+use Rattle.moves_means.proofs.TakenLaws.{regular-taken, drawing-taken, dropping-taken, regular-windings}
+use Rattle.moves_means.proofs.TakenLaws.{steel-windings}
 use Rattle.moves_means.proofs.ComesLaws.{regular-comes, steel-comes, comes-exclusive}
 
 -- ---- a step, by the sort of the relay
 
-module _ (b : Board) (w : ℕ) (s : State) (r : ℕ) (fits : BoardFits b) (below : r < b .counts .relays) where
-  -- a step goes by the windings x of the relay, and by what is found on them, f
-  findings-mean : (x : OfRelay Winding) (f : OfRelay (Outcome Finding)) → windingsAt r (partsOf b) ≡ x
-      → findingsBy (findingOn (setsOf b s) b w) x ≡ f → Comes b s r (decide (isDrawn s r) f) w
-      → Comes b s r (stepOf b s r w) w
-  findings-mean x f has found comes =
-      subst (λ (m : Move). Comes b s r m w) (sym (step-windings b w s r x has ∙ ap (decide (isDrawn s r)) found)) comes
+module _ (b : Board) (s : State) (r : ℕ) (fits : BoardFits b) (below : r < b .counts .relays) where
+  -- a step goes by the windings x of the relay, and by what each is taken for
+  windings-mean : (x : OfRelay Winding) → windingsAt r (partsOf b) ≡ x
+      → Comes b s r (moveBy (takenLive (setsOf b s) (b .counts .terminals)) (isDrawn s r) x)
+      → Comes b s r (stepOf b s r)
+  windings-mean x has comes = subst (Comes b s r) (sym (step-windings b s r x has)) comes
 
-  regular-means : isRegular r (partsOf b) → Comes b s r (stepOf b s r w) w
+  regular-means : isRegular r (partsOf b) → Comes b s r (stepOf b s r)
   regular-means sort =
-      let first = regular-finding b w s r fits sort in
-      findings-mean (regular (first .winding)) (regular (given (first .finding)))
-      (regular-windings b w s r sort first) (ap regular (first .found))
-      (regular-comes b w s r below sort (isDrawn s r) (first .finding) refl (second-within b w s r sort)
-      (first .says))
+      let first = regular-taken b s r fits sort in
+      windings-mean (regular (first .winding)) (regular-windings b r sort (first .winding) (first .its))
+      (regular-comes b s r below sort (isDrawn s r) _ refl (first .says))
 
-  steel-means : isSteel r (partsOf b) → Comes b s r (stepOf b s r w) w
+  steel-means : isSteel r (partsOf b) → Comes b s r (stepOf b s r)
   steel-means sort =
-      let first = drawing-finding b w s r fits sort in
-      let second = dropping-finding b w s r fits sort in
-      findings-mean (steel (first .winding) (second .winding))
-      (steel (given (first .finding)) (given (second .finding)))
-      (steel-windings b w s r first second) (rw (first .found, second .found) refl)
-      (steel-comes b w s r below sort (isDrawn s r) (first .finding) (second .finding) refl (first .says)
-      (second .says))
+      let first = drawing-taken b s r fits sort in
+      let second = dropping-taken b s r fits sort in
+      windings-mean (steel (first .winding) (second .winding))
+      (steel-windings b r (first .winding) (second .winding) (first .its) (second .its))
+      (steel-comes b s r below sort (isDrawn s r) _ _ refl (first .says) (second .says))
 
 -- of what a relay of either sort comes to `Comes` holds
-sorted-means : (b : Board) (w : ℕ) (s : State) (r : ℕ) → BoardFits b → r < b .counts .relays
-    → isRegular r (partsOf b) ⊎ isSteel r (partsOf b) → Comes b s r (stepOf b s r w) w
-sorted-means b w s r fits below sort =
-    ⊎-elim (regular-means b w s r fits below) (steel-means b w s r fits below) sort
-
-pub step-means : (b : Board) (w : ℕ) (s : State) (r : ℕ) → boardFine b ≡ true → r < b .counts .relays
-    → Comes b s r (stepOf b s r w) w
-step-means b w s r fine below = sorted-means b w s r (fine-fits b fine) below (fine-relays-wound b fine r below)
+pub step-means : (b : Board) (s : State) (r : ℕ) → boardFine b ≡ true → r < b .counts .relays
+    → Comes b s r (stepOf b s r)
+step-means b s r fine below =
+    ⊎-elim (regular-means b s r (fine-fits b fine) below) (steel-means b s r (fine-fits b fine) below)
+    (fine-relays-wound b fine r below)
 
 -- ---- over the call
 
@@ -78,9 +69,9 @@ step-means b w s r fine below = sorted-means b w s r (fine-fits b fine) below (f
 module _ (b : Board) (h : Kept) (r w : ℕ) (a : Moved) (moves : Moves b h r w a) where
   -- what the relay's step comes to
   abbrev comes : Move
-  comes = stepOf b (h .state) r w
+  comes = stepOf b (h .state) r
 
-  call-moved : movable b h r ≡ given tt → toldMoved a ≡ (keptAt b (made (h .state) r comes), given comes)
+  pub call-moved : movable b h r ≡ given tt → toldMoved a ≡ (keptAt b (made (h .state) r comes), given comes)
   call-moved taken = moves ∙ sym (moving-given b h r w comes taken refl)
 
   call-refused : (k p : ℕ) → movable b h r ≡ refused k p → toldMoved a ≡ (h, refused k p)
@@ -98,18 +89,18 @@ module _ (b : Board) (h : Kept) (r w : ℕ) (a : Moved) (moves : Moves b h r w a
 -- ---- the theorems
 
 pub step-exactly : StepExactly
-step-exactly b w s r m fine below =
-    let means = step-means b w s r fine below in (
-      λ is. subst (λ (m : Move). Comes b s r m w) is means,
-      λ comes. comes-exclusive b w s r (stepOf b s r w) m means comes,
+step-exactly b s r m fine below =
+    let means = step-means b s r fine below in (
+      λ is. subst (Comes b s r) is means,
+      λ comes. comes-exclusive b s r (stepOf b s r) m means comes,
     )
 
 pub move-exactly : MoveExactly
 move-exactly b h r w a m moves taken =
     let fit = movable-fine b h r taken in
-    let exactly = step-exactly b w (h .state) r m (fit .0) (fit .2) in
+    let exactly = step-exactly b (h .state) r m (fit .0) (fit .2) in
     let told = call-moved b h r w a moves taken in
-    let step = stepOf b (h .state) r w in
+    let step = stepOf b (h .state) r in
     let answers : toldMoveAnswer (a .answer) ≡ given step = λ i. told i .1 in
     let leaves : a .kept ≡ keptAt b (made (h .state) r step) = λ i. told i .0 in
     let same : toldMoveAnswer (a .answer) ≡ given m → step ≡ m =
@@ -117,6 +108,16 @@ move-exactly b h r w a m moves taken =
       (λ says. exactly .0 (same says), λ comes. answers ∙ ap given (exactly .1 comes)),
       λ says. leaves ∙ ap (λ (n : Move). keptAt b (made (h .state) r n)) (same says),
     )
+
+pub move-decided : MoveDecided
+move-decided b h r w a moves says = by (movable b h r) refl
+  where
+    by : (o : Outcome (Unit {0})) → movable b h r ≡ o → ⊥
+    by (given tt) taken =
+        step-decided b (h .state) r
+        (given-injective (stepOf b (h .state) r) undecided (sym (λ i. call-moved b h r w a moves taken i .1) ∙ says))
+    by (refused k p) off =
+        refused-never k p undecided (sym (λ i. call-refused b h r w a moves k p off i .1) ∙ says)
 
 pub move-eleven-exactly : MoveElevenExactly
 move-eleven-exactly b h r w a moves = (

@@ -3,3 +3,4 @@ pub mod Guards
 pub mod SingleMoves
 pub mod ByChains
 pub mod OneRelay
+pub mod AsTold

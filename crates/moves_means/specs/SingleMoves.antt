@@ -1,11 +1,12 @@
 -- What each word of a move says, in the words of the published model, and that it is said exactly then: over a step of
--- a relay, and over the call `moves::move_relay`, whatever it answers under its promise.
---     NeedsMore b s r w    some winding of relay r needs more than the allowance w: its effort is larger
---     Comes b s r m w      what the word m says of relay r in state s within the allowance w
+-- a relay, and over the call `moves::move_relay`, whatever it answers under its promise. No allowance bears on it
+-- (request A6).
+--     Comes b s r m        what the word m says of relay r in state s: undecided is never said
 --     StepExactly          of a relay of a board that breaks no rule, in any state: it comes to m exactly if `Comes`
 --                          holds of m
 --     MoveExactly          the call's word is m exactly if `Comes` holds of m, and the state is changed by drew and
 --                          dropped alone, and only in that relay; the sets are those of the state that is left
+--     MoveDecided          the call never says undecided, whatever it is given
 --     MoveElevenExactly    the call refuses by 11, "no such relay", exactly if none of 15, 14 and 18 holds and the
 --                          board has no relay r
 use Prim.Native.Nat.{ℕ, _<_, _≤_}
@@ -19,42 +20,38 @@ use Rattle.board.specs.Rules.{boardFine}
 use Rattle.state.specs.declared.State.{State}
 use Rattle.kept.specs.declared.Kept.{Kept}
 use Rattle.kept.specs.Kept.{keptAt, CanUse}
-use Rattle.search.specs.declared.Winding.{Winding}
-use Rattle.judge.specs.declared.Which.{Which}
-use Rattle.judge_means.specs.Exactness.{effortOf}
-use Rattle.judge_means.specs.Eleven.{ItsWinding}
 use Rattle.moves.specs.declared.Moved.{Moved}
 use Rattle.moves.specs.Steps.{Move, drew, dropped, rests, undecided, conflict, stepOf, made}
 use Rattle.moves.specs.Moving.{movable, toldMoveAnswer, Moves}
 use Rattle.moves_means.specs.Guards.{CanDraw, CanDrop, BothCurrents}
 
-pub record NeedsMore (b : Board) (s : State) (r w : ℕ) : Type 0 where
-  pub which : Which
-  pub winding : Winding
-  pub its-winding : ItsWinding b r which winding
-  pub more : w < effortOf b s winding
-
-abbrev pub Comes : Board → State → ℕ → Move → ℕ → Type 0
-Comes b s r undecided w = NeedsMore b s r w
-Comes b s r conflict w = ¬ (NeedsMore b s r w) × BothCurrents b s r
-Comes b s r drew w = ¬ (NeedsMore b s r w) × ¬ (BothCurrents b s r) × CanDraw b s r
-Comes b s r dropped w = ¬ (NeedsMore b s r w) × ¬ (BothCurrents b s r) × CanDrop b s r
-Comes b s r rests w = ¬ (NeedsMore b s r w) × ¬ (BothCurrents b s r) × ¬ (CanDraw b s r) × ¬ (CanDrop b s r)
+abbrev pub Comes : Board → State → ℕ → Move → Type 0
+Comes b s r undecided = ⊥
+Comes b s r conflict = BothCurrents b s r
+Comes b s r drew = ¬ (BothCurrents b s r) × CanDraw b s r
+Comes b s r dropped = ¬ (BothCurrents b s r) × CanDrop b s r
+Comes b s r rests = ¬ (BothCurrents b s r) × ¬ (CanDraw b s r) × ¬ (CanDrop b s r)
 
 abbrev pub StepExactly : Type 0
 StepExactly =
-    (b : Board) (w : ℕ) (s : State) (r : ℕ) (m : Move)
+    (b : Board) (s : State) (r : ℕ) (m : Move)
     → boardFine b ≡ true
     → r < b .counts .relays
-    → stepOf b s r w ≡ m ↔ Comes b s r m w
+    → stepOf b s r ≡ m ↔ Comes b s r m
 
 abbrev pub MoveExactly : Type 0
 MoveExactly =
     (b : Board) (h : Kept) (r w : ℕ) (a : Moved) (m : Move)
     → Moves b h r w a
     → movable b h r ≡ given tt
-    → (toldMoveAnswer (a .answer) ≡ given m ↔ Comes b (h .state) r m w)
+    → (toldMoveAnswer (a .answer) ≡ given m ↔ Comes b (h .state) r m)
     × (toldMoveAnswer (a .answer) ≡ given m → a .kept ≡ keptAt b (made (h .state) r m))
+
+abbrev pub MoveDecided : Type 0
+MoveDecided =
+    (b : Board) (h : Kept) (r w : ℕ) (a : Moved)
+    → Moves b h r w a
+    → ¬ (toldMoveAnswer (a .answer) ≡ given undecided)
 
 abbrev pub MoveElevenExactly : Type 0
 MoveElevenExactly =

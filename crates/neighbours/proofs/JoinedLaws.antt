@@ -22,7 +22,7 @@ use Rattle.board.specs.declared.Part.{Part}
 use Rattle.board.specs.declared.Board.{Board}
 use Rattle.board.specs.Parts.{partsOf}
 use Rattle.board.specs.Rules.{mostTerminals}
-use Rattle.board.specs.BreaksNoRule.{Fits, BoardFits}
+use Rattle.board.specs.BreaksNoRule.{EndsFit, Fits, BoardFits}
 use Rattle.state.specs.declared.State.{State}
 use Rattle.neighbours.specs.Conduction.{conducts, winds, conductsBare}
 use Rattle.neighbours.specs.Neighbours.{EndsAt, Joined, JoinedBare, joined, withOther, withPart, setFrom, setAt}
@@ -188,12 +188,16 @@ conducting-joins s (Regular r) on mark = omega (arith, mark)
 conducting-joins s (Drawing r) on mark = omega (arith, mark)
 conducting-joins s (Dropping r) on mark = omega (arith, mark)
 
--- ends that a conducting part of the board has are terminals of it
+-- the ends of a conducting part of the board are two terminals of it
+part-ends : (b : Board) (s : State) (p : Part) → BoardFits b → p ∈ partsOf b → conducts s (p .kind) ≡ true
+    → EndsFit (b .counts) p
+part-ends b s p fits among on =
+    all-member (Fits (b .counts)) (partsOf b) p (fits .parts) among .ends (conducting-joins s (p .kind) on)
+
 ends-inside : (b : Board) (s : State) (p : Part) (x y : ℕ) → BoardFits b → p ∈ partsOf b → conducts s (p .kind) ≡ true
     → EndsAt p x y → (x < b .counts .terminals) × (y < b .counts .terminals)
 ends-inside b s p x y fits among on =
-    let fit =
-    all-member (Fits (b .counts)) (partsOf b) p (fits .parts) among .ends (conducting-joins s (p .kind) on) in
+    let fit = part-ends b s p fits among on in
     ends-either p (λ u v. (u < b .counts .terminals) × (v < b .counts .terminals)) (fit .a-below, fit .b-below)
     (fit .b-below, fit .a-below) x y
 
@@ -245,7 +249,12 @@ module _ (b : Board) (s : State) (x y : ℕ) where
       × (y < b .counts .terminals)
   joined-inside fits is = joined-terminals fits (joined-part is)
 
-joined-turned : (b : Board) (s : State) (x y : ℕ) → Joined b s x y → Joined b s y x
+pub joined-apart : (b : Board) (s : State) (x y : ℕ) → BoardFits b → Joined b s x y → ¬ (x ≡ y)
+joined-apart b s x y fits j =
+    let fit = part-ends b s (j .part) fits (j .on-board) (j .conducting) in
+    ends-either (j .part) (λ u v. ¬ (u ≡ v)) (fit .ends-differ) (λ e. fit .ends-differ (sym e)) x y (j .ends)
+
+pub joined-turned : (b : Board) (s : State) (x y : ℕ) → Joined b s x y → Joined b s y x
 joined-turned b s x y j =
     record {
       part = j .part;

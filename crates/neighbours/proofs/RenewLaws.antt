@@ -1,6 +1,6 @@
 -- Laws of sets that are renewed between some terminals, pair by pair: what they join, when they are all that the parts
 -- give, and that the code's way, taking those terminals apart and joining them again part by part, comes to them.
-use Prim.Native.Nat.{ℕ, _+_, _<_}
+use Prim.Native.Nat.{ℕ, _<_}
 use native.Mathlib.Omega.{arith}
 use mathlib.Core.Path.{_≡_, refl, sym, ap, _∙_}
 use mathlib.Core.Logic.{_⊎_, inl, inr}
@@ -14,9 +14,10 @@ use Rattle.bits.proofs.SetLaws.{member-none, members-equal, member-remaining, m
 use Rattle.kinds.specs.declared.Kind.{Kind}
 use Rattle.board.specs.declared.Part.{Part}
 use Rattle.board.specs.Rules.{mostTerminals}
+use Rattle.lists.proofs.TableLaws.{table-length, table-at}
 use Rattle.neighbours.specs.Neighbours.{EndsAt, setFrom, setAt, setsAt, chosen, renewedAt}
 use Rattle.neighbours.specs.Rows.{EachSet, onlyAt, without, among, amongBy, gathered}
-use Rattle.neighbours.proofs.SetAtLaws.{table-length, table-place, sets-length, sets-at}
+use Rattle.neighbours.proofs.SetAtLaws.{sets-length, sets-at}
 use Rattle.neighbours.proofs.JoinedLaws.{from-kept, from-adds, from-by, from-beyond, set-at-adds, set-at-by}
 use Rattle.neighbours.proofs.JoinedLaws.{set-at-beyond}
 use Rattle.neighbours.proofs.RowLaws.{each-same, only-here, only-else, gathered-length, gathered-at}
@@ -60,7 +61,7 @@ module _ (f : Kind → Bool) (ps : List Part) (at : ℕ) (near : List ℕ) where
   renewed-place : (x : ℕ) → x < mostTerminals → getD (renewedAt f ps at near) x 0 ≡ renewedSet x
   unfolding renewedAt
   renewed-place x below =
-      let same : 0 + x ≡ x = omega arith in table-place renewedSet mostTerminals 0 x below ∙ ap renewedSet same
+      table-at renewedSet mostTerminals x 0 below
 
   renewed-here : (x : ℕ) → x < mostTerminals → member at x ≡ true
       → getD (renewedAt f ps at near) x 0 ≡ chosen at (setAt f x ps) (getD near x 0)

@@ -18,10 +18,11 @@ use Rattle.kinds.specs.declared.Kind.{Kind}
 use Rattle.board.specs.declared.Part.{Part}
 use Rattle.board.specs.Parts.{blank, mostParts}
 use Rattle.board.specs.Rules.{mostTerminals}
+use Rattle.lists.proofs.TableLaws.{table-length, table-at}
 use Rattle.neighbours.specs.Neighbours.{withOther, withPart, setFrom}
 use Rattle.neighbours.specs.Rows.{EachSet, onlyAt, without, among, amongBy, gathered}
 use Rattle.neighbours.proofs.SetAtLaws.{with-other-here, with-other-else, with-part-joining, with-part-open}
-use Rattle.neighbours.proofs.SetAtLaws.{from-none, from-next, table-length, table-place}
+use Rattle.neighbours.proofs.SetAtLaws.{from-none, from-next}
 
 -- ---- one law for each way out of `is_among`, `join`, `bridge` and `bridge_both`
 
@@ -166,9 +167,7 @@ module _ (g : Part → Bool) (ps : List Part) (near : List ℕ) where
   pub gathered-at : (x : ℕ) → x < mostTerminals → getD (gathered g ps near) x 0 ≡ setFrom g x (getD near x 0) ps
   unfolding gathered
   gathered-at x below =
-      let same : 0 + x ≡ x = omega arith in
-      table-place (λ (y : ℕ). setFrom g y (getD near y 0) ps) mostTerminals 0 x below
-      ∙ ap (λ (y : ℕ). setFrom g y (getD near y 0) ps) same
+      table-at (λ (y : ℕ). setFrom g y (getD near y 0) ps) mostTerminals x 0 below
 
   gathered-each : (r : List ℕ) → length r ≡ mostTerminals
       → ((x : ℕ) → x < mostTerminals → getD r x 0 ≡ setFrom g x (getD near x 0) ps) → r ≡ gathered g ps near

@@ -1,12 +1,12 @@
 -- Laws of the set at a terminal, what a part does to it; and of the sets as their table.
-use Prim.Native.Nat.{ℕ, zero, suc, _+_, _-_, _≤_, _<_}
-use native.Mathlib.Omega.{arith}
-use mathlib.Core.Path.{_≡_, refl, ap, _∙_}
+use Prim.Native.Nat.{ℕ, _-_, _≤_, _<_}
+use mathlib.Core.Path.{_≡_, refl}
 use mathlib.Core.Bool.{Bool, true, false}
 use mathlib.Core.List.{List, [], _∷_}
 use lib.ListN.{length, getD}
 use borrow.Author.Tests.{eq-eqb, ne-eqb}
 use Rattle.bits.specs.Sets.{including}
+use Rattle.lists.proofs.TableLaws.{table-length, table-at, table-beyond}
 use Rattle.kinds.specs.declared.Kind.{Kind}
 use Rattle.board.specs.declared.Part.{Part}
 use Rattle.board.specs.declared.Board.{Board}
@@ -14,7 +14,7 @@ use Rattle.board.specs.Parts.{partsOf}
 use Rattle.board.specs.Rules.{mostTerminals}
 use Rattle.state.specs.declared.State.{State}
 use Rattle.neighbours.specs.Conduction.{conducts, conductsBare}
-use Rattle.neighbours.specs.Neighbours.{withOther, withPart, setFrom, setAt, tableFrom, setsAt, neighbours}
+use Rattle.neighbours.specs.Neighbours.{withOther, withPart, setFrom, setAt, setsAt, neighbours}
 use Rattle.neighbours.specs.Neighbours.{bareNeighbours}
 
 -- ---- the set at one terminal
@@ -48,23 +48,6 @@ set-at-from f x ps = refl
 
 -- ---- the sets as a table
 
-pub table-length : (f : ℕ → ℕ) (k n : ℕ) → length (tableFrom f k n) ≡ k
-unfolding tableFrom
-table-length f zero n = refl
-table-length f (suc k) n = omega (arith, table-length f k (suc n))
-
-pub table-place : (f : ℕ → ℕ) (k n i : ℕ) → i < k → getD (tableFrom f k n) i 0 ≡ f (n + i)
-unfolding tableFrom
-table-place f zero n i below = absurd (omega arith)
-table-place f (suc k) n zero below = ap f (omega arith)
-table-place f (suc k) n (suc i) below = table-place f k (suc n) i (omega arith) ∙ ap f (omega arith)
-
-table-beyond : (f : ℕ → ℕ) (k n i : ℕ) → k ≤ i → getD (tableFrom f k n) i 0 ≡ 0
-unfolding tableFrom
-table-beyond f zero n i past = refl
-table-beyond f (suc k) n zero past = absurd (omega arith)
-table-beyond f (suc k) n (suc i) past = table-beyond f k (suc n) i (omega arith)
-
 module _ (f : Kind → Bool) (ps : List Part) where
   pub sets-length : length (setsAt f ps) ≡ mostTerminals
   unfolding setsAt
@@ -72,13 +55,11 @@ module _ (f : Kind → Bool) (ps : List Part) where
 
   pub sets-at : (x : ℕ) → x < mostTerminals → getD (setsAt f ps) x 0 ≡ setAt f x ps
   unfolding setsAt
-  sets-at x below =
-      let same : 0 + x ≡ x = omega arith in
-      table-place (λ (y : ℕ). setAt f y ps) mostTerminals 0 x below ∙ ap (λ (y : ℕ). setAt f y ps) same
+  sets-at x below = table-at (λ (y : ℕ). setAt f y ps) mostTerminals x 0 below
 
   pub sets-beyond : (x : ℕ) → mostTerminals ≤ x → getD (setsAt f ps) x 0 ≡ 0
   unfolding setsAt
-  sets-beyond x past = table-beyond (λ (y : ℕ). setAt f y ps) mostTerminals 0 x past
+  sets-beyond x past = table-beyond (λ (y : ℕ). setAt f y ps) mostTerminals 0 x 0 past
 
 pub neighbours-sets : (b : Board) (s : State) → neighbours b s ≡ setsAt (conducts s) (partsOf b)
 unfolding neighbours

@@ -10,7 +10,6 @@
 --                            that pass the test g
 --     setAt f x ps           the set of the terminals that the parts ps join to terminal x, of them those of the kinds
 --                            that pass the test f
---     tableFrom f k n        f n, f (n + 1), … (k numbers)
 --     setsAt f ps            the set at each of 64 terminals, by the parts ps, likewise
 --     neighbours b s         the sets of board b in state s, by all parts that conduct
 --     bareNeighbours b s     the same, by those of them that are no winding
@@ -26,7 +25,7 @@
 --                            answers r
 -- `proofs/JoinedLaws.antt` shows of a board whose counts and parts fit: y is in the set of x exactly if `Joined` says
 -- so, and in its set without windings exactly if `JoinedBare` does.
-use Prim.Native.Nat.{ℕ, zero, suc}
+use Prim.Native.Nat.{ℕ}
 use mathlib.Core.Path.{_≡_}
 use mathlib.Core.Logic.{_⊎_}
 use mathlib.Core.Bool.{Bool, true, false, cond}
@@ -34,6 +33,7 @@ use mathlib.Core.List.{List, [], _∷_}
 use lib.Dec.{eqb}
 use lib.ListN.{getD}
 use Rattle.lists.specs.Members.{_∈_}
+use Rattle.lists.specs.Tables.{tableFrom}
 use Rattle.bits.specs.Sets.{member, including, remaining, together}
 use Rattle.kinds.specs.declared.Kind.{Kind}
 use Rattle.board.specs.declared.Part.{Part}
@@ -72,10 +72,6 @@ setFrom g x k (p ∷ ps) = withPart (g p) p x (setFrom g x k ps)
 
 unfoldable pub setAt : (Kind → Bool) → ℕ → List Part → ℕ
 setAt f x ps = setFrom (λ (p : Part). f (p .kind)) x 0 ps
-
-unfoldable pub tableFrom : (ℕ → ℕ) → ℕ → ℕ → List ℕ
-tableFrom f zero n = []
-tableFrom f (suc k) n = f n ∷ tableFrom f k (suc n)
 
 unfoldable pub setsAt : (Kind → Bool) → List Part → List ℕ
 setsAt f ps = tableFrom (λ (x : ℕ). setAt f x ps) mostTerminals 0

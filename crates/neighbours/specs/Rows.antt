@@ -12,11 +12,12 @@ use mathlib.Core.Path.{_≡_}
 use mathlib.Core.Bool.{Bool, cond, _&&_}
 use mathlib.Core.List.{List}
 use lib.ListN.{length, getD}
+use Rattle.lists.specs.Tables.{tableFrom}
 use Rattle.bits.specs.Sets.{member, remaining}
 use Rattle.kinds.specs.declared.Kind.{Kind}
 use Rattle.board.specs.declared.Part.{Part}
 use Rattle.board.specs.Rules.{mostTerminals}
-use Rattle.neighbours.specs.Neighbours.{setFrom, tableFrom}
+use Rattle.neighbours.specs.Neighbours.{setFrom}
 
 pub record EachSet (near r : List ℕ) (f : ℕ → ℕ → ℕ) : Type 0 where
   pub many : length r ≡ length near

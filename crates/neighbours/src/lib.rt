@@ -27,7 +27,7 @@ pub struct Sets {
 pub const PLACES: usize = 64;
 
 // The set of all 64 terminals.
-const EVERYWHERE: u64 = 0xffff_ffff_ffff_ffff;
+pub const EVERYWHERE: u64 = 0xffff_ffff_ffff_ffff;
 
 // Whether a part of this kind conducts in this state: docs/RULES.md, "Parts of a board", the table's last column, line
 // by line. `true` is its "always", `false` its "never", and a relay is dropped while it is not drawn. `as u32` hands

@@ -50,12 +50,12 @@ module _ (J : ℕ → ℕ → Type 0) (t : ℕ) where
   -- ---- what is reached
 
   module _ (From Out : ℕ → Type 0) where
-    reached-begins : (x : ℕ) → x < t → From x → ¬ (Out x) → Reachable J t From Out x
+    pub reached-begins : (x : ℕ) → x < t → From x → ¬ (Out x) → Reachable J t From Out x
     unfolding row-alone
     reached-begins x below begins apart =
         record { from = x; begins = begins; row = row-alone x below; none-out = (apart, tt) }
 
-    reached-on : (y z : ℕ) → Reachable J t From Out y → J y z → z < t → ¬ (Out z) → Reachable J t From Out z
+    pub reached-on : (y z : ℕ) → Reachable J t From Out y → J y z → z < t → ¬ (Out z) → Reachable J t From Out z
     unfolding row-on
     reached-on y z r join below apart = record {
       from = r .from;
@@ -64,7 +64,7 @@ module _ (J : ℕ → ℕ → Type 0) (t : ℕ) where
       none-out = all-append (λ (u : ℕ). ¬ (Out u)) (r .from ∷ r .row .later) (z ∷ []) (r .none-out) (apart, tt);
     }
 
-    reached-within : (P : ℕ → Type 0) → ((u : ℕ) → u < t → From u → ¬ (Out u) → P u)
+    pub reached-within : (P : ℕ → Type 0) → ((u : ℕ) → u < t → From u → ¬ (Out u) → P u)
         → ((u v : ℕ) → u < t → v < t → P u → J u v → ¬ (Out v) → P v) → (y : ℕ) → Reachable J t From Out y → P y
     reached-within P start on y r =
         subst P (r .row .ends)

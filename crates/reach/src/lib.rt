@@ -1,5 +1,5 @@
 // The flood: which terminals are reached from a set of terminals over sets of neighbours, with a set of terminals taken
-// out. Shunted windings are found by it (request A4).
+// out. Shunted windings are found by it (request A4), and terminals that divide a winding (request A6).
 ghost use Rattle.reach.specs.Floods.{Floods};
 
 // The terminals reached from those of a set that are not taken out. Each that is seen is looked at once, the lowest

@@ -1,8 +1,8 @@
 -- Answers and what is told of them: each can be had from the other. So no two answers are told alike, and whatever can
 -- be told is told of one: the front page's `OneAnswer` goes by this, for every crate's answers.
 use Prim.Native.Nat.{ℕ}
-use mathlib.Core.Path.{_≡_, sym, ap, _∙_}
-use mathlib.Core.List.{List}
+use mathlib.Core.Path.{_≡_, refl, sym, ap, _∙_}
+use mathlib.Core.List.{List, [], _∷_, map}
 use Rattle.refusals.specs.declared.Refusal.{Refusal}
 use Rattle.refusals.specs.Outcomes.{Outcome, given, refused}
 
@@ -13,6 +13,18 @@ pub record Told {A B : Type 0} (told : A → B) : Type 0 where
 
 pub told-injective : {A B : Type 0} (told : A → B) → Told told → (x y : A) → told x ≡ told y → x ≡ y
 told-injective told both x y e = sym (both .back x) ∙ ap (both .untold) e ∙ both .back y
+
+-- answers one after the other
+pub list-told : {A B : Type 0} (told : A → B) → Told told → Told (map told)
+list-told {A} {B} told both = record { untold = map (both .untold); back = back; onto = onto }
+  where
+    back : (l : List A) → map (both .untold) (map told l) ≡ l
+    back [] = refl
+    back (x ∷ l) = λ i. both .back x i ∷ back l i
+
+    onto : (l : List B) → map told (map (both .untold) l) ≡ l
+    onto [] = refl
+    onto (y ∷ l) = λ i. both .onto y i ∷ onto l i
 
 -- an answer that is a thing or a refusal, by the two constructors of its type
 abbrev pub answerOf : {A R : Type 0} → (A → R) → (Refusal → R) → Outcome A → R

@@ -72,3 +72,7 @@ markedTwice = 17
 -- 18: kept sets that don't belong to this board and state (request A5)
 abbrev pub foreignSets : ℕ
 foreignSets = 18
+
+-- 19: terminal handed in is not below T (request A6)
+abbrev pub terminalBeyond : ℕ
+terminalBeyond = 19

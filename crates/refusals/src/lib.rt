@@ -39,6 +39,8 @@ pub const MARKED_TWICE: u32 = 17;
 
 pub const FOREIGN_SETS: u32 = 18;
 
+pub const TERMINAL_BEYOND: u32 = 19;
+
 // A refusal: its number and the place it speaks of.
 pub struct Refusal {
     pub number: u32,

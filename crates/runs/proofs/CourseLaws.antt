@@ -4,11 +4,13 @@
 use Prim.Native.Nat.{ℕ, suc, _+_, _-_, _<_, _≤_}
 use native.Mathlib.Omega.{arith}
 use mathlib.Core.Path.{_≡_, refl, sym, ap, _∙_}
+use mathlib.Core.Bool.{Bool}
 use mathlib.Core.List.{List, _++_}
 use lib.ListN.{length, drop, set, length-set}
 use lib.Seq.{sets, sets-eq}
 use Rattle.refusals.specs.Outcomes.{given}
 use Rattle.state.specs.declared.State.{State}
+use Rattle.state.specs.States.{isDrawn}
 use Rattle.kept.specs.declared.Kept.{Kept}
 use Rattle.moves.specs.Steps as step
 use Rattle.runs.specs.Looks.{Stepper, Ending, idle, spent, undecided, conflict, Look, makes, decides, byteOf}
@@ -46,14 +48,14 @@ pub record Course (f : Stepper) (keep : State → Kept) (k : ℕ) (all : Ran) (r
   pub own : h ≡ keep (h .state)
   pub goes : all ≡ onward keep log m (runOf f k (room - m) (h .state))
 
--- at relay r of the scan: nothing has changed since it began, what g sees of a relay is its step, and the look from 0
--- is the look from r
-pub record ScanSoFar (f : Stepper) (g : Kept → ℕ → step.Move) (k : ℕ) (log₀ : List ℕ) (m₀ : ℕ) (h₀ : Kept)
+-- at relay r of the scan: nothing has changed since it began, what g lets see of a relay, drawn or not, is its step,
+-- and the look from 0 is the look from r
+pub record ScanSoFar (f : Stepper) (g : ℕ → Bool → step.Move) (k : ℕ) (log₀ : List ℕ) (m₀ : ℕ) (h₀ : Kept)
     (log : List ℕ) (m : ℕ) (h : Kept) (r : ℕ) : Type 0 where
   pub same-log : log₀ ≡ log
   pub same-moves : m₀ ≡ m
   pub same-kept : h₀ ≡ h
-  pub seen : (q : ℕ) → g h q ≡ f (h .state) q
+  pub seen : (q : ℕ) → q < k → g q (isDrawn (h₀ .state) q) ≡ f (h₀ .state) q
   pub look : lookFrom f (h .state) k 0 ≡ lookFrom f (h .state) (k - r) r
 
 ran-onward : (keep : State → Kept) (x : Run) (log : List ℕ) → length (x .bytes) ≤ length log
@@ -77,8 +79,8 @@ course-starts f keep k log h own =
           ∙ ap (λ (n : ℕ). onward keep log 0 (runOf f k n (h .state))) whole;
     }
 
-pub scan-starts : (f : Stepper) (g : Kept → ℕ → step.Move) (k : ℕ) (log : List ℕ) (m : ℕ) (h : Kept)
-    → ((q : ℕ) → g h q ≡ f (h .state) q) → ScanSoFar f g k log m h log m h 0
+pub scan-starts : (f : Stepper) (g : ℕ → Bool → step.Move) (k : ℕ) (log : List ℕ) (m : ℕ) (h : Kept)
+    → ((q : ℕ) → q < k → g q (isDrawn (h .state) q) ≡ f (h .state) q) → ScanSoFar f g k log m h log m h 0
 scan-starts f g k log m h seen =
     let whole : k ≡ k - 0 = omega arith in
     record {
@@ -102,24 +104,26 @@ onward-logged keep log m c x =
       log = sets (set log m c) (next i) (x .bytes);
     }
 
-module _ {f : Stepper} {g : Kept → ℕ → step.Move} {k : ℕ} {log₀ log : List ℕ} {m₀ m : ℕ} {h₀ h : Kept} {r : ℕ}
+module _ {f : Stepper} {g : ℕ → Bool → step.Move} {k : ℕ} {log₀ log : List ℕ} {m₀ m : ℕ} {h₀ h : Kept} {r : ℕ}
     (scan : ScanSoFar f g k log₀ m₀ h₀ log m h r) where
-  -- the relay that is looked at, as number q, is seen to come to mv, and decides
-  decided : {mv : step.Move} {q : ℕ} → r < k → q ≡ r → mv ≡ g h q
+  -- the relay that is looked at, as number q, drawn if d, is seen to come to mv, and decides
+  decided : {mv : step.Move} {q : ℕ} {d : Bool} → r < k → q ≡ r → d ≡ isDrawn (h₀ .state) q → mv ≡ g r d
       → lookFrom f (h .state) k 0 ≡ decides mv r (lookFrom f (h .state) (k - (r + 1)) (r + 1))
-  decided below number is =
+  decided below number drawn is =
       scan .look
-      ∙ look-decides f (h .state) k r _ below (is ∙ scan .seen _ ∙ ap (λ (q : ℕ). f (h .state) q) number)
+      ∙ look-decides f (h .state) k r _ below
+      (is ∙ ap (g r) (drawn ∙ ap (isDrawn (h₀ .state)) number) ∙ scan .seen r below
+      ∙ ap (λ (j : Kept). f (j .state) r) (scan .same-kept))
 
-  pub scan-rests : {mv : step.Move} {q : ℕ} → r < k → q ≡ r → mv ≡ g h q → mv ≡ step.rests
-      → ScanSoFar f g k log₀ m₀ h₀ log m h (r + 1)
-  scan-rests below number is rests =
+  pub scan-rests : {mv : step.Move} {q : ℕ} {d : Bool} → r < k → q ≡ r → d ≡ isDrawn (h₀ .state) q → mv ≡ g r d
+      → mv ≡ step.rests → ScanSoFar f g k log₀ m₀ h₀ log m h (r + 1)
+  scan-rests below number drawn is rests =
       record {
         same-log = scan .same-log;
         same-moves = scan .same-moves;
         same-kept = scan .same-kept;
         seen = scan .seen;
-        look = decided below number (sym rests ∙ is);
+        look = decided below number drawn (sym rests ∙ is);
       }
 
   module _ {keep : State → Kept} {all : Ran} {room : ℕ} (course : Course f keep k all room log₀ m₀ h₀) where
@@ -139,15 +143,16 @@ module _ {f : Stepper} {g : Kept → ℕ → step.Move} {k : ℕ} {log₀ log : 
     pub course-idle : k ≤ r → stopped idle m h noRelay log ≡ all
     course-idle past = ends-here idle noRelay (rested (scan .look ∙ look-quiet f (h .state) k r past))
 
-    module _ {mv : step.Move} {q : ℕ} (below : r < k) (number : q ≡ r) (is : mv ≡ g h q) where
+    module _ {mv : step.Move} {q : ℕ} {d : Bool} (below : r < k) (number : q ≡ r) (drawn : d ≡ isDrawn (h₀ .state) q)
+        (is : mv ≡ g r d) where
       pub course-undecided : mv ≡ step.undecided → stopped undecided m h r log ≡ all
-      course-undecided e = ends-here undecided r (halted (decided below number (sym e ∙ is)))
+      course-undecided e = ends-here undecided r (halted (decided below number drawn (sym e ∙ is)))
 
       pub course-conflict : mv ≡ step.conflict → stopped conflict m h r log ≡ all
-      course-conflict e = ends-here conflict r (halted (decided below number (sym e ∙ is)))
+      course-conflict e = ends-here conflict r (halted (decided below number drawn (sym e ∙ is)))
 
       moves-here : Moving mv → lookFrom f (h .state) k 0 ≡ makes mv r
-      moves-here move = decided below number is ∙ move r _
+      moves-here move = decided below number drawn is ∙ move r _
 
       pub course-spent : Moving mv → length log ≤ m → stopped spent m h r log ≡ all
       course-spent move full =

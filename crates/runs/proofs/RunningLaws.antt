@@ -38,7 +38,7 @@ module _ (b : Board) (h : Kept) (log : List ℕ) where
 
   -- what the call tells goes by what stands against it
   pub running-by : (w : ℕ) (o : Outcome (Unit {0})) → runnable b h log ≡ o
-      → answering o (λ n p. unrun n p h log) (λ u. ranOver b h log w) ≡ running b h log w
+      → answering o (λ n p. unrun n p h log) (λ u. ranOver b h log) ≡ running b h log w
   unfolding running
   running-by w o e = rw e refl
 
@@ -66,7 +66,7 @@ module _ (b : Board) (h : Kept) (log : List ℕ) where
       (λ i. record { word = e i .word; moves = e i .moves; kept = e i .kept; relay = e i .relay; log = log })
       ∙ running-by w (refused n p) refuses
 
-  pub running-ran : (w : ℕ) (x : told.Ran) → x ≡ ranOver b h log w → runnable b h log ≡ given tt → x ≡ running b h log w
+  pub running-ran : (w : ℕ) (x : told.Ran) → x ≡ ranOver b h log → runnable b h log ≡ given tt → x ≡ running b h log w
   running-ran w x is taken = is ∙ running-by w (given tt) taken
 
 -- ---- answers and what they tell

@@ -1,7 +1,7 @@
 -- A look at the relays. Rule book: "A run looks at the relays from 0 up; the first that doesn't rest decides. None: the
 -- run is idle. Undecided or conflict: it stops with that word. A move: .."
 --     Stepper             what each relay comes to in each state. A run goes by this alone, whatever is below it
---     Ending              the words that a run ends with
+--     Ending              the words that a run ends with; on a board's own steps it is never undecided (request A6)
 --     Look                what a look comes to: quiet, every relay rests; halts e r, relay r stops the run with the
 --                         word e; makes m r, relay r makes the move m
 --     drawMark            128

@@ -1,4 +1,4 @@
--- A run, as a call over a lent log. Calls, since request A5: 15, 14, 18, 13, 11, 7, 12, 16, those that apply; "A
+-- A run, as a call over a lent log. Calls, since request A6: 15, 14, 18, 13, 11, 19, 7, 12, 16, those that apply; "A
 -- refused call returns the number, place 0 and the state it was given, if it takes one; a refused run also 0 moves and
 -- relay 255", and the kept sets; "Log and output buffer stay as lent"; "The answer has the word, the moves made, the
 -- state, and the relay that stopped it (255 for idle). Log bytes beyond the moves made stay unwritten."
@@ -9,12 +9,11 @@
 --     ran keep x log         what the run x tells over the lent log: its bytes, then the log's own beyond them; its
 --                            state with the sets that `keep` has for it
 --     unrun n p h log        what a refused run tells
---     runOn b n s w          the run of the board's relays from state s, each winding within the allowance w, with room
---                            for n moves
---     ranOver b h log w      what a run that is not refused tells
---     running b h log w      the call
+--     runOn b n s            the run of the board's relays from state s, with room for n moves
+--     ranOver b h log        what a run that is not refused tells
+--     running b h log w      the call. The allowance w is not heeded: "Runs and single moves use the new judge"
 --     toldEnding, toldRan    the answer's cases in the rule book's words and numbers
---     Runs b h log w a l     promise: `run` of board b from h over the lent log, within the allowance w, answers a and
+--     Runs b h log w a l     promise: `run` of board b from h over the lent log, with the allowance w, answers a and
 --                            leaves the log as l
 use Prim.Native.Nat.{ℕ}
 use mathlib.Core.Path.{_≡_}
@@ -28,7 +27,7 @@ use Rattle.board.specs.declared.Board.{Board}
 use Rattle.state.specs.declared.State.{State}
 use Rattle.kept.specs.declared.Kept.{Kept}
 use Rattle.kept.specs.Kept.{keptAt, usableLines}
-use Rattle.moves.specs.Steps.{stepper}
+use Rattle.moves.specs.Steps.{stepOf}
 use Rattle.runs.specs.declared.Ending as code-ending
 use Rattle.runs.specs.declared.Ending.the-variants as said
 use Rattle.runs.specs.declared.Ran as code-ran
@@ -64,14 +63,14 @@ ran keep x log =
 abbrev pub unrun : ℕ → ℕ → Kept → List ℕ → Ran
 unrun n p h log = record { word = refused n p; moves = 0; kept = h; relay = noRelay; log = log }
 
-abbrev pub runOn : Board → ℕ → State → ℕ → Run
-runOn b n s w = runOf (stepper b w) (b .counts .relays) n s
+abbrev pub runOn : Board → ℕ → State → Run
+runOn b n s = runOf (stepOf b) (b .counts .relays) n s
 
-abbrev pub ranOver : Board → Kept → List ℕ → ℕ → Ran
-ranOver b h log w = ran (keptAt b) (runOn b (length log) (h .state) w) log
+abbrev pub ranOver : Board → Kept → List ℕ → Ran
+ranOver b h log = ran (keptAt b) (runOn b (length log) (h .state)) log
 
 unfoldable pub running : Board → Kept → List ℕ → ℕ → Ran
-running b h log w = answering (runnable b h log) (λ n p. unrun n p h log) (λ u. ranOver b h log w)
+running b h log w = answering (runnable b h log) (λ n p. unrun n p h log) (λ u. ranOver b h log)
 
 abbrev pub toldEnding : code-ending.Ending → Outcome Ending
 toldEnding said.Idle = given idle

@@ -34,22 +34,28 @@ fn byte(relay: u8, motion: Move) -> u8
 }
 
 // Looks at the relays from 0 up; the first that does not rest decides: a move is made and logged and it looks again,
-// and anything else stops the run. The sets belong to the board and the state, and are kept so.
-pub fn follow(board: Board, kept: Kept, log: &mut [u8], allowance: u32) -> Ran
+// and anything else stops the run. The sets belong to the board and the state, and are kept so. Where the windings lie
+// is found once for the run, and which terminals are served and linked once for a look.
+pub fn follow(board: Board, start: Kept, log: &mut [u8]) -> Ran
     requires { ⌜ board .counts .relays ≤ mostRelays ⌝ }
-    requires { ⌜ kept ≡ keptAt board (kept .state) ⌝ }
-    ensures { λ r. ⌜ toldRan r (now (log .exit)) ≡ ranOver board kept (now (log .entry)) allowance ⌝ }
+    requires { ⌜ start ≡ keptAt board (start .state) ⌝ }
+    ensures { λ r. ⌜ toldRan r (now (log .exit)) ≡ ranOver board start (now (log .entry)) ⌝ }
 {
     let relays = board.counts.relays;
-    let mut kept = kept;
+    let windings = judge::find_all_windings(board);
+    let mut kept = start;
     let mut moves = 0;
     let stop = 'run: loop {
+        let sets = kept.sets;
+        let state = kept.state;
+        let feed = feed::feed_by(sets, board.counts.terminals);
         let mut relay = 0;
         'scan: loop {
             if relays <= relay {
                 break 'run Stop(Ending::Idle, NO_RELAY);
             }
-            let motion = moves::step(board, kept, bits::wide(relay), allowance);
+            let drawn = state.is_drawn(bits::wide(relay));
+            let motion = moves::step(feed.served, &feed.linked, windings[relay as usize], drawn);
             match motion {
                 Move::Rests => relay += 1,
                 Move::Undecided => break 'run Stop(Ending::Undecided, relay),

@@ -18,7 +18,7 @@ use Rattle.runs_means.specs.LongerRuns.{AcceptedRun, movesOf}
 
 -- a call that is not refused tells of the run
 pub accepted-ran : (b : Board) (h : Kept) (w : ℕ) (log : List ℕ) (a : Ran) (l : List ℕ) → Runs b h log w a l
-    → AcceptedRun b h log → toldRan a l ≡ ran (keptAt b) (runOn b (length log) (h .state) w) log
+    → AcceptedRun b h log → toldRan a l ≡ ran (keptAt b) (runOn b (length log) (h .state)) log
 accepted-ran b h w log a l told taken = told ∙ sym (running-by b h log w (given tt) taken)
 
 module _ (keep : State → Kept) (a : Ran) (l : List ℕ) (x : Run) (log : List ℕ)

@@ -1,5 +1,5 @@
--- The theorem of specs/LongerRuns.antt: a step that is not undecided is the same at every larger allowance, so the more
--- generous run goes on from the other, and the two answers tell it.
+-- The theorem of specs/LongerRuns.antt: no step goes by the allowance, so the run with more room goes on from the
+-- other, and the two answers tell it.
 use Prim.Native.Nat.{ℕ}
 use mathlib.Core.Path.{_≡_, sym, ap, _∙_}
 use mathlib.Core.Logic.{inl, inr}
@@ -10,8 +10,7 @@ use Rattle.refusals.proofs.OutcomeLaws.{given-injective}
 use Rattle.state.specs.declared.State.{State}
 use Rattle.kept.specs.declared.Kept.{Kept}
 use Rattle.kept.specs.Kept.{keptAt}
-use Rattle.moves.specs.Steps.{stepper}
-use Rattle.moves.proofs.StepLaws.{step-larger}
+use Rattle.moves.specs.Steps.{stepOf}
 use Rattle.runs.specs.declared.Ran.{Ran}
 use Rattle.runs.specs.Runs.{Run}
 use Rattle.runs.specs.Running.{ran, toldEnding, toldRan}
@@ -44,5 +43,4 @@ longer-run b h w x log long a c l k told also taken accepted more room =
     answer-extends (keptAt b) a c l k _ _ log long
     (accepted-ran b h w log a l told taken)
     (accepted-ran b h x long c k also accepted)
-    (run-goes-on (stepper b w) (stepper b x) (λ t r. step-larger b w x t r more) (b .counts .relays) (length log)
-    (length long) (h .state) room)
+    (run-goes-on (stepOf b) (b .counts .relays) (length log) (length long) (h .state) room)

@@ -1,23 +1,24 @@
 -- What a run means, over the call `runs::run`, whatever it answers under its promise: its moves, in the words of
--- documents 000 and 002, and what each of its words says exactly.
---     Resting b s k w         each relay below k rests in state s: no guard holds of it, there is not current through
---                             both its windings, and none of them needs more than the allowance w
---     StoppedBy b s r m w     relay r is the first that does not rest in state s, and it comes to m
---     AllowedMove b s c t w   one move, from state s to state t, logged as the byte c: a relay of the board comes to
+-- documents 000 and 002, and what each of its words says exactly. No allowance bears on it (request A6).
+--     Resting b s k           each relay below k rests in state s: no guard holds of it, and there is not current
+--                             through both its windings
+--     StoppedBy b s r m       relay r is the first that does not rest in state s, and it comes to m
+--     AllowedMove b s c t     one move, from state s to state t, logged as the byte c: a relay of the board comes to
 --                             drew or dropped; t is s with that relay drawn, or dropped (`withDrawn`, `withDropped`),
 --                             and "A move changes that relay and nothing else". So the guard for drawing or dropping it
 --                             holds in s
---     LowestMove b s c t w    an allowed move that is also the lowest: "the first that doesn't rest decides", and each
+--     LowestMove b s c t      an allowed move that is also the lowest: "the first that doesn't rest decides", and each
 --                             lower relay rests. So of no lower relay does a guard hold
---     Follows b s cs t w      the moves logged as cs lead from state s to state t, one after the other
---     Ended b n m s r e w     what the word e says, of a run with room for n moves that made m of them and stopped in
---                             state s at relay r. Spent: a further move was possible when the log was full. Undecided:
---                             some winding looked at needed more than the allowance
+--     Follows b s cs t        the moves logged as cs lead from state s to state t, one after the other
+--     Ended b n m s r e       what the word e says, of a run with room for n moves that made m of them and stopped in
+--                             state s at relay r. Spent: a further move was possible when the log was full. Undecided
+--                             is never said
 --     RunMeans, RunExactly    of a run that is not refused: the moves it made, as many as it says and as the log has
 --                             room for, follow one another from the state given to the state it answers with, and the
 --                             log beyond them is as it was; its word is e exactly if `Ended` holds of e; and a run that
 --                             ends idle leaves the board stable, as document 000 has it; and it hands back the sets of
 --                             the state that it answers with (request A5)
+--     RunDecided              no run ends undecided, whatever it is given
 use Prim.Native.Nat.{ℕ, _+_, _<_, _≤_}
 use mathlib.Core.Path.{_≡_}
 use mathlib.Core.Logic.{_⊎_, _↔_}
@@ -39,42 +40,42 @@ use Rattle.runs.specs.Runs.{noRelay}
 use Rattle.runs.specs.Running.{toldEnding, Runs}
 use Rattle.runs_means.specs.LongerRuns.{AcceptedRun, movesOf}
 
-abbrev pub Resting : Board → State → ℕ → ℕ → Type 0
-Resting b s k w = (q : ℕ) → q < k → Comes b s q step.rests w
+abbrev pub Resting : Board → State → ℕ → Type 0
+Resting b s k = (q : ℕ) → q < k → Comes b s q step.rests
 
-abbrev pub StoppedBy : Board → State → ℕ → step.Move → ℕ → Type 0
-StoppedBy b s r m w = (r < b .counts .relays) × Resting b s r w × Comes b s r m w
+abbrev pub StoppedBy : Board → State → ℕ → step.Move → Type 0
+StoppedBy b s r m = (r < b .counts .relays) × Resting b s r × Comes b s r m
 
-pub record AllowedMove (b : Board) (s : State) (c : ℕ) (t : State) (w : ℕ) : Type 0 where
+pub record AllowedMove (b : Board) (s : State) (c : ℕ) (t : State) : Type 0 where
   pub relay : ℕ
   pub on-board : relay < b .counts .relays
-  pub made : ((c ≡ relay + drawMark) × Comes b s relay step.drew w × (t ≡ withDrawn s relay))
-      ⊎ ((c ≡ relay) × Comes b s relay step.dropped w × (t ≡ withDropped s relay))
+  pub made : ((c ≡ relay + drawMark) × Comes b s relay step.drew × (t ≡ withDrawn s relay))
+      ⊎ ((c ≡ relay) × Comes b s relay step.dropped × (t ≡ withDropped s relay))
   pub else-as-before : ElseAsBefore s relay t
   pub guarded : CanDraw b s relay ⊎ CanDrop b s relay
 
-pub record LowestMove (b : Board) (s : State) (c : ℕ) (t : State) (w : ℕ) : Type 0 where
-  pub move : AllowedMove b s c t w
-  pub resting : Resting b s (move .relay) w
+pub record LowestMove (b : Board) (s : State) (c : ℕ) (t : State) : Type 0 where
+  pub move : AllowedMove b s c t
+  pub resting : Resting b s (move .relay)
   pub lowest : (q : ℕ) → q < move .relay → ¬ (CanDraw b s q) × ¬ (CanDrop b s q)
 
-unfoldable pub Follows : Board → State → List ℕ → State → ℕ → Type 0
-Follows b s [] t w = s ≡ t
-Follows b s (c ∷ cs) t w = (u : State) × LowestMove b s c u w × Follows b u cs t w
+unfoldable pub Follows : Board → State → List ℕ → State → Type 0
+Follows b s [] t = s ≡ t
+Follows b s (c ∷ cs) t = (u : State) × LowestMove b s c u × Follows b u cs t
 
-abbrev pub Ended : Board → ℕ → ℕ → State → ℕ → Ending → ℕ → Type 0
-Ended b n m s r idle w = (r ≡ noRelay) × Resting b s (b .counts .relays) w
-Ended b n m s r spent w = (m ≡ n) × (StoppedBy b s r step.drew w ⊎ StoppedBy b s r step.dropped w)
-Ended b n m s r undecided w = StoppedBy b s r step.undecided w
-Ended b n m s r conflict w = StoppedBy b s r step.conflict w
+abbrev pub Ended : Board → ℕ → ℕ → State → ℕ → Ending → Type 0
+Ended b n m s r idle = (r ≡ noRelay) × Resting b s (b .counts .relays)
+Ended b n m s r spent = (m ≡ n) × (StoppedBy b s r step.drew ⊎ StoppedBy b s r step.dropped)
+Ended b n m s r undecided = ⊥
+Ended b n m s r conflict = StoppedBy b s r step.conflict
 
-pub record RunMeans (b : Board) (s : State) (log : List ℕ) (w : ℕ) (a : Ran) (l : List ℕ) : Type 0 where
-  pub moved : Follows b s (movesOf a l) (a .kept .state) w
+pub record RunMeans (b : Board) (s : State) (log : List ℕ) (a : Ran) (l : List ℕ) : Type 0 where
+  pub moved : Follows b s (movesOf a l) (a .kept .state)
   pub counted : length (movesOf a l) ≡ a .moves
   pub room : a .moves ≤ length log
   pub beyond : drop (a .moves) l ≡ drop (a .moves) log
   pub ended : (e : Ending)
-      → toldEnding (a .word) ≡ given e ↔ Ended b (length log) (a .moves) (a .kept .state) (a .relay) e w
+      → toldEnding (a .word) ≡ given e ↔ Ended b (length log) (a .moves) (a .kept .state) (a .relay) e
   pub stable : toldEnding (a .word) ≡ given idle → Stable b (a .kept .state)
   pub sets : a .kept .sets ≡ setsOf b (a .kept .state)
 
@@ -83,4 +84,10 @@ RunExactly =
     (b : Board) (h : Kept) (w : ℕ) (log : List ℕ) (a : Ran) (l : List ℕ)
     → Runs b h log w a l
     → AcceptedRun b h log
-    → RunMeans b (h .state) log w a l
+    → RunMeans b (h .state) log a l
+
+abbrev pub RunDecided : Type 0
+RunDecided =
+    (b : Board) (h : Kept) (w : ℕ) (log : List ℕ) (a : Ran) (l : List ℕ)
+    → Runs b h log w a l
+    → ¬ (toldEnding (a .word) ≡ given undecided)

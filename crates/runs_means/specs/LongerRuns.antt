@@ -8,7 +8,8 @@
 --     Stands a               a ended idle or in conflict
 --     Extends a l c k        the run that answered c and left k starts with every move of the one that answered a and
 --                            left l, and is the same run where that one stands
---     LongerRun              the theorem: no shorter log and no less allowance for each winding. Of one state only
+--     LongerRun              the theorem: no shorter log and no less allowance for each winding, which since request A6
+--                            does not bear on it. Of one state only
 --                            its own sets are not refused, so "from one board and state" is from one h
 use Prim.Native.Nat.{ℕ, _≤_}
 use mathlib.Core.Path.{_≡_}

@@ -17,7 +17,7 @@ use Rattle.state.proofs.StateLaws.{state-fits-push, state-fits-release}
 use Rattle.kept.specs.declared.Kept.{Kept}
 use Rattle.kept.specs.Kept.{keptAt, usable, left}
 use Rattle.kept.proofs.KeptLaws.{usable-fine, usable-given}
-use Rattle.moves.specs.Steps.{stepper}
+use Rattle.moves.specs.Steps.{stepOf}
 use Rattle.presses.specs.Presses.{pushing, releasing}
 use Rattle.presses.proofs.PressLaws.{press-twelve}
 use Rattle.runs.specs.Running.{longestLog, ran}
@@ -59,7 +59,7 @@ module _ (b : Board) where
   ran-fits w e t fits =
       let goes = runnable-log b t sessionLog fits log-short in
       let was = usable-given b t fits in
-      let after = run-fits (b .counts) (stepper b w) (length sessionLog) (t .state) (was .1) in
+      let after = run-fits (b .counts) (stepOf b) (length sessionLog) (t .state) (was .1) in
       subst (λ r. ShownFits b (tells e r)) (running-by b t sessionLog w (given tt) goes)
       (record { twelve = tt; drawn = refl; fits = usable-fine b _ (was .0) after })
 

@@ -14,7 +14,7 @@ returns c =
     moving-moved _ _ _ _ _ _
     (movable-nothing _ _ _ (at-unless .before .before .usable .ensures)
     (ap (ltb _) (at-unless .before .wide .ensures .0)) (at-unless .unless .ensures) (at-told .enum-told .given .1))
-    (c .before .step .ensures) (c .after .ensures)
+    (c .before .step-by .ensures) (c .after .ensures)
 
 returns-2 : tie.Need-returns-2
 returns-2 c =

@@ -1,0 +1,2 @@
+-- The definitions that the contracts cite.
+pub mod AtOnce

@@ -1,0 +1,2 @@
+-- The definitions and the statements.
+pub mod Dividing
