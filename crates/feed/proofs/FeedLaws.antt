@@ -12,7 +12,7 @@ use lib.Seq.{ext-getD}
 use borrow.Author.Tests.{lt-ltb, le-ltb, eqb-true, eqb-false, not-true}
 use Rattle.bits.specs.Sets.{room, member, excluding, remaining, lowestFrom}
 use Rattle.bits.proofs.BoolLaws.{by-test, both-true, both-ways}
-use Rattle.bits.proofs.SetLaws.{member-none, member-every, member-below, members-equal, member-alone, member-remaining}
+use Rattle.bits.proofs.SetLaws.{member-none, member-every, members-equal, member-alone, member-remaining}
 use Rattle.bits.proofs.SetLaws.{member-including-same, member-including-other, member-excluding-same}
 use Rattle.bits.proofs.SetLaws.{member-excluding-other}
 use Rattle.bits.proofs.LowestLaws.{lowest-found}
@@ -178,10 +178,6 @@ module _ (near : List ℕ) where
       let all : 0 + x ≡ x = omega arith in
       served-back near u x 0 everywhere (member-every u below)
       (subst (λ (n : ℕ). ReachedWithoutOthers near 0 n u) (sym all) reached)
-
-  below-word : (x u : ℕ) → member (servedBelow near x) u ≡ true → u < room
-  below-word x u is =
-      member-below everywhere room u (omega arith) (served-there near u x 0 everywhere is .0)
 
   pub served-exactly : (t u : ℕ) → t ≤ mostTerminals → u < room
       → member (served near t) u ≡ true ↔ ReachedWithoutOthers near 0 t u

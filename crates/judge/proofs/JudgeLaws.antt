@@ -3,7 +3,6 @@
 use Prim.Native.Nat.{ℕ, _≤_}
 use native.Mathlib.Omega.{arith}
 use mathlib.Core.Path.{_≡_, refl, sym, ap, ap₂, _∙_}
-use mathlib.Core.Logic.{_⊎_, inr}
 use mathlib.Core.Bool.{Bool, true, false, cond}
 use mathlib.Core.List.{List, [], _∷_}
 use mathlib.Core.Option.{Option, none, some}
@@ -31,8 +30,8 @@ use Rattle.kept.proofs.KeptLaws.{kept-sets, usable-given, usable-lines, usable-
 use Rattle.chains.specs.ChainList.{chains, shows}
 use Rattle.reach.specs.Floods.{flooded}
 use Rattle.search.specs.declared.Winding.{Winding}
-use Rattle.search.specs.Verdicts.{undecided, Verdict, firstShown, effort, settled, weighed, verdictBy, inSets}
-use Rattle.search.proofs.VerdictLaws.{verdict-by-larger, in-sets-all}
+use Rattle.search.specs.Verdicts.{Verdict, firstShown, effort, settled, weighed, verdictBy, inSets}
+use Rattle.search.proofs.VerdictLaws.{in-sets-all}
 use Rattle.judge.specs.declared.Which.{Which}
 use Rattle.judge.specs.RelayWindings.{OfRelay, windingOf, windingsAt, windingNamed, isThere, orNoSuchWinding}
 use Rattle.judge.specs.Judging.{shunted, judgedBy, judgeLines, windingFor, verdictOn, judging}
@@ -95,15 +94,6 @@ module _ (k : Sets) (t : ℕ) (v : Winding) (w : ℕ) where
   -- terminals that the sets have are all looked at
   pub judged-all : t ≤ mostTerminals → judgedBy k t v w ≡ weighed (shows (v .a) (v .b)) (chainsFor k t v) w
   judged-all few = judged-of t (in-sets-all (k .near) t v w few)
-
--- what an allowance w settles, every larger one x settles the same way
-pub judged-larger : (k : Sets) (t : ℕ) (v : Winding) (w x : ℕ) → w ≤ x
-    → (judgedBy k t v w .finding ≡ given undecided) ⊎ (judgedBy k t v x ≡ judgedBy k t v w)
-judged-larger k t v w x more =
-    by-test (shunted k v)
-    (λ is. inr (sym (judged-shunted k t v x is) ∙ judged-shunted k t v w is))
-    (λ off. rw (← judged-else k t v w off, ← judged-else k t v x off)
-    (verdict-by-larger (k .near) (inSets t) v w x more))
 
 -- ---- the winding that is judged
 

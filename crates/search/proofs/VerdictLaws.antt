@@ -2,14 +2,13 @@
 -- what it tells, and that at most 64 terminals are looked at. What `search`, `judge` and the crates above them need.
 use Prim.Native.Nat.{ℕ, _+_, _<_, _≤_}
 use native.Mathlib.Omega.{arith}
-use mathlib.Core.Path.{_≡_, refl, sym, ap, subst, _∙_}
-use mathlib.Core.Logic.{_⊎_, inl, inr}
+use mathlib.Core.Path.{_≡_, refl, sym, ap, subst}
+use mathlib.Core.Logic.{inl}
 use mathlib.Core.Bool.{Bool, true, false}
 use mathlib.Core.List.{List, [], _∷_, _++_}
 use mathlib.Core.Option.{some, none, Option·none-ne-some, Option·some-injective}
-use lib.Dec.{leb}
 use lib.ListN.{length}
-use borrow.Author.Tests.{lt-ltb, le-ltb, le-leb, lt-leb, leb-true, leb-false}
+use borrow.Author.Tests.{lt-ltb, le-ltb, le-leb, lt-leb}
 use Rattle.bits.proofs.BoolLaws.{by-test}
 use Rattle.lists.specs.Members.{_∈_, All}
 use Rattle.lists.proofs.MemberLaws.{all-member, member-append-right}
@@ -33,22 +32,6 @@ weighed-within s cs w enough = rw (le-leb (effort s cs) w enough) refl
 pub weighed-short : (s : List ℕ → Bool) (cs : List (List ℕ)) (w : ℕ) → w < effort s cs → weighed s cs w ≡ unsettled w
 unfolding weighed
 weighed-short s cs w short = rw (lt-leb (effort s cs) w short) refl
-
--- what an allowance w settles, every larger one x settles the same way
-pub weighed-larger : (s : List ℕ → Bool) (cs : List (List ℕ)) (w x : ℕ) → w ≤ x
-    → (weighed s cs w .finding ≡ given undecided) ⊎ (weighed s cs x ≡ weighed s cs w)
-weighed-larger s cs w x more =
-    by-test (leb (effort s cs) w)
-    (λ enough. inr (within (leb-true (effort s cs) w enough)))
-    (λ short. inl (ap (λ (j : Verdict). j .finding) (weighed-short s cs w (leb-false (effort s cs) w short))))
-  where
-    within : effort s cs ≤ w → weighed s cs x ≡ weighed s cs w
-    within enough = weighed-within s cs x (omega (arith, enough, more)) ∙ sym (weighed-within s cs w enough)
-
-pub verdict-by-larger : (near : List ℕ) (t : ℕ) (v : Winding) (w x : ℕ) → w ≤ x
-    → (verdictBy near t v w .finding ≡ given undecided) ⊎ (verdictBy near t v x ≡ verdictBy near t v w)
-unfolding verdictBy
-verdict-by-larger near t v w x more = weighed-larger _ _ w x more
 
 -- ---- the first chain shown
 
