@@ -118,9 +118,6 @@ module _ (b : Board) (r : ℕ) (n : Which) where
             b = (ap (λ (p : Part). p .b) same ∙ i .ends .1) j;
           }
 
-  pub its-winding-unique : (e f : Winding) → ItsWinding b r n e → ItsWinding b r n f → e ≡ f
-  its-winding-unique e f i j = Option·some-injective e f (sym (its-found e i) ∙ its-found f j)
-
 -- ---- the kind of a relay's winding, by the relay's sort
 
 -- where no part of this kind carries the relay, this part does not
