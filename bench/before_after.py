@@ -19,7 +19,6 @@ from session_files import session
 
 EVENTS = 40  # of which the instructions are counted
 PRESSES = 1000  # of the button that draws and drops 32 relays, one after the other
-ALLOWANCE = 100
 
 
 def commands(before):
@@ -46,17 +45,17 @@ def instructions(command, data):
 def sessions_timed():
     """What is measured: a name, a board, its events as one byte each, and how many relay moves they make, or None."""
     twenty, row = sessions.twenty_relays(), sessions.falling_row()
-    begin = len(session(twenty, ALLOWANCE, []))
+    begin = len(session(twenty, sessions.ALLOWANCE, []))
     presses = session_files.presses(random.Random(1), 1, PRESSES)
     return [
-        ("the board of 20 relays", twenty, sessions.filled(twenty, ALLOWANCE)[begin:], None),
+        ("the board of 20 relays", twenty, sessions.filled(twenty)[begin:], None),
         ("32 relays that move one after the other", row, bytes(presses), 32 * PRESSES),
     ]
 
 
 def compare(timed, before, after, name, board, events, moves):
     """Prints what a session costs in both programs, and answers whether they print the same."""
-    begun = session(board, ALLOWANCE, [])
+    begun = session(board, sessions.ALLOWANCE, [])
     lines = [timed.lines(command, begun + events) for command in (before, after)]
     print(f"{name}: {lines[0].count(b'%c' % 10):,} lines; the two programs print the same: {lines[0] == lines[1]}")
     if sessions.NATIVE:

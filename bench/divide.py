@@ -131,7 +131,7 @@ def print_growth(timed, boards):
 def print_moves(timed):
     """Relay moves a second, of a whole session with its start, by the moves that its lines tell of."""
     name, board, events, _ = before_after.sessions_timed()[-1]
-    data = session(board, before_after.ALLOWANCE, []) + events
+    data = session(board, sessions.ALLOWANCE, []) + events
     moves = sum(int(line.split()[2]) for line in timed.lines(sessions.HERDSPIRAL, data).splitlines())
     taken = timed.least((sessions.HERDSPIRAL, data))[0]
     print(f"\n{name}: {moves:,} moves in {taken:.3f} seconds, {moves / taken:,.0f} a second")

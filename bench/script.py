@@ -78,7 +78,7 @@ def main():
     if platform.machine() != "x86_64":
         print(f"Nothing was measured here: this machine is {platform.machine()}, and the program runs under the emulator.")
         return 0
-    longest, within = sessions.filled(sessions.twenty_relays(), 100), []
+    longest, within = sessions.filled(sessions.twenty_relays()), []
     print(f"load {os.getloadavg()[0]:.2f}, {os.cpu_count()} cores; {STARTS} rounds of starts, {LONG} of long sessions")
     print("| shell | session | the program | the program again | a file of bytes | standard input | typed |")
     print("|---|---|---|---|---|---|---|")

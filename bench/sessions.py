@@ -1,11 +1,11 @@
 """Prints what the session program `herdspiral` costs to run, the second program in plain Rust (second/) beside it in the same
 run: sessions a second, the longest sessions, and the memory and the stack (bench/session_stack.py). Each time is the least of
 several, with the input in a file and the lines thrown away; those that are compared are taken in turn. Every measured session's
-lines are checked first against the second program's, and those with 2 MiB of stack against these. Since request A6 no session
-walks chains, whatever its W: how judging by chains grows is in bench/judge.py, and judging without them in bench/divide.py. Run
-from anywhere: python3 bench/sessions.py. Needs cargo, and target/bin/herdspiral and target/bin/session_cases, which `rt check`
-builds; takes some four minutes, and wants the machine to itself. The program is for x86-64: on another machine it runs under the
-kit's emulator, and only the lines are compared."""
+lines are checked first against the second program's, and those with 2 MiB of stack against these. No session walks chains: how
+judging by chains grows is in bench/judge.py, and judging without them in bench/divide.py. Run from anywhere: python3
+bench/sessions.py. Needs cargo, and target/bin/herdspiral and target/bin/session_cases, which `rt check` builds; takes some four
+minutes, and wants the machine to itself. The program is for x86-64: on another machine it runs under the kit's emulator, and only
+the lines are compared."""
 import os
 import platform
 import random
@@ -17,7 +17,6 @@ import time
 for folder in (("tests",), ("tests", "lib")):
     sys.path.insert(0, os.path.join(os.path.dirname(os.path.abspath(__file__)), "..", *folder))
 import book_sessions
-import judge
 import program
 import running
 import second_program
@@ -29,6 +28,7 @@ RUNS = 9
 STARTS = 200  # sessions one after the other, as one run
 MANY = 100_000  # sessions in one stream, for one process
 LONGEST = 65_536
+ALLOWANCE = 100  # of a session, which is read and ignored
 WIRE = 0
 HERDSPIRAL, SECOND = program.command("herdspiral"), second_program.command()
 MANY_PROVED, MANY_SECOND = program.command("session_cases"), second_program.command("--many")
@@ -75,9 +75,9 @@ class Sessions:
         return [min(own) for own in zip(*taken)]
 
 
-def filled(board, allowance):
+def filled(board):
     """The longest session on a board: pushes and releases to its end, none refused, each of one byte."""
-    begin = session(board, allowance, [])
+    begin = session(board, ALLOWANCE, [])
     return begin + bytes(presses(random.Random(1), board[0][2], LONGEST - len(begin)))
 
 
@@ -93,7 +93,7 @@ def one_relay():
 
 def twenty_relays():
     """Ten relays, each drawn by a button and held by its own upper contact until another relay, drawn by a button too, cuts
-    it: 20 relays, 20 buttons, 60 parts on 32 terminals. Every winding's effort is below 100."""
+    it: 20 relays, 20 buttons, 60 parts on 32 terminals."""
     rows = []
     for held in range(0, 20, 2):
         cutting = held + 1
@@ -104,23 +104,11 @@ def twenty_relays():
 def falling_row():
     """32 relays that move one after the other, on 64 terminals and 256 parts: a button draws the first, and each drawn relay's
     upper contact the next. Beside that each relay's contacts, an upper and a lower one, hang a terminal on plus, and stand
-    twice side by side, so that whatever is drawn it hangs there. Every winding's effort is below 100."""
+    twice side by side, so that whatever is drawn it hangs there."""
     feeds = [[BUTTON, PLUS, 2, 0]] + [[UPPER, PLUS, 2 + relay, relay - 1] for relay in range(1, 32)]
     windings = [[REGULAR, 2 + relay, MINUS, relay] for relay in range(32)]
     hung = [[kind, PLUS, 34 + relay % 30, relay] for relay in range(32) for kind in (UPPER, LOWER, UPPER, LOWER)]
     return [64, 32, 1], feeds + windings + hung + [[WIRE, PLUS, 34 + n % 30] for n in range(64)]
-
-
-def deep(last):
-    """The board of tests/judging.py on which the search through chains nests deepest: a path from plus through the terminals 3
-    to the last, each joined to minus and to terminal 2 as well, so that three are tried at each; at its end a dead winding. A
-    session walks none of its chains."""
-    path = [[WIRE, PLUS, 3]] + [[WIRE, n, n + 1] for n in range(3, last)]
-    return [last + 2, 1, 0], path + [[WIRE, n, low] for n in range(3, last + 1) for low in (MINUS, 2)] + [[REGULAR, last, last + 1, 0]]
-
-
-def deep_session(last):
-    return session(deep(last), judge.ALLOWANCE, [])
 
 
 def print_rate(name, each, start):
@@ -149,14 +137,14 @@ def print_many(sessions):
 def print_longest(sessions, boards):
     """The time of the longest sessions in both programs."""
     print(f"\n2. The longest sessions: {LONGEST:,} bytes, starting included")
-    print("| board | W | lines | herdspiral | lines a second | second program | herdspiral / second |")
-    print("|---|---|---|---|---|---|---|")
-    data = [filled(board, allowance) for _, board, allowance in boards]
+    print("| board | lines | herdspiral | lines a second | second program | herdspiral / second |")
+    print("|---|---|---|---|---|---|")
+    data = [filled(board) for _, board in boards]
     taken = iter(sessions.least(*((command, own) for own in data for command in (HERDSPIRAL, SECOND))))
-    for (name, _, allowance), own in zip(boards, data):
+    for (name, _), own in zip(boards, data):
         count, proved, second = sessions.lines(HERDSPIRAL, own).count(b"\n"), next(taken), next(taken)
-        row = [name, allowance, f"{count:,}", f"{proved * 1e3:,.1f} ms", f"{count / proved:,.0f}", f"{second * 1e3:,.1f} ms", f"{proved / second:.2f}"]
-        print("| " + " | ".join(map(str, row)) + " |", flush=True)
+        row = [name, f"{count:,}", f"{proved * 1e3:,.1f} ms", f"{count / proved:,.0f}", f"{second * 1e3:,.1f} ms", f"{proved / second:.2f}"]
+        print("| " + " | ".join(row) + " |", flush=True)
 
 
 def print_memory(sessions, named):
@@ -186,9 +174,8 @@ def main():
     built = second_program.cargo("build")
     if built.returncode:
         sys.exit(built.stderr)
-    boards = [("the smallest with a button", smallest(), 0), ("H1", one_relay(), 100), ("20 relays, 60 parts", twenty_relays(), 100)]
-    named = [("empty input", EMPTY), ("H2", H2)] + [(f"the longest, {name}", filled(board, allowance)) for name, board, allowance in boards]
-    named.append(("the board with the deepest chains", deep_session(62)))
+    boards = [("the smallest with a button", smallest()), ("H1", one_relay()), ("20 relays, 60 parts", twenty_relays())]
+    named = [("empty input", EMPTY), ("H2", H2)] + [(f"the longest, {name}", filled(board)) for name, board in boards]
     with tempfile.TemporaryDirectory() as folder:
         sessions = Sessions(folder)
         for name, data in named:

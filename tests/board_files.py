@@ -24,8 +24,7 @@ ODD_VALUES += [268435455, 268435456, model.LARGEST, model.LARGEST + 1, 2**35 - 1
 LONG_FORMS = [[0], [128, 0], [255, 127], [128, 128, 0], [128, 128, 128, 0], [255, 255, 255, 15], [255, 255, 255, 16], [128, 128, 128, 128, 0]]
 HANDED_PARTS = 5 + program.START_BYTES  # the first part of a board handed in begins at this byte
 NONE = frozenset()
-# A move of relay 0, a run with a log of 4, a push and a release of button 0, with nothing drawn or pushed and W 0: the last number
-# of each.
+# A move of relay 0, a run with a log of 4, a push and a release of button 0, with nothing drawn or pushed: what each asks.
 ROOM = 4
 ASKED = {"^": 0, "=": ROOM, "+": 0, "-": 0}
 
@@ -189,7 +188,7 @@ def case_checks(found):
     checks = compared("file_cases", [data.hex() + ending + "\n" for ending, data, _ in found], [lines[0] for _, _, lines in found])
     handed = [(data, lines) for ending, data, lines in found if ending == "!"]
     for ending, (place, sets) in itertools.product(ASKED, enumerate([None, kept_model.NOWHERE], 1)):
-        cases = [program.handed_case([0, 0, 0, ASKED[ending]], data, ending, kept_model.typed(sets)) for data, _ in handed]
+        cases = [program.handed_case([0, 0, ASKED[ending]], data, ending, kept_model.typed(sets)) for data, _ in handed]
         checks += compared("run_cases", cases, [lines[place][ending] for _, lines in handed])
     return checks
 

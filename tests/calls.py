@@ -30,7 +30,7 @@ import second_program
 import session_boards as boards
 from board_model import LARGEST
 from program import LARGEST_HANDED
-from running import ALLOWANCES, SHOWN, total
+from running import SHOWN, total
 
 LONGEST_LOG = 65_536
 MUCH = 20_000  # the allowance that efforts are asked with, of boards with many chains
@@ -42,7 +42,7 @@ KEPT = re.compile(r"((?:moved|ran) .*) sets (given|changed) own near[ =\d]* bare
 SPENT = re.compile(rf"ran spent {SHOWN} (\d+) (\d+) ")
 
 SORTS = [boards.feeding, boards.feeding, boards.web, boards.web, boards.buzzing, boards.conflicting, boards.every_kind, boards.crowded]
-SORTS += [boards.largest, lambda dice: boards.counting(dice, dice.randint(2, 8), dice.randint(0, 3)), lambda dice: boards.diamonds(dice, dice.randint(0, 12))[0]]
+SORTS += [boards.largest, lambda dice: boards.counting(dice, dice.randint(2, 8), dice.randint(0, 3)), lambda dice: boards.diamonds(dice, dice.randint(0, 20))]
 SORTS += [lambda dice: boards.dense(dice, dice.randint(4, 9)), boards.shunting, dividing.board, dividing.board]
 
 
@@ -63,11 +63,11 @@ class Asked:
         """Each relay's first and second winding."""
         return [(self, relay, second) for relay in range(self.counts[1]) for second in (False, True)]
 
-    def handed(self, numbers, ending):
-        return program.handed_case([total(self.drawn), total(self.pushed)] + numbers, running.handed(self.counts, self.parts), ending)
+    def handed(self, asked, ending):
+        return program.handed_case([total(self.drawn), total(self.pushed), asked], running.handed(self.counts, self.parts), ending)
 
-    def run(self, allowance, room):
-        return self.handed([allowance, room], "=")
+    def run(self, room):
+        return self.handed(room, "=")
 
     def is_large(self):
         return any(effort is None for _, _, effort in self.windings)
@@ -126,25 +126,23 @@ def moves(dice, own):
     """Single moves of some relays, and of one that is not there."""
     relays = own.counts[1]
     for relay, _, _ in dice.sample(own.windings, min(2, len(own.windings))):
-        yield from (own.handed([relay, allowance], "^") for allowance in ALLOWANCES)
-    yield own.handed([dice.choice([relays, relays + 1, 256, LARGEST_HANDED]), dice.choice([0, 100])], "^")
+        yield own.handed(relay, "^")
+    yield own.handed(dice.choice([relays, relays + 1, 256, LARGEST_HANDED]), "^")
 
 
 def runs(dice, own, line):
-    """Runs from the board's state, given the line of one: logs of 0, 1 and around its moves, each with some allowance, and a log
-    that is too long."""
+    """Runs from the board's state, given the line of one: logs of 0, 1 and around its moves, and a log that is too long."""
     made = int(line.split()[2]) if "refused" not in line else 0
     for room in sorted({0, 1, 2, max(made - 1, 0), made, made + 1, SHOWN, dice.choice([3, 100, LONGEST_LOG + 1])}):
-        yield own.run(dice.choice(ALLOWANCES), room)
-    yield from (own.run(allowance, dice.choice([0, 1, made, SHOWN])) for allowance in ALLOWANCES)
+        yield own.run(room)
     if made < SHOWN and dice.random() < 0.1:
-        yield own.run(LARGEST_HANDED, LONGEST_LOG)
+        yield own.run(LONGEST_LOG)
 
 
 def going_on(found):
     """Runs that fill the log that is shown, each going on from the state that the second program left, so that the log is seen
     for some hundred moves."""
-    cases, every = [own.run(LARGEST_HANDED, SHOWN) for own in found], []
+    cases, every = [own.run(SHOWN) for own in found], []
     for _ in range(ROUNDS):
         lines = second(cases)
         spent = [(case, form) for case, line in zip(cases, lines) if (form := SPENT.match(line))]
@@ -160,8 +158,8 @@ def broken(dice, own):
         at = dice.randrange(board_files.HANDED_PARTS) if dice.random() < 0.3 else dice.randrange(len(data))
         data[at] = dice.choice([(data[at] + 1) % 256, (data[at] - 1) % 256, dice.choice([0, 1, 2, 4, 5, 6, 7, 8, 32, 33, 64, 65, 255])])
     state = [total(own.drawn), total(own.pushed)] if dice.random() < 0.7 else [dice.getrandbits(24), dice.getrandbits(24)]
-    yield program.handed_case(state + [dice.choice([0, 1, 40, LARGEST_HANDED]), dice.choice([0, 1, 50])], data, "^")
-    yield program.handed_case(state + [dice.choice([0, 1, 50]), dice.choice([0, 1, 5, SHOWN, LONGEST_LOG, LONGEST_LOG + 1])], data, "=")
+    yield program.handed_case(state + [dice.choice([0, 1, 40, LARGEST_HANDED])], data, "^")
+    yield program.handed_case(state + [dice.choice([0, 1, 5, SHOWN, LONGEST_LOG, LONGEST_LOG + 1])], data, "=")
 
 
 def hostile_files(dice, count):
@@ -180,15 +178,15 @@ def handed_boards(dice, count):
     """Boards handed in by tests/board_files.py, many with a fault, moved and run."""
     for _ in range(count):
         data, state = board_files.handed_case(dice), [dice.choice([0, 0, 1, 3]), dice.choice([0, 0, 1])]
-        yield program.handed_case(state + [dice.choice([0, 1, 31]), dice.choice([0, 1, 50])], data, "^")
-        yield program.handed_case(state + [dice.choice([0, 1, 50]), dice.choice([0, 1, 5, LONGEST_LOG + 1])], data, "=")
+        yield program.handed_case(state + [dice.choice([0, 1, 31])], data, "^")
+        yield program.handed_case(state + [dice.choice([0, 1, 5, LONGEST_LOG + 1])], data, "=")
 
 
 def every_case(seed, count):
     """The cases of each program."""
     dice = random.Random(seed)
     found = asked_boards(dice, count)
-    lines = second(own.run(LARGEST_HANDED, SHOWN) for own in found)
+    lines = second(own.run(SHOWN) for own in found)
     judged = [case for own in found for part in (judgements(dice, own), at_once(dice, own)) for case in part]
     judged += hostile_files(dice, 4 * count)
     ran = [case for own, line in zip(found, lines) for part in (moves(dice, own), runs(dice, own, line), broken(dice, own), broken(dice, own)) for case in part]

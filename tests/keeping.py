@@ -63,8 +63,8 @@ def calls(dice, own, drawn, pushed, sets):
     """A move, a run, a push and a release with these sets, each as `judgement` gives it."""
     against = functools.partial(model.against, own, drawn, pushed, own.belong(sets, drawn, pushed))
     relay, button, room = dice.randint(0, own.counts[1]), dice.randint(0, own.counts[2]), dice.choice(ROOMS)
-    yield against(relay=relay), *running.move_case(own, drawn, pushed, relay, LARGEST_HANDED, sets)
-    yield against(room=room), *running.run_case(own, drawn, pushed, LARGEST_HANDED, room, sets)
+    yield against(relay=relay), *running.move_case(own, drawn, pushed, relay, sets)
+    yield against(room=room), *running.run_case(own, drawn, pushed, room, sets)
     for is_push in (True, False):
         yield against(press=(button, is_push)), *running.press_case(own, drawn, pushed, button, is_push, sets)
 
@@ -72,7 +72,7 @@ def calls(dice, own, drawn, pushed, sets):
 def broken_calls(dice, own, drawn, pushed, sets):
     """The same calls on a board that breaks a rule: each is refused by 15, whatever else stands against it."""
     data = running.handed([dice.choice(NO_COUNTS)] + own.counts[1:], own.parts)
-    numbers = [total(drawn), total(pushed), dice.choice([0, LARGEST_HANDED]), dice.choice(ROOMS)]
+    numbers = [total(drawn), total(pushed), dice.choice(ROOMS)]
     left = kept_model.words(own.parts, (drawn, pushed), sets, (drawn, pushed), True)
     for ending, line in running.REFUSED.items():
         yield program.handed_case(numbers, data, ending, kept_model.typed(sets)), line.format(15, f"{numbers[0]} {numbers[1]}") + left

@@ -1,6 +1,6 @@
 """One name, one thing: no two definitions of specs/ have the same name, nor any two laws that other crates can cite. A
 function may have its definition's name, a type has one name in code and definitions, and a constructor is not looked at: the
-rule book's word `undecided` is one of several types."""
+rule book's word `conflict` is one of several types."""
 import os
 import re
 import sys

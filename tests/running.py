@@ -2,12 +2,11 @@
 pushes, releases, single moves and runs, with the kept sets that each hands back: relays that feed each other by their
 contacts, in sequence and in rings, relays that hold themselves, steel relays fed by buttons and contacts, relays that are
 shunted, and the boards of tests/judging.py, with marks and without; states within and beyond the board, relays that are
-there and that are not, allowances from 0 to the largest, none of which may be heeded, logs around the number of moves; the
-boards of tests/lib/shunt_boards.py; and boards worked out by hand, some with more chains than any allowance
-(tests/lib/feed_boards.py). Of the program's own answers it compares any two runs from one board and state: the one with no
-shorter log starts with every move of the other, and is the same if that one ended idle or in conflict. Seeded, so each run tries
-the same cases; `python3 tests/running.py SEED BOARDS` tries others, or more (it is 1 and 130 else). Needs target/bin/run_cases,
-which `rt check run_cases` builds."""
+there and that are not, logs around the number of moves; the boards of tests/lib/shunt_boards.py; and boards worked out by
+hand, some with more chains than any allowance (tests/lib/feed_boards.py). Of the program's own answers it compares any two
+runs from one board and state: the one with the longer log starts with every move of the other, and is the same if that one
+ended idle or in conflict. Seeded, so each run tries the same cases; `python3 tests/running.py SEED BOARDS` tries others, or
+more (it is 1 and 130 else). Needs target/bin/run_cases, which `rt check run_cases` builds."""
 import itertools
 import os
 import random
@@ -30,7 +29,6 @@ MANY_MOVES = 200  # a run that makes so many is taken for one that never ends
 SHOWN = 40  # the program prints so many moves of a log
 # A refused call by its ending, with its number and the state.
 REFUSED = {"+": "pressed refused {} {}", "-": "pressed refused {} {}", "^": "moved refused {} {}", "=": "ran refused {} 0 {} 255:"}
-ALLOWANCES = [0, 1, 5, LARGEST_HANDED]  # none of which a move or a run heeds
 OFTEN = 10  # so many relays that are judged have a shunt, of each sort
 
 
@@ -146,7 +144,7 @@ def handed(counts, parts):
 
 def case(own, state, asked, ending, sets):
     """The text of a case: the kept sets, the state and what is asked, then the board handed in."""
-    numbers = [total(names) for names in state] + asked
+    numbers = [total(names) for names in state] + [asked]
     return program.handed_case(numbers, handed(own.counts, own.parts), ending, kept_model.typed(sets))
 
 
@@ -160,38 +158,35 @@ def press_case(own, drawn, pushed, button, is_push, sets=None):
     numbers = model.against(own, drawn, pushed, own.belong(sets, drawn, pushed), press=(button, is_push))
     word, after = (f"refused {numbers[0]}", pushed) if numbers else ("done", pushed ^ {button})
     line = f"pressed {word} {total(drawn)} {total(after)}" + left(own, (drawn, pushed), sets, (drawn, after), numbers)
-    return case(own, (drawn, pushed), [button, 0], "+" if is_push else "-", sets), line
+    return case(own, (drawn, pushed), button, "+" if is_push else "-", sets), line
 
 
-def move_case(own, drawn, pushed, relay, allowance, sets=None):
+def move_case(own, drawn, pushed, relay, sets=None):
     """A single move, with the line that it should print."""
     numbers = model.against(own, drawn, pushed, own.belong(sets, drawn, pushed), relay=relay)
     word, after = (f"refused {numbers[0]}", drawn) if numbers else model.move(own, drawn, pushed, relay)
     line = f"moved {word} {total(after)} {total(pushed)}" + left(own, (drawn, pushed), sets, (after, pushed), numbers)
-    return case(own, (drawn, pushed), [relay, allowance], "^", sets), line
+    return case(own, (drawn, pushed), relay, "^", sets), line
 
 
-def run_case(own, drawn, pushed, allowance, room, sets=None):
-    """A run, with the line that it should print."""
+def run_case(own, drawn, pushed, room, sets=None):
+    """A run with so much room in its log, with the line that it should print."""
     numbers = model.against(own, drawn, pushed, own.belong(sets, drawn, pushed), room=room)
     unrun = f"refused {numbers[0]}" if numbers else "", [], drawn, model.NO_RELAY
     word, log, after, relay = unrun if numbers else model.run(own, drawn, pushed, room)
     line = " ".join([f"ran {word} {len(log)} {total(after)} {total(pushed)} {relay}:"] + [str(byte) for byte in log[:SHOWN]])
-    return case(own, (drawn, pushed), [allowance, room], "=", sets), line + left(own, (drawn, pushed), sets, (after, pushed), numbers)
+    return case(own, (drawn, pushed), room, "=", sets), line + left(own, (drawn, pushed), sets, (after, pushed), numbers)
 
 
 def moves(dice, own, drawn, pushed):
     """Single moves of some relay in a state, and of one that the board lacks."""
     relays = own.counts[1]
-    found = [move_case(own, drawn, pushed, dice.choice([relays, relays + 1, LARGEST_HANDED]), dice.choice([0, LARGEST_HANDED]))]
-    if relays:
-        relay = dice.randrange(relays)
-        found += [move_case(own, drawn, pushed, relay, allowance) for allowance in ALLOWANCES]
-    return found
+    there = [dice.randrange(relays)] if relays else []
+    return [move_case(own, drawn, pushed, relay) for relay in [dice.choice([relays, relays + 1, LARGEST_HANDED])] + there]
 
 
 def runs(dice, own, drawn, pushed):
-    """Runs from a state, each with the room in its log."""
+    """Runs from a state, each with more room in its log than the one before."""
     if model.against(own, drawn, pushed):
         rooms = [5, model.LONGEST_LOG + 1]
     else:
@@ -199,8 +194,7 @@ def runs(dice, own, drawn, pushed):
         rooms = sorted({0, 1, 2, max(made - 1, 0), made, made + 1, SHOWN})
         if made < MANY_MOVES and dice.random() < 0.2:
             rooms += [model.LONGEST_LOG, model.LONGEST_LOG + 1]
-        rooms += dice.choices(rooms, k=3)
-    return [(run_case(own, drawn, pushed, dice.choice(ALLOWANCES), room), room) for room in rooms]
+    return [run_case(own, drawn, pushed, room) for room in rooms]
 
 
 def long_runs(dice):
@@ -209,21 +203,20 @@ def long_runs(dice):
     ring = wired(dice, 3, 0, [(REGULAR, relay, [[[LOWER, (relay + 1) % 3]]]) for relay in range(3)])
     most = wired(dice, 32, 1, [(REGULAR, relay, [[[UPPER, relay + 1]]]) for relay in range(31)] + [(REGULAR, 31, [[[BUTTON, 0]]])])
     boards = [(h3, set()), (ring, set()), (most, {0})]
-    return [run_case(model.Board(*own), set(), pushed, LARGEST_HANDED, model.LONGEST_LOG) for own, pushed in boards]
+    return [run_case(model.Board(*own), set(), pushed, model.LONGEST_LOG) for own, pushed in boards]
 
 
 def boards_by_hand():
-    """Moves and runs on the boards worked out by hand, some with more chains than any allowance, at each allowance."""
+    """Moves and runs on the boards worked out by hand, some with more chains than any allowance."""
     for each in shunt_boards.every_one() + feed_boards.every_one():
         counts, parts, drawn, pushed, relay, _ = each.asked
         own = model.Board(counts, parts)
-        for allowance in ALLOWANCES:
-            yield move_case(own, drawn, pushed, relay, allowance)
-            yield run_case(own, drawn, pushed, allowance, SHOWN)
+        yield move_case(own, drawn, pushed, relay)
+        yield run_case(own, drawn, pushed, SHOWN)
 
 
 def goes_on(less, more):
-    """Whether the second line, of a run with no shorter log, starts with every move of the first, and is the same if that one
+    """Whether the second line, of a run with a longer log, starts with every move of the first, and is the same if that one
     ended idle or in conflict."""
     (counts, log), (more_counts, more_log) = ([part.split() for part in kept_model.unsaid(line).split(":")] for line in (less, more))
     if counts[1] in ("idle", "conflict"):
@@ -231,11 +224,10 @@ def goes_on(less, more):
     return int(more_counts[2]) >= int(counts[2]) and more_log[: len(log)] == log
 
 
-def disagreeing(group):
-    """The runs from one board and state, each as the room in its log and the line printed, that break demand 3."""
-    taken = [(room, line) for room, line in group if line and line.startswith("ran ") and "refused" not in line]
-    pairs = itertools.permutations(taken, 2)
-    return [(less, more) for less, more in pairs if less[0] <= more[0] and not goes_on(less[1], more[1])]
+def disagreeing(lines):
+    """The pairs that break demand 3, of the lines of runs from one board and state, each with a longer log than the one before."""
+    taken = [line for line in lines if line.startswith("ran ") and "refused" not in line]
+    return [pair for pair in itertools.combinations(taken, 2) if not goes_on(*pair)]
 
 
 def presses(dice, own):
@@ -277,14 +269,14 @@ def compare(seed, count):
         for _ in range(2):
             drawn, pushed = judging.state(dice, own.counts[1], own.counts[2], program.HANDED_BITS)
             of_moves, of_runs = moves(dice, own, drawn, pushed), runs(dice, own, drawn, pushed)
-            groups.append((len(found) + len(of_moves), [room for _, room in of_runs]))
-            found += of_moves + [each for each, _ in of_runs]
+            groups.append((len(found) + len(of_moves), len(of_runs)))
+            found += of_moves + of_runs
     found += long_runs(dice) + list(boards_by_hand()) + [each for own in boards for each in presses(dice, own)]
     cases, wanted = zip(*found)
     told = program.answers(program.command("run_cases"), cases)
     checks = program.compared(cases, wanted, told)
-    for start, rooms in groups:
-        wrong = disagreeing(list(zip(rooms, told[start:])))
+    for start, many in groups:
+        wrong = disagreeing(told[start : start + many])
         checks.append((f"{found[start][0].strip()}: of two runs from this state the one goes on as the other did: {wrong}", not wrong))
     return checks + list(met(found)) + list(shunts_met(boards))
 

@@ -2,11 +2,11 @@
 sort in tests/lib/session_sorts.py, by way of `session_cases`, which takes many in one process; the first few of each sort, and
 the rule book's boards to try, also by the program `herdspiral` itself. The bytes that both print must be the same, and every
 word and every refusal that a session can come to must occur. Both are also held to models in Python, on each form of a number
-at each place (tests/lib/number_sessions.py). Also builds the second program and runs its unit tests, and tries how
-`herdspiral` reads and writes (tests/lib/session_streams.py). Seeded, so each run tries the same sessions;
-`python3 tests/sessions.py SEED SESSIONS` tries others, or more (it is 1 and 5,000 else; those that are much work are always
-as many). Needs cargo, and target/bin/herdspiral and target/bin/session_cases, which `rt check herdspiral session_cases`
-builds."""
+at each place (tests/lib/number_sessions.py). Some sessions must print the same at several W, places apart. Also builds the
+second program and runs its unit tests, and tries how `herdspiral` reads and writes (tests/lib/session_streams.py). Seeded, so
+each run tries the same sessions; `python3 tests/sessions.py SEED SESSIONS` tries others, or more (it is 1 and 5,000 else; those
+that are much work are always as many). Needs cargo, and target/bin/herdspiral and target/bin/session_cases, which
+`rt check herdspiral session_cases` builds."""
 import collections
 import concurrent.futures
 import os
@@ -22,11 +22,13 @@ import repository
 import second_program
 import session_sorts
 import session_streams
+from board_model import LARGEST, number_bytes
 
 SHOWN = 300  # characters of an answer in a message
 SESSION_SHOWN = 2_200  # and of a session: those with few events are shown whole
 ALONE = 6  # of each sort, so many sessions are given to the program itself, one to a process
 OFTEN = 10  # each word and refusal occurs at least so many times
+ALLOWANCES = (0, 1, 127, 128, LARGEST)  # of one, two and five bytes
 WORDS = ("idle", "spent", "conflict")
 FILE_REFUSALS = (*range(1, 10), 17, 10)
 EVENT_REFUSALS = (1, 2, 7)  # 12 has a line of its own form
@@ -157,6 +159,22 @@ def book():
         yield same(f"{name}, the second program", session, second_program.answer(session), wanted)
 
 
+def moved(lines, count):
+    """The lines of a session, with the place of the refusal that ends it, if one does, so many bytes further on."""
+    return re.sub(rb"^(refused \d+) (\d+)$", lambda form: b"%s %d" % (form[1], int(form[2]) + count), lines, flags=re.M)
+
+
+def any_allowance():
+    """That the program prints the same at every W, but for the place of a refusal that ends a session: it moves with W's length."""
+    for name, *typed in book_sessions.ANY_W:
+        board, events = map(bytes.fromhex, typed)
+        sessions = [board + bytes(number_bytes(allowance)) + events for allowance in ALLOWANCES]
+        first = proved(sessions[0]).out
+        for allowance, session in zip(ALLOWANCES, sessions):
+            wanted = moved(first, len(session) - len(sessions[0]))
+            yield same(f"{name}, W {allowance}", session, proved(session), wanted, program.session_told)
+
+
 def numbers():
     """That both print what the models do for each form of a number at each place."""
     found = number_sessions.sessions()
@@ -178,7 +196,7 @@ def compare(seed, count):
     if not all(holds for _, holds in checks):
         return checks
     sessions = [(f"seed {seed}, {sort}, {number}", sort, session) for sort, number, session in session_sorts.sessions(seed, count)]
-    return checks + list(book()) + list(numbers()) + list(counted(sessions)) + compared(sessions) + session_streams.checks()
+    return checks + list(book()) + list(any_allowance()) + list(numbers()) + list(counted(sessions)) + compared(sessions) + session_streams.checks()
 
 
 if __name__ == "__main__":

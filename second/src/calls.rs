@@ -195,8 +195,8 @@ pub fn check_call(
     Ok(divides(&board, &state, ends, x as usize))
 }
 
-/// Moves a named relay, if it moves. The allowance is not heeded.
-pub fn move_call(board: &HandedBoard, handed: HandedState, relay: u32, _w: u32) -> Moved {
+/// Moves a named relay, if it moves.
+pub fn move_call(board: &HandedBoard, handed: HandedState, relay: u32) -> Moved {
     let (board, state) = match accepted(board, handed) {
         Ok(both) => both,
         Err(number) => return (Err(number), handed),
@@ -208,8 +208,8 @@ pub fn move_call(board: &HandedBoard, handed: HandedState, relay: u32, _w: u32) 
     (Ok(answer), HandedState::of(&left))
 }
 
-/// Runs a board over the lent log. The allowance is not heeded.
-pub fn run_call(board: &HandedBoard, handed: HandedState, _w: u32, log: &mut [u8]) -> Ran {
+/// Runs a board over the lent log.
+pub fn run_call(board: &HandedBoard, handed: HandedState, log: &mut [u8]) -> Ran {
     let both = accepted(board, handed).and_then(|both| match log.len() {
         0..=LONGEST_LOG => Ok(both),
         _ => Err(13),
@@ -457,9 +457,9 @@ mod tests {
                 assert_eq!(check_call(board, state, asked, x), Err(number));
             }
         }
-        assert_eq!(move_call(&broken, BEYOND, 7, MUCH), (Err(15), BEYOND));
-        assert_eq!(move_call(&h1(), BEYOND, 7, MUCH), (Err(14), BEYOND));
-        assert_eq!(move_call(&h1(), FRESH, 1, MUCH), (Err(11), FRESH));
+        assert_eq!(move_call(&broken, BEYOND, 7), (Err(15), BEYOND));
+        assert_eq!(move_call(&h1(), BEYOND, 7), (Err(14), BEYOND));
+        assert_eq!(move_call(&h1(), FRESH, 1), (Err(11), FRESH));
         for (board, state, length, number) in [
             (&broken, BEYOND, 65_537, 15),
             (&h1(), BEYOND, 65_537, 14),
@@ -472,7 +472,7 @@ mod tests {
                 state,
                 relay: 255,
             };
-            assert_eq!(run_call(board, state, MUCH, &mut log), refused);
+            assert_eq!(run_call(board, state, &mut log), refused);
             assert_eq!(log, vec![77; length]);
         }
     }
@@ -485,7 +485,7 @@ mod tests {
                 let judged = judge_call(&h1(), FRESH, (relay, is_second), MUCH);
                 assert_eq!(judged, Err(11));
             }
-            assert_eq!(move_call(&h1(), FRESH, relay, MUCH), (Err(11), FRESH));
+            assert_eq!(move_call(&h1(), FRESH, relay), (Err(11), FRESH));
         }
     }
 
@@ -529,11 +529,8 @@ mod tests {
             state: drawn,
             relay: 255,
         };
-        for w in [0, 2, 3, MUCH] {
-            assert_eq!(move_call(&h1(), pushed, 0, w), (Ok(Answer::Drew), drawn));
-            log.fill(77);
-            assert_eq!(run_call(&h1(), pushed, w, &mut log), idle);
-            assert_eq!(log[..2], [128, 77]);
-        }
+        assert_eq!(move_call(&h1(), pushed, 0), (Ok(Answer::Drew), drawn));
+        assert_eq!(run_call(&h1(), pushed, &mut log), idle);
+        assert_eq!(log[..2], [128, 77]);
     }
 }

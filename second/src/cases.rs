@@ -10,10 +10,9 @@
 //!   the relay, its winding (0 for the first, else the second) and the allowance.
 //! - `!`, a judgement without an allowance: the same without the last number.
 //! - `?`, a check of a terminal: the same with the terminal for the allowance.
-//! - `^`, a move: four numbers of three bytes, highest first, which are the
-//!   drawn relays, the pushed buttons, the relay and the allowance; then a
-//!   board handed in.
-//! - `=`, a run: the same with the allowance and the log's length last.
+//! - `^`, a move: three numbers of three bytes, highest first, which are the
+//!   drawn relays, the pushed buttons and the relay; then a board handed in.
+//! - `=`, a run: the same with the log's length for the relay.
 //!
 //! A board is handed in byte by byte: one each for T, R and B, two for C with
 //! the lower first, five for the start, lowest first (a bit for each relay),
@@ -149,13 +148,12 @@ fn judgement_line(judgement: &Judgement) -> String {
 }
 
 fn move_case(case: &[u8]) -> String {
-    let (state, [relay, w], board) = handed(case);
-    let (answer, left) = move_call(&board, state, relay, w);
+    let (state, relay, board) = handed(case);
+    let (answer, left) = move_call(&board, state, relay);
     let word = match answer {
         Ok(Answer::Drew) => "drew".to_string(),
         Ok(Answer::Dropped) => "dropped".to_string(),
         Ok(Answer::Rests) => "rests".to_string(),
-        Ok(Answer::Undecided) => "undecided".to_string(),
         Ok(Answer::Conflict) => "conflict".to_string(),
         Err(number) => format!("refused {number}"),
     };
@@ -165,9 +163,9 @@ fn move_case(case: &[u8]) -> String {
 /// The answer to a run, with the first moves of its log, and a word for each
 /// byte past them that was touched.
 fn run_case(case: &[u8]) -> String {
-    let (state, [w, room], board) = handed(case);
+    let (state, room, board) = handed(case);
     let mut log = vec![FILLER; room as usize];
-    let ran = run_call(&board, state, w, &mut log);
+    let ran = run_call(&board, state, &mut log);
     let word = match ran.word {
         Ok(word) => word.text().to_string(),
         Err(number) => format!("refused {number}"),
@@ -183,28 +181,28 @@ fn run_case(case: &[u8]) -> String {
     line
 }
 
-/// What a move or a run is handed: a state, two numbers and a board.
-fn handed(case: &[u8]) -> (HandedState, [u32; 2], HandedBoard) {
+/// What a move or a run is handed: a state, a number and a board.
+fn handed(case: &[u8]) -> (HandedState, u32, HandedBoard) {
     let byte = |at: usize| case.get(at).copied().unwrap_or(0);
     let number = |at: usize| u32::from_be_bytes([0, byte(at), byte(at + 1), byte(at + 2)]);
     let state = HandedState {
         drawn: number(0).into(),
         pushed: number(3).into(),
     };
-    let start = (0..5).map(|place| u64::from(byte(17 + place)) << (8 * place));
+    let start = (0..5).map(|place| u64::from(byte(14 + place)) << (8 * place));
     let part = |at: usize| Part {
         ends: (byte(at + 1).into(), byte(at + 2).into()),
         kind: kind(byte(at), byte(at + 3).into()),
     };
     let board = HandedBoard {
-        terminals: byte(12).into(),
-        relays: byte(13).into(),
-        buttons: byte(14).into(),
-        count: u16::from_le_bytes([byte(15), byte(16)]).into(),
+        terminals: byte(9).into(),
+        relays: byte(10).into(),
+        buttons: byte(11).into(),
+        count: u16::from_le_bytes([byte(12), byte(13)]).into(),
         start: start.sum(),
-        parts: (0..MOST_PARTS).map(|place| part(22 + 4 * place)).collect(),
+        parts: (0..MOST_PARTS).map(|place| part(19 + 4 * place)).collect(),
     };
-    (state, [number(6), number(9)], board)
+    (state, number(6), board)
 }
 
 fn kind(number: u8, name: usize) -> Kind {
@@ -227,7 +225,7 @@ mod tests {
     const H1_FILE: &str = "03 01 01 02  03 00 02 00  04 02 01 00";
     const H1_HANDED: &str = "03 01 01 02 00  00 00 00 00 00  03 00 02 00  04 02 01 00";
     const H3_HANDED: &str = "03 01 00 02 00  00 00 00 00 00  02 00 02 00  04 02 01 00";
-    const ZERO: &str = "000000 000000 000000 000000";
+    const ZERO: &str = "000000 000000 000000";
 
     fn assert_answers(text: &str, lines: &[&str]) {
         let told = answers(text).unwrap();
@@ -368,18 +366,16 @@ mod tests {
 
     #[test]
     fn moves_and_runs() {
-        let text = format!(
-            "000000 000001 000000 000003 {H1_HANDED} ^\n000000 000001 000001 000003 {H1_HANDED}^"
-        );
+        let text = format!("000000 000001 000000 {H1_HANDED} ^\n000000 000001 000001 {H1_HANDED}^");
         assert_answers(&text, &["moved drew 1 1", "moved refused 11 0 1"]);
-        let run = |asked: &str, board: &str| format!("000000 000000 {asked} {board} =\n");
+        let run = |room: &str, board: &str| format!("000000 000000 {room} {board} =\n");
         let five = "ran spent 5 1 0 0: 128 0 128 0 128";
-        assert_answers(&run("000064 000005", H3_HANDED), &[five]);
-        assert_answers(&run("000064 000000", H3_HANDED), &["ran spent 0 0 0 0:"]);
-        assert_answers(&run("000064 000002", H1_HANDED), &["ran idle 0 0 0 255:"]);
+        assert_answers(&run("000005", H3_HANDED), &[five]);
+        assert_answers(&run("000000", H3_HANDED), &["ran spent 0 0 0 0:"]);
+        assert_answers(&run("000002", H1_HANDED), &["ran idle 0 0 0 255:"]);
         let refused = "ran refused 13 0 0 0 255:";
-        assert_answers(&run("000064 010001", H1_HANDED), &[refused]);
-        let long = answers(&run("000064 000029", H3_HANDED)).unwrap();
+        assert_answers(&run("010001", H1_HANDED), &[refused]);
+        let long = answers(&run("000029", H3_HANDED)).unwrap();
         assert_eq!(
             long,
             format!("ran spent 41 1 0 0:{}\n", " 128 0".repeat(20))
@@ -441,10 +437,9 @@ mod tests {
             .map(|relay| format!(" 04 00 01 {relay:02x}"))
             .collect();
         let board = |start: &str| format!("02 20 00 21 00 {start} {windings} 07 00 00 1f");
-        let text = format!("000001 000000 000000 000064 {} ^", board("0000008000"));
-        assert_answers(&text, &["moved rests 1 0"]);
-        let text = format!("000001 000000 000064 000000 {} =", board("0000008000"));
-        assert_answers(&text, &["ran spent 0 1 0 1:"]);
+        let handed = format!("000001 000000 000000 {}", board("0000008000"));
+        assert_answers(&format!("{handed} ^"), &["moved rests 1 0"]);
+        assert_answers(&format!("{handed} ="), &["ran spent 0 1 0 1:"]);
         for start in ["0000000000", "8000000000", "0000000080", "0000000001"] {
             let text = format!("{ZERO} {} ^", board(start));
             assert_answers(&text, &["moved refused 15 0 0"]);

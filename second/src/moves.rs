@@ -1,8 +1,8 @@
 //! A single move of a named relay.
 //!
-//! Renders the first paragraph of "How a relay moves", as request A6 changed
-//! it: windings are judged without an allowance, and a shunted one is dead. So
-//! no move answers undecided, which is still one of the words until A7.
+//! Renders the first paragraph of "How a relay moves", as requests A6 and A7
+//! changed it: windings are judged without an allowance, a shunted one is dead,
+//! and no move is undecided.
 
 use crate::board::{Board, Ends, State, Windings};
 use crate::tell::{tell, Told};
@@ -13,7 +13,6 @@ pub enum Answer {
     Drew,
     Dropped,
     Rests,
-    Undecided,
     Conflict,
 }
 
@@ -23,7 +22,7 @@ pub fn move_relay(board: &Board, state: State, relay: usize) -> (Answer, State) 
     match answer {
         Answer::Drew => (answer, state.draw(relay)),
         Answer::Dropped => (answer, state.drop(relay)),
-        Answer::Rests | Answer::Undecided | Answer::Conflict => (answer, state),
+        Answer::Rests | Answer::Conflict => (answer, state),
     }
 }
 

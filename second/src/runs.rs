@@ -1,7 +1,7 @@
 //! A run, until it is idle, stopped or spent.
 //!
-//! Renders the second paragraph of "How a relay moves". Since request A6 no run
-//! ends undecided, as no move does.
+//! Renders the second paragraph of "How a relay moves", without the word that
+//! request A7 strikes.
 
 use crate::board::{Board, State};
 use crate::moves::{move_relay, Answer};
@@ -13,7 +13,6 @@ pub const NO_RELAY: u8 = 255;
 pub enum Word {
     Idle,
     Spent,
-    Undecided,
     Conflict,
 }
 
@@ -22,7 +21,6 @@ impl Word {
         match self {
             Word::Idle => "idle",
             Word::Spent => "spent",
-            Word::Undecided => "undecided",
             Word::Conflict => "conflict",
         }
     }
@@ -48,7 +46,6 @@ pub fn run(board: &Board, mut state: State, log: &mut [u8]) -> RunAnswer {
             let (answer, moved) = move_relay(board, state, relay);
             let byte = match answer {
                 Answer::Rests => continue,
-                Answer::Undecided => break 'run (Word::Undecided, number),
                 Answer::Conflict => break 'run (Word::Conflict, number),
                 Answer::Drew => number + 128,
                 Answer::Dropped => number,

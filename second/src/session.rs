@@ -1,8 +1,8 @@
 //! One whole session, from its bytes to its lines.
 //!
 //! Renders "The session program" and, of "Numbers for no", what a session can
-//! be refused for: 1 to 10, 12 and, of request A2, 17. Since request A6 no run
-//! heeds W, but it is still read.
+//! be refused for: 1 to 10, 12 and, of request A2, 17. By request A7 W is read
+//! and then ignored.
 
 use crate::board::{Board, State};
 use crate::file::read_board;
@@ -27,7 +27,8 @@ pub fn session(input: &[u8]) -> String {
 fn play(input: &[u8], lines: &mut String) -> Result<(), Refusal> {
     let mut reader = Reader::open(input)?;
     let board = read_board(&mut reader)?;
-    read_w(&mut reader)?;
+    // W, of which only the form can be refused
+    reader.number()?;
     let mut state = run_event(&board, State::fresh(&board), 0, lines);
     let mut event = 0;
     while !reader.at_end() {
@@ -44,12 +45,6 @@ fn play(input: &[u8], lines: &mut String) -> Result<(), Refusal> {
         };
         state = run_event(&board, acted, event, lines);
     }
-    Ok(())
-}
-
-/// Reads W, of which only the form can be refused.
-fn read_w(reader: &mut Reader) -> Result<(), Refusal> {
-    reader.number()?;
     Ok(())
 }
 

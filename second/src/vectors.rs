@@ -1,4 +1,4 @@
-//! Tests over several modules: "Boards to try" as requests A4 and A6 amended
+//! Tests over several modules: "Boards to try" as requests A4, A6 and A7 amended
 //! them, "Slips to rule out" and the sessions of the rule book, the figure of
 //! document 000, the marks of request A2, and a few more.
 
@@ -114,10 +114,10 @@ fn assert_turns_at_effort(bytes: &[u8], state: State, expected: Judgement) {
     }
 }
 
-/// Runs with a log of `allowance`; the answer's parts and the log, where the
+/// Runs with a log of `length`; the answer's parts and the log, where the
 /// bytes lent held 77.
-fn run_logged(bytes: &[u8], state: State, allowance: usize) -> (RunAnswer, Vec<u8>) {
-    let mut log = vec![77; allowance];
+fn run_logged(bytes: &[u8], state: State, length: usize) -> (RunAnswer, Vec<u8>) {
+    let mut log = vec![77; length];
     let answer = run(&board(bytes), state, &mut log);
     (answer, log)
 }
@@ -306,14 +306,10 @@ fn a_session_has_a_log_of_4096_and_goes_on_after_spent() {
 }
 
 #[test]
-fn a_session_does_not_heed_its_allowance() {
-    // H1, whose effort is 3 when it is pushed, and H5, which was undecided at 4
-    // when both are pushed
-    for w in 0..10 {
-        let lines = "0 idle 0 0\n1 idle 1 1\n2 idle 1 0\n";
-        assert_eq!(session(&[H1, &[w, 1, 0]].concat()), lines);
-        let lines = "0 idle 0 0\n1 idle 1 1\n2 conflict 0 1\n";
-        assert_eq!(session(&[H5, &[w, 1, 3]].concat()), lines);
+fn h5_with_both_pushed_is_in_conflict_at_every_w() {
+    let lines = "0 idle 0 0\n1 idle 1 1\n2 conflict 0 1\n";
+    for w in [&[0][..], &[4], &[5], &[0xff, 0xff, 0xff, 0xff, 0x0f]] {
+        assert_eq!(session(&[H5, w, &[1, 3]].concat()), lines);
     }
 }
 

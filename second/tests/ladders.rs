@@ -1,7 +1,7 @@
 //! Ladder boards, for which request A1 was made: they have more chains than a
 //! number of three bytes can say. A winding that such a ladder shunts is dead
-//! all the same with no allowance, by request A4. By request A6 the allowance
-//! matters only where chains are listed: a session comes to an end at any.
+//! all the same with no allowance, by request A4. By request A6 a session lists
+//! no chains.
 //!
 //! A ladder has two rails and a rung in each column, all of wire; plus feeds
 //! one end of the first rung, and nothing else joins the ladder. Let c(n, k) be
@@ -94,9 +94,9 @@ fn whole_ladder(feed: &[u8], more: &[Vec<u8>]) -> Vec<u8> {
     board
 }
 
-/// The lines of a session with this board and this allowance, without events.
-fn lines(board: &[u8], w: u32) -> String {
-    session(&[board, &shortest(w)].concat())
+/// The lines of a session with this board and W 0, without events.
+fn lines(board: &[u8]) -> String {
+    session(&[board, &[0]].concat())
 }
 
 /// A board and the ends of its winding.
@@ -122,14 +122,12 @@ fn told(board: &[u8]) -> Told {
 }
 
 /// Asserts that the verdict by chains turns at this effort, and that a session
-/// has these lines on both sides of it.
+/// has these lines.
 fn assert_turns(board: &[u8], effort: u32, verdict: Verdict, expected: &str) {
     let below = effort - 1;
     assert_eq!(judged(board, below), (Verdict::Undecided, below));
     assert_eq!(judged(board, effort), (verdict, effort));
-    for w in [0, below, effort, u32::MAX] {
-        assert_eq!(lines(board, w), expected);
-    }
+    assert_eq!(lines(board), expected);
 }
 
 #[test]
@@ -176,16 +174,16 @@ fn a_winding_shunted_by_a_ladder_is_dead_however_many_chains_there_are() {
     for (a, b) in [(62, 63), (2, 63), (62, 3), (63, 0)] {
         let board = whole_ladder(WIRE_FEED, &[vec![4, a, b, 0]]);
         assert_eq!(told(&board), Told::Shunted);
+        assert_eq!(lines(&board), DEAD);
         for w in [0, 1, THREE_BYTES, u32::MAX] {
             assert_eq!(judged(&board, w), (Verdict::Dead, 0));
-            assert_eq!(lines(&board, w), DEAD);
         }
     }
     // the winding that feeds the ladder is not shunted by it
     let board = whole_ladder(WINDING_FEED, &[]);
+    assert_eq!(lines(&board), DEAD);
     for w in [0, 1, 10_000] {
         assert_eq!(judged(&board, w), (Verdict::Undecided, w));
-        assert_eq!(lines(&board, w), DEAD);
     }
 }
 
@@ -209,7 +207,7 @@ fn windings_of_a_ladder_of_64_terminals() {
     assert_eq!(told(&whole_ladder(WIRE_FEED, &leaving)), Told::Live);
     assert_eq!(told(&whole_ladder(&[0, 4, 2], &leaving)), Told::Dead(1));
     for (board, line) in [(dead_ladder(30).0, DEAD), (live_ladder(30).0, LIVE)] {
-        assert_eq!(lines(&board, 0), line);
+        assert_eq!(lines(&board), line);
     }
 }
 

@@ -52,7 +52,7 @@ fn sessions_and_cases_with_a_mark() {
     let output = play(&[], &marked);
     assert_eq!(output.status.code(), Some(0));
     assert_eq!(lines(&output), "0 idle 0 1\n1 idle 0 1\n2 idle 0 1\n");
-    let text = b"000001 000000 000064 000002  02 01 00 02 00  01 00 00 00 00
+    let text = b"000001 000000 000002  02 01 00 02 00  01 00 00 00 00
                  04 00 01 00  07 ff ff 00 =\n";
     let output = play(&["--cases"], text);
     assert_eq!(output.status.code(), Some(0));

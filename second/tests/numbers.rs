@@ -190,8 +190,10 @@ fn a_kind_of_260_is_not_kind_4() {
 
 #[test]
 fn no_w_changes_a_line() {
-    // since request A6 no run heeds it
+    // request A7; only the place of a bad event moves with W's length
     for w in (0..32).map(|power| 1 << power).chain(0..10) {
         assert_eq!(session(&replaced(W, &shortest(w))), LINES.concat());
+        let bad = ended(W, &[shortest(w), vec![2]].concat());
+        assert_eq!(session(&bad), refused(W + 1, 7, bad.len() - 1));
     }
 }

@@ -1,6 +1,6 @@
 //! Request A4: which windings are shunted, that they are dead with effort 0 at
 //! every allowance, that they still conduct for others, and what this makes of
-//! moves, runs and sessions, which since request A6 heed no allowance.
+//! moves, runs and sessions.
 
 use second::board::{Board, Ends, State, Windings};
 use second::cases::answers;
@@ -267,35 +267,30 @@ fn a_steel_relay_is_moved_by_the_winding_that_is_not_shunted() {
     assert_moves(both, (Answer::Rests, Answer::Rests));
 }
 
-/// The lines of a session over such a board, with this allowance, below 128,
-/// and these events.
-fn lines(terminals: u8, relays: u8, parts: &[&[u8]], w: u8, events: &[u8]) -> String {
-    session(&[&file(terminals, relays, parts)[..], &[w], events].concat())
+/// The lines of a session over such a board, with W 0 and these events.
+fn lines(terminals: u8, relays: u8, parts: &[&[u8]], events: &[u8]) -> String {
+    session(&[&file(terminals, relays, parts)[..], &[0], events].concat())
 }
 
 #[test]
 fn a_session_in_which_a_button_shunts() {
     let parts: &[&[u8]] = &[&[0, 0, 2], &[4, 2, 1, 0], &[3, 2, 1, 0]];
     let moved = "0 idle 1 1\n1 idle 1 0\n2 idle 1 1\n";
-    for w in 0..5 {
-        assert_eq!(lines(3, 1, parts, w, &[1, 0]), moved);
-    }
+    assert_eq!(lines(3, 1, parts, &[1, 0]), moved);
 }
 
 #[test]
-fn a_session_without_any_allowance() {
-    // H6, and H6 with a mark; then with a relay more, which nothing shunts
+fn sessions_of_h6() {
+    // as it is, and with a mark; then with a relay more, which nothing shunts
     let h6: &[&[u8]] = &[&[0, 0, 2], &[0, 2, 1], &[4, 2, 1, 0]];
     assert_eq!(
-        lines(3, 1, h6, 0, &[1, 0]),
+        lines(3, 1, h6, &[1, 0]),
         "0 idle 0 0\n1 idle 0 0\n2 idle 0 0\n"
     );
     let marked = [h6, &[&[7, 0]]].concat();
-    assert_eq!(lines(3, 1, &marked, 0, &[]), "0 idle 1 0\n");
+    assert_eq!(lines(3, 1, &marked, &[]), "0 idle 1 0\n");
     let more = [&marked[..], &[&[4, 3, 1, 1]]].concat();
-    for w in [0, 3] {
-        assert_eq!(lines(4, 2, &more, w, &[]), "0 idle 1 0\n");
-    }
+    assert_eq!(lines(4, 2, &more, &[]), "0 idle 1 0\n");
 }
 
 #[test]
@@ -303,7 +298,7 @@ fn a_relay_that_shunts_itself_never_rests() {
     // its upper contact beside its winding; by button 0 it is shunted for good
     let parts: &[&[u8]] = &[&[0, 0, 2], &[4, 2, 1, 0], &[1, 2, 1, 0], &[3, 1, 2, 0]];
     let spent = "0 spent 4096 0\n1 idle 0 0\n2 spent 4096 0\n";
-    assert_eq!(lines(3, 1, parts, 3, &[1, 0]), spent);
+    assert_eq!(lines(3, 1, parts, &[1, 0]), spent);
 }
 
 #[test]
@@ -329,9 +324,9 @@ fn typed_judgements_and_their_refusals_which_come_first() {
 
 #[test]
 fn typed_moves_and_runs_of_h6() {
-    // its relay is drawn and W is 0; the last board has T 2, which is 15
+    // its relay is drawn; the last board has T 2, which is 15
     let handed = "01 00 03 00  00 00 00 00 00  00 00 02 00  00 02 01 00  04 02 01 00";
-    let drawn = "000001 000000 000000 000000";
+    let drawn = "000001 000000 000000";
     let told = |text: String| answers(&text).unwrap();
     assert_eq!(
         told(format!("{drawn} 03 {handed} ^")),

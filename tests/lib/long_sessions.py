@@ -1,37 +1,28 @@
-"""Sessions for tests/sessions.py that are long, or were much work while runs listed chains, as bytes: runs that fill the log, the
-largest and the densest boards, efforts of two and four million chains, boards worked out by hand, some with more chains than any
-allowance, and inputs around the longest. A function that makes a session takes the dice and what its variant is;
-tests/lib/session_sorts.py has the variants."""
+"""Sessions for tests/sessions.py that are long, or whose boards are large, as bytes: runs that fill the log, the largest and the
+densest boards, boards worked out by hand, some with more chains than any allowance, and inputs around the longest. A function
+that makes a session takes the dice and what its variant is; tests/lib/session_sorts.py has the variants."""
 import session_boards as boards
 from damaged_sessions import damaged_session
-from session_files import much, presses, session, some_allowance, typed
+from session_files import presses, session, some_allowance, typed
 
 LONGEST = 65_536
 
 
 def full_log_session(dice, variant):
     """Runs that end just before the log is full, where it is full, and after; the next events act on the state left."""
-    return session(boards.counting(dice, *variant), much(dice), [3, 1, 0])
+    return session(boards.counting(dice, *variant), some_allowance(dice), [3, 1, 0])
 
 
-def largest_board_session(dice, allowance):
-    return session(boards.largest(dice), allowance, presses(dice, boards.MOST_BUTTONS, dice.randint(1, 20)))
+def largest_board_session(dice, events):
+    return session(boards.largest(dice), some_allowance(dice), presses(dice, boards.MOST_BUTTONS, events))
 
 
-def dense_session(dice, variant):
-    terminals, allowance = variant
-    return session(boards.dense(dice, terminals), allowance, [])
+def dense_session(dice, terminals):
+    return session(boards.dense(dice, terminals), some_allowance(dice), [])
 
 
-def short_session(dice, variant):
-    terminals, allowance = variant
-    return session(boards.short(dice, terminals), allowance, [])
-
-
-def millions_session(dice, variant):
-    diamonds, more = variant
-    board, effort = boards.diamonds(dice, diamonds)
-    return session(board, effort + more, [])
+def short_session(dice, terminals):
+    return session(boards.short(dice, terminals), some_allowance(dice), [])
 
 
 def fed_session(dice, own):
@@ -43,7 +34,7 @@ def fed_session(dice, own):
 def filled(dice, calm, length):
     """A session of so many bytes on a board of this sort, nearly all of them events; none is refused."""
     board = calm(dice)
-    begin = session(board, much(dice), [])
+    begin = session(board, some_allowance(dice), [])
     return begin + typed(presses(dice, board[0][2], length - len(begin)))
 
 
@@ -54,7 +45,7 @@ def longest_session(dice, calm):
 def doubles_session(dice, calm):
     """As long as may be, each event any push or release, so that about half of them are refused by 12."""
     board = calm(dice)
-    begin = session(board, much(dice), [])
+    begin = session(board, some_allowance(dice), [])
     return begin + bytes(dice.randrange(2 * board[0][2]) for _ in range(LONGEST - len(begin)))
 
 

@@ -53,7 +53,7 @@ def lines(data):
     found, pushed, event = [], set(), None
     try:
         at, drawn = model.read(data)
-        _, at = model.number_at(data, at)  # W, which no run heeds
+        _, at = model.number_at(data, at)  # W, which is read and ignored
         while True:
             if event is not None and event % 2 == (event // 2 in pushed):
                 found.append(f"{len(found)} refused 12")

@@ -53,8 +53,9 @@ def handed_board(counts, rows, start):
 
 
 def handed_case(numbers, board, ending, sets=""):
-    """The text of a case for `run_cases`: some numbers, then the bytes of a board handed in; before them the text of kept sets,
-    where they are not the board's own."""
+    """The text of a case for `run_cases`: three numbers, which are the drawn relays, the pushed buttons and what is asked (a
+    relay, the length of a log or a button), then the bytes of a board handed in; before them the text of kept sets, where
+    they are not the board's own."""
     return sets + "".join(f"{number:06x}" for number in numbers) + board.hex() + ending + "\n"
 
 

@@ -158,8 +158,8 @@ def short(dice, terminals):
 
 
 def diamonds(dice, count):
-    """A row of diamonds from plus to minus, each of two ways side by side, and behind the last a dead winding; with its
-    effort. Of the chains from one diamond's begin on, 5 end in it and each side leads to all those from its end on."""
+    """A row of diamonds from plus to minus, each of two ways side by side, and behind the last a dead winding. Each diamond
+    more than doubles the chains."""
     free = dice.sample(range(2, 3 * count + 3), 3 * count + 1)
     at, parts = PLUS, []
     for _ in range(count):
@@ -168,4 +168,4 @@ def diamonds(dice, count):
         at = end
     parts += [[WIRE, at, MINUS], [REGULAR, at, free.pop(), 0]]
     dice.shuffle(parts)
-    return ([3 * count + 3, 1, 0], parts), 2 ** (count + 3) - 5
+    return [3 * count + 3, 1, 0], parts

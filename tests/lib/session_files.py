@@ -1,6 +1,6 @@
-"""Sessions for tests/sessions.py, as bytes: fine boards with an allowance, which no run heeds, and events, and those with an event
-or an allowance that is refused. A function that makes a session takes the dice; tests/lib/session_sorts.py says of which sort it
-is."""
+"""Sessions for tests/sessions.py, as bytes: fine boards with an allowance, which is read and ignored, and events, and those with
+an event or an allowance that is refused. A function that makes a session takes the dice; tests/lib/session_sorts.py says of which
+sort it is."""
 import session_boards as boards
 from board_model import LARGEST, LONGEST_NUMBER, NARROW, file_of, number_bytes
 
@@ -35,14 +35,9 @@ def some_presses(dice, board, most=6):
     return presses(dice, board[0][2], dice.randint(1, most))
 
 
-def much(dice):
-    """A large allowance."""
-    return dice.choice([LARGEST, LARGEST - 1, 2**31, 268_435_456, 268_435_455, 2_097_152, 2_097_151, 16_384, 16_383, 5_000])
-
-
 def some_allowance(dice):
-    """An allowance that is large, or one that is less than most boards have chains."""
-    return dice.choice([much(dice), much(dice), 0, 1, 2, 5, 10, 20, 127, 128])
+    """An allowance of one to five bytes."""
+    return dice.choice([0, 1, 100, 127, 128, 16_383, 16_384, 2_097_151, 2_097_152, 268_435_455, 268_435_456, 2**31, LARGEST])
 
 
 def feeding_session(dice):
@@ -80,19 +75,9 @@ def web_session(dice):
     return session(board, some_allowance(dice), some_presses(dice, board))
 
 
-def diamonds_session(dice):
-    board, effort = boards.diamonds(dice, dice.randint(0, 11))
-    return session(boards.marked(dice, board), max(0, effort + dice.choice([-1, 0, 1])), [])
-
-
 def crowded_session(dice):
     board = boards.crowded(dice)
     return session(board, some_allowance(dice), some_presses(dice, board, 4))
-
-
-def least_allowance_session(dice):
-    board = boards.feeding(dice)
-    return session(board, dice.choice([0, 1, 2]), some_presses(dice, board))
 
 
 def calm_board(dice):

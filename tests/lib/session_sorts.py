@@ -6,7 +6,7 @@ import feed_boards
 import long_sessions
 import session_boards as boards
 import session_files as fine
-from board_model import LARGEST, LONGEST_NUMBER
+from board_model import LONGEST_NUMBER
 from damaged_sessions import DAMAGES
 
 LEAST = 10  # of each sort of which there are many
@@ -20,9 +20,7 @@ SORTS = {
     "steel relays in conflict": (300, fine.conflicting_session),
     "every kind of part": (200, fine.every_kind_session),
     "rings, ladders, paths and random boards": (450, fine.web_session),
-    "an allowance, which is not heeded, around the effort of a row of diamonds": (150, fine.diamonds_session),
     "128 to 256 parts": (150, fine.crowded_session),
-    "the least allowances": (150, fine.least_allowance_session),
     "pushed or released twice": (300, fine.double_session),
     "an event of a button that is not there": (200, fine.absent_button_session),
     "a cut event": (120, fine.cut_event_session),
@@ -45,10 +43,9 @@ BAD_ENDS = [b"\x80" * count for count in range(1, LONGEST_NUMBER + 1)] + [b"\x80
 # Sorts of which a few are enough, or all there is time for: what makes a session, and the variants, each tried once.
 FEW = {
     "runs of about 4,096 moves": (long_sessions.full_log_session, [(bits, followers) for bits in (12, 13) for followers in (0, 1, 2)]),
-    "the largest boards": (long_sessions.largest_board_session, [LARGEST, LARGEST, 200, 40, 10] * 8),
-    "dense boards": (long_sessions.dense_session, [(9, LARGEST), (12, LARGEST), (12, 1), (22, LARGEST), (22, 0)]),
-    "all shunted, with very many chains": (long_sessions.short_session, [(22, LARGEST), (22, 0), (16, LARGEST), (16, 1)]),
-    "an allowance, which is not heeded, around an effort of two or four million": (long_sessions.millions_session, [(18, -1), (18, 0), (18, 1), (18, 5), (19, -1), (19, 0), (19, 1)]),
+    "the largest boards": (long_sessions.largest_board_session, range(1, 41)),
+    "dense boards": (long_sessions.dense_session, [9, 12, 12, 22, 22]),
+    "all shunted, with very many chains": (long_sessions.short_session, [16, 16, 22, 22]),
     "boards worked out by hand, some with more chains than any allowance": (long_sessions.fed_session, feed_boards.every_one()),
     "65,536 bytes, nearly all events": (long_sessions.longest_session, boards.CALM),
     "65,536 bytes, half the events refused by 12": (long_sessions.doubles_session, [boards.holding]),

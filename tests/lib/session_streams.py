@@ -193,11 +193,10 @@ def few_writes():
 
 
 def small_stack():
-    """2 MiB of stack are enough where a search nests deeply, and for the longest session."""
-    path, deep = (session_files.session(board, LARGEST, []) for board in judging.deep_boards())
-    for name, data in (("a path", path), ("a deep search", deep), ("the longest session", holding(LONGEST))):
-        told = program.run(program.command("herdspiral", judging.STACK), data)
-        yield same(f"{name} with {judging.STACK} bytes of stack", told, second_program.answer(data))
+    """2 MiB of stack are enough for the longest session."""
+    data = holding(LONGEST)
+    told = program.run(program.command("herdspiral", judging.STACK), data)
+    yield same(f"the longest session with {judging.STACK} bytes of stack", told, second_program.answer(data))
 
 
 def checks():

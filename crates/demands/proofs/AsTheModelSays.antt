@@ -13,11 +13,11 @@ use Rattle.judge_means.proofs.Exactness.{judges-keep, shunted-dead, as-publishe
 use Rattle.judge_means.proofs.Eleven.{the-winding, every-relay-wound}
 use Rattle.judge_means.proofs.Dividing.{shown-undivided, served-exactly-on, linked-exactly, live-served, told-exactly}
 use Rattle.judge_means.proofs.Dividing.{checked-exactly}
-use Rattle.moves_means.proofs.SingleMoves.{move-exactly, move-decided}
-use Rattle.moves_means.proofs.ByChains.{regular-by-chains, steel-by-chains}
+use Rattle.moves_means.proofs.SingleMoves.{move-exactly}
+use Rattle.moves_means.proofs.ByChains.{every-relay-moves}
 use Rattle.moves_means.proofs.OneRelay.{changes-one-relay}
 use Rattle.moves_means.proofs.AsTold.{taken-as-told, regular-as-told, steel-as-told}
-use Rattle.runs_means.proofs.Courses.{run-exactly, run-decided}
+use Rattle.runs_means.proofs.Courses.{run-exactly}
 use Rattle.runs_means.proofs.KeptSets.{only-at-ends, belong-always}
 use Rattle.kept.proofs.OnlyEnds.{only-ends}
 use Rattle.session_means.proofs.HandedLines.{lines-handed-out, all-handed-out}
@@ -36,8 +36,7 @@ as-the-model-says = record {
   shunted = shunted-dead _ judges-keep;
   sorts = every-relay-sort;
   wound = every-relay-wound;
-  regular = regular-by-chains;
-  steel = steel-by-chains;
+  relays = every-relay-moves;
   moves = move-exactly;
   undivided = shown-undivided;
   told = told-exactly;
@@ -48,10 +47,8 @@ as-the-model-says = record {
   taken = taken-as-told;
   regular-told = regular-as-told;
   steel-told = steel-as-told;
-  decided = move-decided;
   changes = changes-one-relay;
   runs = run-exactly;
-  runs-decided = run-decided;
   fresh = fresh-follows;
   belong = belong-always;
   only-at-ends = only-at-ends;

@@ -46,18 +46,18 @@ runs-short : (b : Board) (h : Kept) (log : List ℕ) → length log ≤ longestL
 unfolding firstNo
 runs-short b h log short = rw (le-leb (length log) longestLog short)
 
-module _ (b : Board) (e w : ℕ) (h : Kept) where
+module _ (b : Board) (e : ℕ) (h : Kept) where
   not-run-untouched : (x : Ran) → NotRun h sessionLog x → Untouched e h (tells e x)
   not-run-untouched x not-run i =
       (event e (x .word) (not-run .1 .0 i) (not-run .0 i .state .drawn), not-run .0 i)
 
-  pub ran-line-stands : LineStands e h (firstNo (usableLines b h)) (ranLine b e h w)
+  pub ran-line-stands : LineStands e h (firstNo (usableLines b h)) (ranLine b e h)
   unfolding ranLine
   ran-line-stands =
-      let stands = run-stands b h sessionLog w in
+      let stands = run-stands b h sessionLog in
       record {
         first = stands .first ∙ runs-short b h sessionLog log-short;
-        left = λ n p is. not-run-untouched (running b h sessionLog w) (stands .left n p is);
+        left = λ n p is. not-run-untouched (running b h sessionLog) (stands .left n p is);
       }
 
 -- ---- the push or release of an event
@@ -114,14 +114,14 @@ module _ (b : Board) (h : Kept) where
 
   -- ---- an event that is told
 
-  module _ (e w : ℕ) where
+  module _ (e : ℕ) where
     -- nothing stands against a run from what a call can use
-    ran-line-given : (t : Kept) → usable b t ≡ given tt → against (wordOf (ranLine b e t w .0)) ≡ given tt
+    ran-line-given : (t : Kept) → usable b t ≡ given tt → against (wordOf (ranLine b e t .0)) ≡ given tt
     unfolding usable
-    ran-line-given t goes = ran-line-stands b e w t .first ∙ goes
+    ran-line-given t goes = ran-line-stands b e t .first ∙ goes
 
     pressed-line-stands : (o : Outcome (Unit {0})) (x : Kept × Outcome (Unit {0})) → PressStands b h o x
-        → LineStands e h o (pressedLine b e x w)
+        → LineStands e h o (pressedLine b e x)
     unfolding pressedLine
     pressed-line-stands o (t, given u) press =
         let ran = ran-line-given t (press .goes refl) in
@@ -135,7 +135,7 @@ module _ (b : Board) (h : Kept) where
           (press .stands .left n p refl);
     }
 
-    pub event-line-stands : (v : Event) → LineStands e h (firstNo (madeLines b h v)) (eventLine b e h v w)
+    pub event-line-stands : (v : Event) → LineStands e h (firstNo (madeLines b h v)) (eventLine b e h v)
     unfolding eventLine
     event-line-stands v = pressed-line-stands (firstNo (madeLines b h v)) (pressing b h v) (pressing-stands v)
 

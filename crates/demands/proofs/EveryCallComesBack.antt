@@ -87,10 +87,10 @@ in-order = record {
   judges = λ b h r k w v told. told-first judged told (judge-stands b h r k w);
   judges-at-once = λ b h r k a told. ap against told ∙ judge-at-once-stands b h r k;
   checks = λ b h r k x a told. ap against told ∙ check-stands b h r k x;
-  moves = λ b h r w a told. told-first moved told (move-stands b h r w);
-  runs = λ b h w log log′ a told. told-first ran told (run-stands b h log w);
-  tells-run = λ b e h w x told. told-first shown told (ran-line-stands b e w h);
-  tells-event = λ b e h v w x told. told-first shown told (event-line-stands b h e w v);
+  moves = λ b h r a told. told-first moved told (move-stands b h r);
+  runs = λ b h log log′ a told. told-first ran told (run-stands b h log);
+  tells-run = λ b e h x told. told-first shown told (ran-line-stands b e h);
+  tells-event = λ b e h v x told. told-first shown told (event-line-stands b h e v);
   hands = λ z s out out′ r told. told-first handed told (next-line-stands (toldSession z) s out);
   hands-lines = λ z s out out′ r told. told-first handed told (next-lines-stand (toldSession z) s out);
 }
@@ -114,12 +114,12 @@ as-lent = record {
   pushes = λ b h k x n p press is. told-left pressed press (push-stands b h k) n p is;
   releases = λ b h k x n p press is. told-left pressed press (release-stands b h k) n p is;
   judges = λ b h r k w v n p told is. told-left judged told (judge-stands b h r k w) n p is;
-  moves = λ b h r w a n p told is. told-left moved told (move-stands b h r w) n p is;
-  runs = λ b h w log log′ a n p told is. told-left ran told (run-stands b h log w) n p is;
-  tells-run = λ b e h w x n p told is.
-      shown-untouched e h _ n p (told-left shown told (ran-line-stands b e w h) n p is) is;
-  tells-event = λ b e h v w x n p told is.
-      shown-untouched e h _ n p (told-left shown told (event-line-stands b h e w v) n p is) is;
+  moves = λ b h r a n p told is. told-left moved told (move-stands b h r) n p is;
+  runs = λ b h log log′ a n p told is. told-left ran told (run-stands b h log) n p is;
+  tells-run = λ b e h x n p told is.
+      shown-untouched e h _ n p (told-left shown told (ran-line-stands b e h) n p is) is;
+  tells-event = λ b e h v x n p told is.
+      shown-untouched e h _ n p (told-left shown told (event-line-stands b h e v) n p is) is;
   hands = λ z s out out′ r n p told is.
       kept z r out out′ (told-left handed told (next-line-stands (toldSession z) s out) n p is);
   hands-lines = λ z s out out′ r n p told is.

@@ -35,6 +35,7 @@ use Rattle.judge_means.proofs.Exactness.{shunted-dead, dead-counts, undecided-r
 use Rattle.judge_means.proofs.Allowances.{larger-allowance, turns-at-effort, effort-some-always}
 use Rattle.judge_means.proofs.Dividing.{agree-where-settled}
 use Rattle.runs_means.proofs.LongerRuns.{longer-run}
+use Rattle.session_means.proofs.AnyAllowance.{any-allowance}
 use Rattle.demands.specs.Starred.{h1, pushed0}
 use Rattle.demands.specs.LargerNeverChanges.{JudgedExactly, NoWordAlways, LargerNeverChanges}
 
@@ -121,4 +122,5 @@ larger-never-changes = record {
   always = no-word-always;
   agree = agree-where-settled;
   runs = longer-run;
+  sessions = any-allowance;
 }

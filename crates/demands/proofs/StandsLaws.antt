@@ -94,10 +94,10 @@ release-stands b h n =
     subst (λ o. LeftStands h o (releasing b h n)) (against-itself (firstNo (releaseLines b h n)))
     (left-stands h (λ u. keptAt b (withReleased (h .state) n)) (firstNo (releaseLines b h n)))
 
-pub move-stands : (b : Board) (h : Kept) (r w : ℕ) → LeftStands h (firstNo (moveLines b h r)) (moving b h r w)
+pub move-stands : (b : Board) (h : Kept) (r : ℕ) → LeftStands h (firstNo (moveLines b h r)) (moving b h r)
 unfolding moving movable
-move-stands b h r w =
-    subst (λ o. LeftStands h o (moving b h r w))
+move-stands b h r =
+    subst (λ o. LeftStands h o (moving b h r))
     (against-then (firstNo (moveLines b h r)) (stepOf b (h .state) r))
     (left-stands h (λ m. keptAt b (made (h .state) r m))
     (firstNo (moveLines b h r) >> given (stepOf b (h .state) r)))
@@ -176,10 +176,10 @@ check-stands b h r k x =
 abbrev pub NotRun : Kept → List ℕ → Ran → Type 0
 NotRun h log x = (x .kept ≡ h) × ((x .moves ≡ 0) × ((x .relay ≡ noRelay) × (x .log ≡ log)))
 
-pub run-stands : (b : Board) (h : Kept) (log : List ℕ) (w : ℕ)
-    → StandsAgainst (λ (x : Ran). x .word) (NotRun h log) (firstNo (runLines b h log)) (running b h log w)
+pub run-stands : (b : Board) (h : Kept) (log : List ℕ)
+    → StandsAgainst (λ (x : Ran). x .word) (NotRun h log) (firstNo (runLines b h log)) (running b h log)
 unfolding running runnable ran
-run-stands b h log w =
+run-stands b h log =
     answering-stands _ _ _ _ (λ n p. (refl, (refl, (refl, (refl, refl))))) refl (firstNo (runLines b h log))
 
 -- ---- the next line, and the next lines

@@ -1,8 +1,10 @@
 -- The table of specs/Starred.antt holds: what each call's promise says is computed from the definitions, and so is what
 -- a session prints.
+use native.Mathlib.Omega.{arith}
 use mathlib.Core.Path.{refl}
+use mathlib.Core.List.{[], _∷_}
 use Rattle.refusals.specs.Order.{firstNo}
-use Rattle.number.specs.Numbers.{below, form, placed, numberAt}
+use Rattle.number.specs.Numbers.{below, form, placed, numberAt, encode, numberBytes}
 use Rattle.kinds.specs.Kinds.{kindOf}
 use Rattle.bits.specs.Sets.{member, including, excluding, remaining, together, firstFrom, lowestFrom, within}
 use Rattle.windings.specs.Windings.{every, complete}
@@ -32,9 +34,10 @@ use Rattle.runs.specs.Running.{runnable, ran, running}
 use Rattle.lines.specs.Texts.{digitsOf, decimal}
 use Rattle.lines.specs.Lines.{lineText}
 use Rattle.events.specs.Events.{eventAt, pressing, ranLine, pressedLine, eventLine}
-use Rattle.session.specs.Sessions.{withAllowance, headAt, linesFrom, headLines, sessionLines, lineTexts, printed}
+use Rattle.session.specs.Sessions.{pastAllowance, headAt, linesFrom, headLines, sessionLines, lineTexts, printed}
 use Rattle.session.specs.Sessions.{sessionText}
-use Rattle.demands.specs.Starred.{Starred}
+use Rattle.session_means.proofs.AnyAllowance.{any-text}
+use Rattle.demands.specs.Starred.{h5, h5File, Starred}
 
 -- one row after the other
 infixr 20 _&_
@@ -42,23 +45,22 @@ _&_ : {A B : Type 0} → A → B → A × B
 a & b = (a, b)
 
 pub starred-boards : Starred
-unfolding firstNo kindOf below form placed numberAt member including excluding remaining together firstFrom lowestFrom
-    within every complete padded inRange countsFine nameFine endsFit partFits partFine gainedAll partsFine boardFine
-    carries stateFine left pushing releasing wanted countsAt nameAt endsAt partAt partsAt boardFrom boardAt answered
-    reading setFrom setAt tableFrom setsAt neighbours bareNeighbours sameRow belongs nextSeen floodOn flooded isIn
-    canFollow tries beyond chains crosses someCrosses beside shows firstShown effort places weighed verdictBy inSets
-    windingOf windingsAt shunted judgedBy windingFor judging reachedWithout servedOn served linkedTo linked shuntedBy
-    liveBy divides
-    lowestDividing judgedAtOnce judgingAtOnce checking regularMove steelMove takenLive stepBy stepOf
-    movable moving lookFrom runOf runnable ran running digitsOf decimal lineText eventAt pressing ranLine pressedLine
-    eventLine withAllowance headAt linesFrom headLines sessionLines lineTexts printed sessionText
+unfolding firstNo kindOf below form placed numberAt encode numberBytes member including excluding remaining together
+    firstFrom lowestFrom within every complete padded inRange countsFine nameFine endsFit partFits partFine gainedAll
+    partsFine boardFine carries stateFine left pushing releasing wanted countsAt nameAt endsAt partAt partsAt boardFrom
+    boardAt answered reading setFrom setAt tableFrom setsAt neighbours bareNeighbours sameRow belongs nextSeen floodOn
+    flooded isIn canFollow tries beyond chains crosses someCrosses beside shows firstShown effort places weighed
+    verdictBy inSets windingOf windingsAt shunted judgedBy windingFor judging reachedWithout servedOn served linkedTo
+    linked shuntedBy liveBy divides lowestDividing judgedAtOnce judgingAtOnce checking regularMove steelMove takenLive
+    stepBy stepOf movable moving lookFrom runOf runnable ran running digitsOf decimal lineText eventAt pressing ranLine
+    pressedLine eventLine pastAllowance headAt linesFrom headLines sessionLines lineTexts printed sessionText
 starred-boards =
     (λ x told. told) & (λ a k told. told) & (λ v told. told) & (λ v told. told) & (λ v told. told)
     & (λ a k told. told) & (λ a k told. told) & (λ v told. told) & (λ v told. told) & (λ v told. told)
     & (λ v told. told) & (λ v told. told) & (λ a told. told) & (λ a told. told) & (λ a told. told)
     & (λ v told. told) & (λ x told. told) & (λ a k told. told) & (λ x told. told) & (λ x told. told)
-    & (λ x told. told) & (λ x told. told) & refl & (λ v told. told) & (λ a told. told) & (λ a k told. told)
-    & (λ a k told. told) & (λ a k told. told) & (λ a k told. told) & (λ a k told. told) & (λ a k told. told)
+    & (λ x told. told) & (λ x told. told) & refl & (λ v told. told) & (λ a k told. told)
+    & (λ a k told. told) & (λ a k told. told) & (λ a k told. told) & (λ a k told. told)
     & (λ x told. told) & (λ x told. told) & (λ x told. told) & (λ x told. told) & (λ x told. told)
     & (λ x told. told) & (λ x told. told) & (λ x told. told) & (λ x told. told) & (λ x told. told) & refl & refl
     & (λ x told. told) & (λ x told. told) & (λ x told. told) & (λ x told. told) & (λ x told. told)
@@ -73,4 +75,5 @@ starred-boards =
     & (λ a told. told) & (λ a told. told) & (λ a told. told) & (λ a told. told) & (λ a told. told)
     & (λ a told. told) & (λ a told. told) & (λ a told. told) & (λ a told. told) & (λ a told. told)
     & (λ a told. told) & (λ a told. told) & (λ a told. told) & (λ a told. told) & (λ a told. told)
-    & (λ a told. told) & (λ a told. told) & (λ a told. told) & (λ a told. told) & (λ a k told. told) & tt
+    & (λ a told. told) & (λ a told. told) & (λ a told. told)
+    & (λ w most. any-text h5File (1 ∷ 3 ∷ []) h5 w refl most (omega arith) (tt & tt & tt & tt)) & tt

@@ -6,15 +6,17 @@
 --         by the model's guards, of current through a winding that is not shunted
 --     "A relay draws when a chain of conducting parts that meets no terminal twice runs from plus to minus through its
 --     winding, and drops when there is none."
---         `regular`, of the relay's `winding`, and if that is not shunted (request A4); `sorts`: each relay is regular
---         or steel-core; `wound`: it has the windings of its sort; `changes`: a move changes that relay and nothing
---         else. It is found without listing chains (request A6): `undivided`: there is such a chain exactly if no
---         terminal divides the winding; `told`, what the judge that goes by this says; `checked`, of a terminal handed
---         in; `served`: a winding that is not shunted is live exactly if both its ends are served; `serves`, `links`:
---         what a look works out is who is served and who is linked; `taken`: by these a step takes a winding for what
---         that judge says; `regular-told`, `steel-told`: so a relay moves; `decided`: no single move is undecided
+--         `relays`: every relay of an accepted board and state draws, drops, rests or is in conflict by its windings,
+--         each live if such a chain shows it and it is not shunted (request A4), with no allowance (request A7);
+--         `sorts`: each is regular or steel-core; `wound`: it has the windings of its sort, each of them its
+--         `winding`; `changes`: a move changes that relay and nothing else. It is found without listing chains (request
+--         A6): `undivided`: there is such a chain exactly if no terminal divides the winding; `told`, what the judge
+--         that goes by this says; `checked`, of a terminal handed in; `served`: a winding that is not shunted is live
+--         exactly if both its ends are served; `serves`, `links`: what a look works out is who is served and who is
+--         linked; `taken`: by these a step takes a winding for what that judge says; `regular-told`, `steel-told`: so
+--         a relay moves
 --     "A steel-core relay moves only on its drawing or dropping winding."
---         `steel`, of the two windings that `wound` gives it
+--         `relays`, of the two windings that `wound` gives it
 --     "Board files keep their meaning both ways: write then read gives the board, read then write gives the bytes
 --     read."
 --         `written-read`, `read-written`; `rest-stays`: behind the bytes written a buffer is as lent; `file-read`: a
@@ -26,12 +28,11 @@
 --         `mark-turned-away`: its reader takes a file of today's without marks, and turns one with a mark away by 4
 --         (request A2); `lines-stand`: what became of any session's lines by either request
 --     "A run moves the lowest relay that can move until it is idle or must stop."
---         `runs`; `runs-decided`: none ends undecided (request A6); `fresh`: in the fresh state of a board exactly the
---         relays are drawn that it marks (request A2); and what a session prints of its runs, from that state on:
---         `lines`, `all-lines`, in buffers `filled`, `all-filled`; `events`, `closed`, `drawn`. All these go by sets
---         that are kept beside the state (request A5): `belong`, after any calls they are those worked out from board
---         and state; `only-at-ends`, `only-ends`: a move or a button changes only the sets at the ends of that relay's
---         contacts or that button's parts
+--         `runs`; `fresh`: in the fresh state of a board exactly the relays are drawn that it marks (request A2); and
+--         what a session prints of its runs, from that state on: `lines`, `all-lines`, in buffers `filled`,
+--         `all-filled`; `events`, `closed`, `drawn`. All these go by sets that are kept beside the state (request A5):
+--         `belong`, after any calls they are those worked out from board and state; `only-at-ends`, `only-ends`: a
+--         move or a button changes only the sets at the ends of that relay's contacts or that button's parts
 -- Each field is put into words in the file that defines it. `paths`, `carrying`, `winding`, `sorts`, `wound`,
 -- `undivided`, `served`, `serves` and `links` are of boards and states, `events`, `closed` and `drawn` of the session's
 -- lines; those of requests A1 and A2 from `files-kept` to `lines-stand` are of the definitions at two editions; the
@@ -53,11 +54,11 @@ use Rattle.judge_means.specs.Exactness.{ShuntedDead, AsPublished}
 use Rattle.judge_means.specs.Eleven.{TheWinding, EveryRelayWound}
 use Rattle.judge_means.specs.Dividing.{ShownUndivided, ServedExactly, LinkedExactly, LiveServed, ToldExactly}
 use Rattle.judge_means.specs.Dividing.{CheckedExactly}
-use Rattle.moves_means.specs.SingleMoves.{MoveExactly, MoveDecided}
-use Rattle.moves_means.specs.ByChains.{RegularByChains, SteelByChains}
+use Rattle.moves_means.specs.SingleMoves.{MoveExactly}
+use Rattle.moves_means.specs.ByChains.{EveryRelayMoves}
 use Rattle.moves_means.specs.OneRelay.{ChangesOneRelay}
 use Rattle.moves_means.specs.AsTold.{TakenAsTold, RegularAsTold, SteelAsTold}
-use Rattle.runs_means.specs.Courses.{RunExactly, RunDecided}
+use Rattle.runs_means.specs.Courses.{RunExactly}
 use Rattle.runs_means.specs.KeptSets.{OnlyAtEnds, BelongAlways}
 use Rattle.session_means.specs.HandedLines.{LinesHandedOut, AllHandedOut}
 use Rattle.session_means.specs.FilledBuffers.{BuffersFilled, AllFilled}
@@ -74,20 +75,18 @@ pub record AsTheModelSays : Type 0 where
   pub winding : TheWinding
   pub current : AsPublished Judges
   pub shunted : ShuntedDead Judges
-  -- each relay is regular or steel-core and not both, and has the windings of its sort, so that the next two fields are
-  -- all cases
+  -- each relay is regular or steel-core and not both, and has the windings of its sort
   pub sorts : EveryRelaySort
   pub wound : EveryRelayWound
-  -- a relay draws, drops, rests exactly by its windings, each live, by a chain and not shunted, or dead; which is
-  -- exactly by the published guards, where a shunted winding counts for one without current
-  pub regular : RegularByChains
-  pub steel : SteelByChains
+  -- every relay of an accepted board and state draws, drops, rests or is in conflict, exactly by its windings, each
+  -- live, by a chain and not shunted, or dead; which is exactly by the published guards, where a shunted winding counts
+  -- for one without current
+  pub relays : EveryRelayMoves
   pub moves : MoveExactly
   -- so it is without listing chains: a chain shows a winding exactly if no terminal divides it; the judge that goes by
   -- this says live, shunted, or dead with the lowest terminal that divides, exactly; a terminal handed in is accepted
   -- exactly if it divides; a winding that is not shunted is live exactly if both its ends are served, and a look works
-  -- out exactly the served terminals and the linked ones; so a relay moves by what that judge says, and is never
-  -- undecided
+  -- out exactly the served terminals and the linked ones; so a relay moves by what that judge says
   pub undivided : ShownUndivided
   pub told : ToldExactly
   pub checked : CheckedExactly
@@ -97,12 +96,10 @@ pub record AsTheModelSays : Type 0 where
   pub taken : TakenAsTold
   pub regular-told : RegularAsTold
   pub steel-told : SteelAsTold
-  pub decided : MoveDecided
   -- a move changes that relay and nothing else
   pub changes : ChangesOneRelay
-  -- a run makes the lowest relay's move, again and again, until it is idle or must stop; it never ends undecided
+  -- a run makes the lowest relay's move, again and again, until it is idle or must stop
   pub runs : RunExactly
-  pub runs-decided : RunDecided
   -- in a fresh state exactly the relays that the board marks are drawn
   pub fresh : FreshFollows
   -- after any calls the kept sets are those of board and state; a push, a release or a move changes only those at its

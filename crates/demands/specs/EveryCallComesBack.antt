@@ -115,18 +115,18 @@ pub record InOrder : Type 0 where
   pub checks : (b : Board) (h : Kept) (r : ℕ) (k : Which) (x : ℕ) (a : Checked)
       → ChecksTerminal b h r k x a
       → against (toldChecked a) ≡ firstNo (checkLines b h r k x)
-  pub moves : (b : Board) (h : Kept) (r w : ℕ) (a : Moved)
-      → Moves b h r w a
+  pub moves : (b : Board) (h : Kept) (r : ℕ) (a : Moved)
+      → Moves b h r a
       → against (toldMoveAnswer (a .answer)) ≡ firstNo (moveLines b h r)
-  pub runs : (b : Board) (h : Kept) (w : ℕ) (log log′ : List ℕ) (a : Ran)
-      → Runs b h log w a log′
+  pub runs : (b : Board) (h : Kept) (log log′ : List ℕ) (a : Ran)
+      → Runs b h log a log′
       → against (toldEnding (a .word)) ≡ firstNo (runLines b h log)
   -- a session's log of 4,096 is never too long (13), and the run after a push or release is never refused
-  pub tells-run : (b : Board) (e : ℕ) (h : Kept) (w : ℕ) (x : Shown)
-      → RunLine b e h w x
+  pub tells-run : (b : Board) (e : ℕ) (h : Kept) (x : Shown)
+      → RunLine b e h x
       → against (wordOf (toldLine (x .line))) ≡ firstNo (usableLines b h)
-  pub tells-event : (b : Board) (e : ℕ) (h : Kept) (v : Event) (w : ℕ) (x : Shown)
-      → EventLine b e h v w x
+  pub tells-event : (b : Board) (e : ℕ) (h : Kept) (v : Event) (x : Shown)
+      → EventLine b e h v x
       → against (wordOf (toldLine (x .line))) ≡ firstNo (madeLines b h v)
   pub hands : (z : Session) (s out out′ : List ℕ) (r : Handed)
       → NextLine z s out r out′
@@ -164,20 +164,20 @@ pub record AsLent : Type 0 where
       → Judges b h r k w v
       → toldFinding (v .finding) ≡ refused n p
       → (v .effort ≡ 0) × ((v .length ≡ 0) × (v .terminals ≡ places []))
-  pub moves : (b : Board) (h : Kept) (r w : ℕ) (a : Moved) (n p : ℕ)
-      → Moves b h r w a
+  pub moves : (b : Board) (h : Kept) (r : ℕ) (a : Moved) (n p : ℕ)
+      → Moves b h r a
       → toldMoveAnswer (a .answer) ≡ refused n p
       → a .kept ≡ h
-  pub runs : (b : Board) (h : Kept) (w : ℕ) (log log′ : List ℕ) (a : Ran) (n p : ℕ)
-      → Runs b h log w a log′
+  pub runs : (b : Board) (h : Kept) (log log′ : List ℕ) (a : Ran) (n p : ℕ)
+      → Runs b h log a log′
       → toldEnding (a .word) ≡ refused n p
       → (a .kept ≡ h) × ((a .moves ≡ 0) × ((a .relay ≡ noRelay) × (log′ ≡ log)))
-  pub tells-run : (b : Board) (e : ℕ) (h : Kept) (w : ℕ) (x : Shown) (n p : ℕ)
-      → RunLine b e h w x
+  pub tells-run : (b : Board) (e : ℕ) (h : Kept) (x : Shown) (n p : ℕ)
+      → RunLine b e h x
       → wordOf (toldLine (x .line)) ≡ refused n p
       → (toldLine (x .line) ≡ event e (refused n p) 0 (h .state .drawn)) × (x .kept ≡ h)
-  pub tells-event : (b : Board) (e : ℕ) (h : Kept) (v : Event) (w : ℕ) (x : Shown) (n p : ℕ)
-      → EventLine b e h v w x
+  pub tells-event : (b : Board) (e : ℕ) (h : Kept) (v : Event) (x : Shown) (n p : ℕ)
+      → EventLine b e h v x
       → wordOf (toldLine (x .line)) ≡ refused n p
       → (toldLine (x .line) ≡ event e (refused n p) 0 (h .state .drawn)) × (x .kept ≡ h)
   pub hands : (z : Session) (s out out′ : List ℕ) (r : Handed) (n p : ℕ)

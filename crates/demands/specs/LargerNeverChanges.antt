@@ -15,12 +15,14 @@
 --     "So of two accepted runs from one board and state, the one with no shorter log and no less allowance per winding
 --     starts with every move of the other, and where the other ended idle or in conflict it ends with that word in that
 --     same state."
---         `runs`
+--         `runs`: request A7, "for runs demand 3 now speaks of the log alone". A session's allowance "is still read,
+--         then ignored": `sessions`
 -- The words:
 --     JudgedExactly J       what the demand asks of a judge J
 --     AlwaysSays f          the judge that answers f, whatever it is asked
 --     NoWordAlways          a judge that answers always the same meets neither `LiveExactly` nor `DeadExactly`
---     LargerNeverChanges    the demand, of the promise of `judge::judge` and of that of `runs::run`
+--     LargerNeverChanges    the demand, of the promise of `judge::judge` and of that of `runs::run`, and of a session's
+--                           lines
 use mathlib.Core.Path.{_≡_}
 use Rattle.search.specs.declared.Finding.{Finding}
 use Rattle.judge.specs.Judging.{Judges}
@@ -29,6 +31,7 @@ use Rattle.judge_means.specs.Exactness.{UndecidedExactly, LiveShows, ShuntedDea
 use Rattle.judge_means.specs.Allowances.{LargerAllowance, TurnsAtEffort, EffortSome}
 use Rattle.judge_means.specs.Dividing.{AgreeWhereSettled}
 use Rattle.runs_means.specs.LongerRuns.{LongerRun}
+use Rattle.session_means.specs.AnyAllowance.{AnyAllowance}
 
 pub record JudgedExactly (J : Judge) : Type 0 where
   -- by kept sets as by sets worked out from board and state
@@ -63,5 +66,6 @@ pub record LargerNeverChanges : Type 0 where
   pub always : NoWordAlways
   -- the judge that knows no allowance says the same wherever this one settles
   pub agree : AgreeWhereSettled
-  -- of two accepted runs; since request A6 the allowance does not bear on them
+  -- of two accepted runs, by the log alone; two sessions that differ in W alone print the same lines, places apart
   pub runs : LongerRun
+  pub sessions : AnyAllowance

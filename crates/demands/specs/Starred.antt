@@ -14,7 +14,9 @@
 --     liveWith e c, deadWith e      live with effort e and the chain c shown; dead with effort e
 --     lent n                        a lent log of n bytes, each 7
 --     h0File, h2Session             H0 as a file, H2 as a session, byte by byte as the rule book prints them
---     h2Lines, h0Line               what H2 and H0 print, character by character
+--     h5File                        H5 as a file
+--     h0Line, h2Lines, h5Lines      what H0, H2 and H5 with both pushed print, character by character
+--     drewLines                     the first two lines of H2 and H5, "0 idle 0 0" and "1 idle 1 1"
 --     takenOverFile                 that hut as a file
 --     astray b s t                  the state s with the sets of board b in state t beside it
 --     withSets s xs ys              the state s with sets beside it: xs, and without windings ys, each the first of 64,
@@ -27,15 +29,16 @@
 --       tells b h k j               `divide::judge` of that winding
 --       checked b h k x o           `divide::check` of terminal x against that winding: whether it divides, or the
 --                                   refusal
---       moved b h w t o             `move_relay` of relay 0: what it came to, o, and what it leaves, t
---       ran b h log w x             `run` over the lent log: all that it tells
+--       moved b h t o               `move_relay` of relay 0: what it came to, o, and what it leaves, t
+--       ran b h log x               `run` over the lent log: all that it tells
 --       pressed p b h n t o         `push` of button n, `release` if not p: what it came to, o, and what it leaves, t
 --       prints s x                  a session and all that it prints
+--       printsAtEveryW f es x       the session of the board file f and the events es at every W: all that it prints
 --     judges b s k w j              `judged` in state s, with its sets
 --     says b s k j                  `tells` in state s, with its sets: the judgement j
 --     dividing b s k x t            `checked` likewise: terminal x divides the winding if t
---     moves b s w t m               `moved` from state s with its sets: the word m, and the state t with its sets
---     runs b s log w e m t r l      `ran` likewise: the word e, m moves, the state t with its sets, the relay r, and
+--     moves b s t m                 `moved` from state s with its sets: the word m, and the state t with its sets
+--     runs b s log e m t r l        `ran` likewise: the word e, m moves, the state t with its sets, the relay r, and
 --                                   the log l afterwards
 --     RowHolds x                    whatever the row's call answers under its promise, it is the row's answer; what a
 --                                   session prints is computed (`lines` and `all-lines` of `AsTheModelSays` say that
@@ -51,9 +54,10 @@
 --                                   and sets as given
 --     divided                       rows on the judge of request A6, and on the check of a terminal: an end that is a
 --                                   pole, poles that divide, the lowest of several, a shunted winding that is divided;
---                                   the refusals in their order, 19 the last; and a move and a run at W 0
---     Starred                       every row of the six holds
-use Prim.Native.Nat.{ℕ, _-_}
+--                                   the refusals in their order, 19 the last
+--     ignored                       the amended case of request A7: "H5 with both pushed is in conflict at every W"
+--     Starred                       every row of the seven holds
+use Prim.Native.Nat.{ℕ, _-_, _≤_}
 use mathlib.Core.Path.{_≡_}
 use mathlib.Core.List.{List, [], _∷_, _++_}
 use mathlib.Core.Bool.{Bool, true, false}
@@ -64,6 +68,7 @@ use Rattle.refusals.specs.Outcomes.{Outcome, given, refused}
 use Rattle.refusals.specs.Refusals.{inputEnds, badForm, outOfRange, noSuchKind, noSuchName, windingLacking}
 use Rattle.refusals.specs.Refusals.{noSuchWinding, alreadySo, stateBeyondBoard, brokenBoard, markedTwice, foreignSets}
 use Rattle.refusals.specs.Refusals.{terminalBeyond}
+use Rattle.number.specs.Numbers.{currentWidth}
 use Rattle.kinds.specs.declared.Kind.{Kind}
 use Rattle.kinds.specs.declared.Kind.the-variants.{Wire, Upper, Lower, Button, Regular, Drawing, Dropping, Mark}
 use Rattle.board.specs.declared.Part.{Part}
@@ -98,6 +103,7 @@ use Rattle.runs.specs.declared.Ran.{Ran}
 use Rattle.runs.specs.Running as told
 use Rattle.runs.specs.Running.{unrun, toldRan, Runs}
 use Rattle.session.specs.Sessions.{sessionText}
+use Rattle.session_means.specs.AnyAllowance.{sessionOf}
 
 abbrev pub part : Kind → ℕ → ℕ → Part
 part k x y = record { a = x; b = y; kind = k }
@@ -131,16 +137,17 @@ h1 = board 3 1 1 (part (Button 0) 0 2 ∷ part (Regular 0) 2 1 ∷ [])
 abbrev pub h2Session : List ℕ
 h2Session = 3 ∷ 1 ∷ 1 ∷ 3 ∷ 3 ∷ 0 ∷ 2 ∷ 0 ∷ 1 ∷ 0 ∷ 2 ∷ 0 ∷ 4 ∷ 2 ∷ 1 ∷ 0 ∷ 100 ∷ 1 ∷ 0 ∷ []
 
--- "0 idle 0 0", "1 idle 1 1", "2 idle 0 1", each with a line end
-abbrev pub h2Lines : List ℕ
-h2Lines =
-    48 ∷ 32 ∷ 105 ∷ 100 ∷ 108 ∷ 101 ∷ 32 ∷ 48 ∷ 32 ∷ 48 ∷ 10 ∷
-    49 ∷ 32 ∷ 105 ∷ 100 ∷ 108 ∷ 101 ∷ 32 ∷ 49 ∷ 32 ∷ 49 ∷ 10 ∷
-    50 ∷ 32 ∷ 105 ∷ 100 ∷ 108 ∷ 101 ∷ 32 ∷ 48 ∷ 32 ∷ 49 ∷ 10 ∷
-    []
-
+-- "0 idle 0 0" and a line end
 abbrev pub h0Line : List ℕ
 h0Line = 48 ∷ 32 ∷ 105 ∷ 100 ∷ 108 ∷ 101 ∷ 32 ∷ 48 ∷ 32 ∷ 48 ∷ 10 ∷ []
+
+-- "0 idle 0 0", "1 idle 1 1", each with a line end
+abbrev pub drewLines : List ℕ
+drewLines = h0Line ++ (49 ∷ 32 ∷ 105 ∷ 100 ∷ 108 ∷ 101 ∷ 32 ∷ 49 ∷ 32 ∷ 49 ∷ 10 ∷ [])
+
+-- these and "2 idle 0 1"
+abbrev pub h2Lines : List ℕ
+h2Lines = drewLines ++ (50 ∷ 32 ∷ 105 ∷ 100 ∷ 108 ∷ 101 ∷ 32 ∷ 48 ∷ 32 ∷ 49 ∷ 10 ∷ [])
 
 -- T 3, lower contact of relay 0 on 0-2, its winding on 2-1
 abbrev pub h3 : Board
@@ -167,6 +174,14 @@ h4woundWired =
 -- T 4, buttons 0 on 0-2 and 1 on 0-3, drawing winding 2-1, dropping winding 3-1
 abbrev pub h5 : Board
 h5 = board 4 1 2 (part (Button 0) 0 2 ∷ part (Button 1) 0 3 ∷ part (Drawing 0) 2 1 ∷ part (Dropping 0) 3 1 ∷ [])
+
+-- `04 01 02 04 03 00 02 00 03 00 03 01 05 02 01 00 06 03 01 00`
+abbrev pub h5File : List ℕ
+h5File = 4 ∷ 1 ∷ 2 ∷ 4 ∷ 3 ∷ 0 ∷ 2 ∷ 0 ∷ 3 ∷ 0 ∷ 3 ∷ 1 ∷ 5 ∷ 2 ∷ 1 ∷ 0 ∷ 6 ∷ 3 ∷ 1 ∷ 0 ∷ []
+
+-- "0 idle 0 0", "1 idle 1 1" and "2 conflict 0 1"
+abbrev pub h5Lines : List ℕ
+h5Lines = drewLines ++ (50 ∷ 32 ∷ 99 ∷ 111 ∷ 110 ∷ 102 ∷ 108 ∷ 105 ∷ 99 ∷ 116 ∷ 32 ∷ 48 ∷ 32 ∷ 49 ∷ 10 ∷ [])
 
 -- T 3, wires 0-2 and 2-1, winding 2-1
 abbrev pub h6 : Board
@@ -247,10 +262,11 @@ pub data Row : Type 0 where
   judged : Board → Kept → Which → ℕ → Verdict → Row
   tells : Board → Kept → Which → Outcome Judgement → Row
   checked : Board → Kept → Which → ℕ → Outcome Bool → Row
-  moved : Board → Kept → ℕ → Kept → Outcome step.Move → Row
-  ran : Board → Kept → List ℕ → ℕ → told.Ran → Row
+  moved : Board → Kept → Kept → Outcome step.Move → Row
+  ran : Board → Kept → List ℕ → told.Ran → Row
   pressed : Bool → Board → Kept → ℕ → Kept → Outcome (Unit {0}) → Row
   prints : List ℕ → List ℕ → Row
+  printsAtEveryW : List ℕ → List ℕ → List ℕ → Row
 
 abbrev pub judges : Board → State → Which → ℕ → Verdict → Row
 judges b s k w j = judged b (keptAt b s) k w j
@@ -261,62 +277,62 @@ says b s k j = tells b (keptAt b s) k (given j)
 abbrev pub dividing : Board → State → Which → ℕ → Bool → Row
 dividing b s k x t = checked b (keptAt b s) k x (given t)
 
-abbrev pub moves : Board → State → ℕ → State → step.Move → Row
-moves b s w t m = moved b (keptAt b s) w (keptAt b t) (given m)
+abbrev pub moves : Board → State → State → step.Move → Row
+moves b s t m = moved b (keptAt b s) (keptAt b t) (given m)
 
-abbrev pub runs : Board → State → List ℕ → ℕ → Ending → ℕ → State → ℕ → List ℕ → Row
-runs b s log w e m t r l =
-    ran b (keptAt b s) log w (record { word = given e; moves = m; kept = keptAt b t; relay = r; log = l })
+abbrev pub runs : Board → State → List ℕ → Ending → ℕ → State → ℕ → List ℕ → Row
+runs b s log e m t r l =
+    ran b (keptAt b s) log (record { word = given e; moves = m; kept = keptAt b t; relay = r; log = l })
 
 abbrev pub RowHolds : Row → Type 0
 RowHolds (reads s b o) = (x : BoardRead) → Reads s x → toldBoardRead x ≡ (b, o)
 RowHolds (judged b h k w j) = (v : code-verdict.Verdict) → Judges b h 0 k w v → toldVerdict v ≡ j
 RowHolds (tells b h k j) = (a : code-judgement.Judgement) → JudgesAtOnce b h 0 k a → toldJudgement a ≡ j
 RowHolds (checked b h k x o) = (a : Checked) → ChecksTerminal b h 0 k x a → toldChecked a ≡ o
-RowHolds (moved b h w t o) = (a : Moved) → Moves b h 0 w a → toldMoved a ≡ (t, o)
-RowHolds (ran b h log w x) = (a : Ran) (k : List ℕ) → Runs b h log w a k → toldRan a k ≡ x
+RowHolds (moved b h t o) = (a : Moved) → Moves b h 0 a → toldMoved a ≡ (t, o)
+RowHolds (ran b h log x) = (a : Ran) (k : List ℕ) → Runs b h log a k → toldRan a k ≡ x
 RowHolds (pressed true b h n t o) = (x : Pressed) → Pushes b h n x → toldPressed x ≡ (t, o)
 RowHolds (pressed false b h n t o) = (x : Pressed) → Releases b h n x → toldPressed x ≡ (t, o)
 RowHolds (prints s x) = sessionText currentEdition s ≡ x
+RowHolds (printsAtEveryW f es x) =
+    (w : ℕ) → w ≤ currentWidth .largest → sessionText currentEdition (sessionOf f w es) ≡ x
 
 -- H0 .. H6 and the number `80 00`, in the rule book's order; of both H4 boards and H6 as request A4 has them
 abbrev pub starred : List Row
 starred =
     reads h0File h0 (given 4)
-    ∷ runs h0 emptyState (lent 2) 100 idle 0 emptyState noRelay (lent 2)
+    ∷ runs h0 emptyState (lent 2) idle 0 emptyState noRelay (lent 2)
     ∷ judges h1 emptyState First 100 (deadWith 1)
     ∷ judges h1 pushed0 First 100 (liveWith 3 (0 ∷ 2 ∷ 1 ∷ []))
     ∷ judges h1 pushed0 First 2 (unsettled 2)
-    ∷ runs h3 emptyState (lent 5) 100 spent 5 (drawn0 emptyState) 0 (128 ∷ 0 ∷ 128 ∷ 0 ∷ 128 ∷ [])
-    ∷ runs h3 emptyState [] 100 spent 0 emptyState 0 []
+    ∷ runs h3 emptyState (lent 5) spent 5 (drawn0 emptyState) 0 (128 ∷ 0 ∷ 128 ∷ 0 ∷ 128 ∷ [])
+    ∷ runs h3 emptyState [] spent 0 emptyState 0 []
     ∷ judges h4 emptyState First 100 (deadWith 0)
     ∷ judges h4 emptyState First 5 (deadWith 0)
     ∷ judges h4wired emptyState First 100 (deadWith 0)
     ∷ judges h5 pushedBoth First 100 (liveWith 3 (0 ∷ 2 ∷ 1 ∷ []))
     ∷ judges h5 pushedBoth Second 100 (liveWith 5 (0 ∷ 3 ∷ 1 ∷ []))
-    ∷ moves h5 pushedBoth 100 pushedBoth step.conflict
-    ∷ moves h5 pushed0 100 (drawn0 pushed0) step.drew
-    ∷ moves h5 (drawn0 emptyState) 100 (drawn0 emptyState) step.rests
+    ∷ moves h5 pushedBoth pushedBoth step.conflict
+    ∷ moves h5 pushed0 (drawn0 pushed0) step.drew
+    ∷ moves h5 (drawn0 emptyState) (drawn0 emptyState) step.rests
     ∷ judges h6 emptyState First 100 (deadWith 0)
     ∷ reads (128 ∷ 0 ∷ []) emptyBoard (refused badForm 0)
     ∷ []
 
 abbrev pub besides : List Row
 besides =
-    runs h0 emptyState [] 100 idle 0 emptyState noRelay []
+    runs h0 emptyState [] idle 0 emptyState noRelay []
     ∷ reads [] emptyBoard (refused inputEnds 0)
     ∷ reads (1 ∷ 0 ∷ 0 ∷ 0 ∷ []) emptyBoard (refused outOfRange 0)
     ∷ reads (65 ∷ 0 ∷ 0 ∷ 0 ∷ []) emptyBoard (refused outOfRange 0)
     ∷ reads (64 ∷ 0 ∷ 0 ∷ 0 ∷ []) (board 64 0 0 []) (given 4)
     ∷ prints h2Session h2Lines
     ∷ judges h5 pushedBoth Second 4 (unsettled 4)
-    ∷ moves h5 pushedBoth 4 pushedBoth step.conflict
-    ∷ runs h5 pushedBoth (lent 2) 100 conflict 0 pushedBoth 0 (lent 2)
-    ∷ runs h5 pushedBoth (lent 2) 4 conflict 0 pushedBoth 0 (lent 2)
-    ∷ runs h5 pushed0 (lent 2) 100 idle 1 (drawn0 pushed0) noRelay (128 ∷ 7 ∷ [])
-    ∷ runs h5 pushed0 (lent 1) 100 idle 1 (drawn0 pushed0) noRelay (128 ∷ [])
-    ∷ runs h5 (withReleased (drawn0 pushed0) 0) (lent 2) 100 idle 0 (drawn0 emptyState) noRelay (lent 2)
-    ∷ runs pair emptyState (lent 3) 100 idle 2 (withDrawn (drawn0 emptyState) 1) noRelay (128 ∷ 129 ∷ 7 ∷ [])
+    ∷ runs h5 pushedBoth (lent 2) conflict 0 pushedBoth 0 (lent 2)
+    ∷ runs h5 pushed0 (lent 2) idle 1 (drawn0 pushed0) noRelay (128 ∷ 7 ∷ [])
+    ∷ runs h5 pushed0 (lent 1) idle 1 (drawn0 pushed0) noRelay (128 ∷ [])
+    ∷ runs h5 (withReleased (drawn0 pushed0) 0) (lent 2) idle 0 (drawn0 emptyState) noRelay (lent 2)
+    ∷ runs pair emptyState (lent 3) idle 2 (withDrawn (drawn0 emptyState) 1) noRelay (128 ∷ 129 ∷ 7 ∷ [])
     ∷ reads (128 ∷ 128 ∷ []) emptyBoard (refused inputEnds 2)
     ∷ reads (128 ∷ 128 ∷ 128 ∷ []) emptyBoard (refused inputEnds 3)
     ∷ reads (128 ∷ 128 ∷ 128 ∷ 128 ∷ []) emptyBoard (refused inputEnds 4)
@@ -347,7 +363,7 @@ marks =
     ∷ judges (started 1 (board 3 1 0 (part (Regular 0) 2 1 ∷ part (Mark 0) 0 2 ∷ []))) emptyState First 100 (deadWith 1)
     ∷ judges (started 1 (board 2 1 0 (part (Regular 0) 0 1 ∷ part (Mark 0) 200 200 ∷ []))) emptyState First 100
     (liveWith 2 (0 ∷ 1 ∷ []))
-    ∷ runs takenOver (freshState takenOver) (lent 2) 100 idle 1 (drawn0 emptyState) noRelay (1 ∷ 7 ∷ [])
+    ∷ runs takenOver (freshState takenOver) (lent 2) idle 1 (drawn0 emptyState) noRelay (1 ∷ 7 ∷ [])
     ∷ prints (takenOverFile ++ (100 ∷ [])) (48 ∷ 32 ∷ 105 ∷ 100 ∷ 108 ∷ 101 ∷ 32 ∷ 49 ∷ 32 ∷ 49 ∷ 10 ∷ [])
     ∷ []
 
@@ -356,15 +372,15 @@ shunts =
     judges h4 emptyState First 0 (deadWith 0)
     ∷ judges h4wired emptyState First 0 (deadWith 0)
     ∷ judges h6 emptyState First 0 (deadWith 0)
-    ∷ moves h6 (drawn0 emptyState) 0 emptyState step.dropped
+    ∷ moves h6 (drawn0 emptyState) emptyState step.dropped
     ∷ judges h4wound emptyState First 100 (deadWith 6)
     ∷ judges h4wound emptyState First 5 (unsettled 5)
     ∷ judges h4woundWired emptyState First 100 (deadWith 7)
     ∷ judges byButton emptyState First 100 (liveWith 3 (0 ∷ 2 ∷ 1 ∷ []))
-    ∷ runs byButton (withDrawn (drawn0 pushed0) 1) (lent 2) 100 idle 1 (withDrawn pushed0 1) noRelay (0 ∷ 7 ∷ [])
+    ∷ runs byButton (withDrawn (drawn0 pushed0) 1) (lent 2) idle 1 (withDrawn pushed0 1) noRelay (0 ∷ 7 ∷ [])
     ∷ judges overPlus emptyState First 100 (liveWith 4 (0 ∷ 2 ∷ 3 ∷ 1 ∷ []))
     ∷ judges bridged pushedBoth First 100 (deadWith 0)
-    ∷ moves bridged (drawn0 pushedBoth) 100 pushedBoth step.dropped
+    ∷ moves bridged (drawn0 pushedBoth) pushedBoth step.dropped
     ∷ []
 
 abbrev pub kept : List Row
@@ -374,9 +390,9 @@ kept =
     (given tt)
     ∷ pressed false doubled (keptAt doubled (drawn0 pushed0)) 0
     (withSets (drawn0 emptyState) (4 ∷ 4 ∷ 3 ∷ []) (4 ∷ 0 ∷ 1 ∷ [])) (given tt)
-    ∷ moved h3 (withSets emptyState (4 ∷ 4 ∷ 3 ∷ []) (4 ∷ 0 ∷ 1 ∷ [])) 100
+    ∷ moved h3 (withSets emptyState (4 ∷ 4 ∷ 3 ∷ []) (4 ∷ 0 ∷ 1 ∷ []))
     (withSets (drawn0 emptyState) (0 ∷ 4 ∷ 2 ∷ []) []) (given step.drew)
-    ∷ moved h3 (withSets (drawn0 emptyState) (0 ∷ 4 ∷ 2 ∷ []) []) 100
+    ∷ moved h3 (withSets (drawn0 emptyState) (0 ∷ 4 ∷ 2 ∷ []) [])
     (withSets emptyState (4 ∷ 4 ∷ 3 ∷ []) (4 ∷ 0 ∷ 1 ∷ [])) (given step.dropped)
     ∷ pressed true h1 (keptAt h1 pushed0) 0 (keptAt h1 pushed0) (refused alreadySo 0)
     ∷ pressed true h1 (astray h1 pushed0 emptyState) 0 (astray h1 pushed0 emptyState) (refused foreignSets 0)
@@ -384,8 +400,8 @@ kept =
     ∷ judged h1 (astray h1 pushed0 emptyState) Second 100 (unanswered foreignSets 0)
     ∷ judged h1 (withSets pushed0 (4 ∷ 4 ∷ 3 ∷ []) (0 ∷ 0 ∷ 1 ∷ [])) First 100 (unanswered foreignSets 0)
     ∷ judged h1 (astray h1 pushedBoth emptyState) First 100 (unanswered stateBeyondBoard 0)
-    ∷ moved h1 (astray h1 pushed0 emptyState) 100 (astray h1 pushed0 emptyState) (refused foreignSets 0)
-    ∷ ran h1 (astray h1 pushed0 emptyState) (lent 2) 100 (unrun foreignSets 0 (astray h1 pushed0 emptyState) (lent 2))
+    ∷ moved h1 (astray h1 pushed0 emptyState) (astray h1 pushed0 emptyState) (refused foreignSets 0)
+    ∷ ran h1 (astray h1 pushed0 emptyState) (lent 2) (unrun foreignSets 0 (astray h1 pushed0 emptyState) (lent 2))
     ∷ judged h0 (astray h0 emptyState pushed0) First 100 (unanswered noSuchWinding 0)
     ∷ []
 
@@ -414,9 +430,13 @@ divided =
     ∷ checked h1 (astray h1 pushed0 emptyState) First 3 (refused foreignSets 0)
     ∷ checked h1 (keptAt h1 emptyState) Second 3 (refused noSuchWinding 0)
     ∷ checked h1 (keptAt h1 emptyState) First 3 (refused terminalBeyond 0)
-    ∷ moves h1 pushed0 0 (drawn0 pushed0) step.drew
-    ∷ runs h1 pushed0 (lent 2) 0 idle 1 (drawn0 pushed0) noRelay (128 ∷ 7 ∷ [])
+    ∷ []
+
+-- button 0 is pushed, then button 1
+abbrev pub ignored : List Row
+ignored =
+    printsAtEveryW h5File (1 ∷ 3 ∷ []) h5Lines
     ∷ []
 
 abbrev pub Starred : Type 0
-Starred = All RowHolds (starred ++ besides ++ marks ++ shunts ++ kept ++ divided)
+Starred = All RowHolds (starred ++ besides ++ marks ++ shunts ++ kept ++ divided ++ ignored)

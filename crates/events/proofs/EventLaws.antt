@@ -4,7 +4,7 @@ use mathlib.Core.Path.{_≡_, ap}
 use mathlib.Core.List.{List}
 use mathlib.Core.Bool.{true, false}
 use Rattle.refusals.specs.declared.Refusal.{Refusal}
-use Rattle.refusals.specs.Outcomes.{Outcome, refused}
+use Rattle.refusals.specs.Outcomes.{refused}
 use Rattle.board.specs.declared.Board.{Board}
 use Rattle.kept.specs.declared.Kept.{Kept}
 use Rattle.presses.specs.declared.Press.the-variants.{Done, Refused}
@@ -25,25 +25,25 @@ module _ (b : Board) (h : Kept) (v : Event) where
   unfolding pressing
   pressing-release is = rw is
 
-module _ (b : Board) (w e : ℕ) where
+module _ (b : Board) (e : ℕ) where
   -- a run is told by its word, its moves and its drawn relays, whatever its log holds
-  pub run-shown : (h : Kept) (r : Ran) (log : List ℕ) → Runs b h sessionLog w r log
-      → tells e (toldRan r log) ≡ ranLine b e h w
+  pub run-shown : (h : Kept) (r : Ran) (log : List ℕ) → Runs b h sessionLog r log
+      → tells e (toldRan r log) ≡ ranLine b e h
   unfolding ranLine
   run-shown h r log ran = ap (tells e) ran
 
   module _ (x : Pressed) where
     pub pressed-refused : (q : Refusal) → x .answer ≡ Refused q
         → _≡_ {A = Shown} (event e (refused (q .number) (q .place)) 0 (x .kept .state .drawn), x .kept)
-        (pressedLine b e (toldPressed x) w)
+        (pressedLine b e (toldPressed x))
     unfolding pressedLine
     pressed-refused q is = rw is
 
-    pub pressed-done : x .answer ≡ Done → ranLine b e (x .kept) w ≡ pressedLine b e (toldPressed x) w
+    pub pressed-done : x .answer ≡ Done → ranLine b e (x .kept) ≡ pressedLine b e (toldPressed x)
     unfolding pressedLine
     pressed-done done = rw done
 
   pub event-told : (h : Kept) (v : Event) (x : Pressed) → toldPressed x ≡ pressing b h v
-      → pressedLine b e (toldPressed x) w ≡ eventLine b e h v w
+      → pressedLine b e (toldPressed x) ≡ eventLine b e h v
   unfolding eventLine
-  event-told h v x pressed = ap (λ (y : Kept × Outcome (Unit {0})). pressedLine b e y w) pressed
+  event-told h v x pressed = ap (pressedLine b e) pressed

@@ -1,6 +1,6 @@
 -- One event of a session. Rule book: "then events to the end: 2 x button + 1 pushes, 2 x button releases"; "One line
 -- for the first run (event 0), then one for each event"; "An event refused by 12 prints its number, `refused` and 12;
--- nothing is run"; "After spent, undecided or conflict the next event acts on the state left."
+-- nothing is run"; "After spent, .. or conflict the next event acts on the state left."
 --     eventOf v                the event of the number v: its button, and whether it pushes or releases it
 --     eventAt ed n s at        the event at a place of the input, by the edition ed: a number (1, 2) that names one of
 --                              n buttons (7)
@@ -9,13 +9,13 @@
 --     sessionLog               "a log of 4,096"
 --     Shown                    a line, and the state with the kept sets after what it tells
 --     tells e r                event e tells what a run answers: its word, its moves and the drawn relays
---     ranLine b e h w          event e tells of a run from h
---     pressedLine b e x w      event e tells of the push or release x: of the run from the state that it leaves, or of
+--     ranLine b e h            event e tells of a run from h
+--     pressedLine b e x        event e tells of the push or release x: of the run from the state that it leaves, or of
 --                              its refusal
---     eventLine b e h v w      event e, which is v, from h
+--     eventLine b e h v        event e, which is v, from h
 --     toldShown                the code's line in the rule book's words
---     RunLine b e h w r        promise: `run_line` of event e on board b from h, with the allowance w, answers r
---     EventLine b e h v w r    promise: `event_line` of event e, which is v, likewise
+--     RunLine b e h r          promise: `run_line` of event e on board b from h answers r
+--     EventLine b e h v r      promise: `event_line` of event e, which is v, likewise
 use Prim.Native.Nat.{ℕ, _/_, _%_}
 use mathlib.Core.Path.{_≡_}
 use mathlib.Core.Bool.{cond}
@@ -58,21 +58,21 @@ Shown = Line × Kept
 abbrev pub tells : ℕ → Ran → Shown
 tells e r = (event e (r .word) (r .moves) (r .kept .state .drawn), r .kept)
 
-unfoldable pub ranLine : Board → ℕ → Kept → ℕ → Shown
-ranLine b e h w = tells e (running b h sessionLog w)
+unfoldable pub ranLine : Board → ℕ → Kept → Shown
+ranLine b e h = tells e (running b h sessionLog)
 
-unfoldable pub pressedLine : Board → ℕ → Kept × Outcome (Unit {0}) → ℕ → Shown
-pressedLine b e (h, given u) w = ranLine b e h w
-pressedLine b e (h, refused n p) w = (event e (refused n p) 0 (h .state .drawn), h)
+unfoldable pub pressedLine : Board → ℕ → Kept × Outcome (Unit {0}) → Shown
+pressedLine b e (h, given u) = ranLine b e h
+pressedLine b e (h, refused n p) = (event e (refused n p) 0 (h .state .drawn), h)
 
-unfoldable pub eventLine : Board → ℕ → Kept → Event → ℕ → Shown
-eventLine b e h v w = pressedLine b e (pressing b h v) w
+unfoldable pub eventLine : Board → ℕ → Kept → Event → Shown
+eventLine b e h v = pressedLine b e (pressing b h v)
 
 abbrev pub toldShown : code.Shown → Shown
 toldShown r = (toldLine (r .line), r .kept)
 
-abbrev pub RunLine : Board → ℕ → Kept → ℕ → code.Shown → Type 0
-RunLine b e h w r = toldShown r ≡ ranLine b e h w
+abbrev pub RunLine : Board → ℕ → Kept → code.Shown → Type 0
+RunLine b e h r = toldShown r ≡ ranLine b e h
 
-abbrev pub EventLine : Board → ℕ → Kept → Event → ℕ → code.Shown → Type 0
-EventLine b e h v w r = toldShown r ≡ eventLine b e h v w
+abbrev pub EventLine : Board → ℕ → Kept → Event → code.Shown → Type 0
+EventLine b e h v r = toldShown r ≡ eventLine b e h v

@@ -26,11 +26,11 @@ pub struct Shown {
 }
 
 // Runs the board from a state, and tells of it as the event of this number.
-pub fn run_line(board: Board, number: usize, kept: Kept, allowance: u32) -> Shown
-    ensures { λ r. ⌜ RunLine board number kept allowance r ⌝ }
+pub fn run_line(board: Board, number: usize, kept: Kept) -> Shown
+    ensures { λ r. ⌜ RunLine board number kept r ⌝ }
 {
     let mut log = [0u8; LOG_LENGTH];
-    let ran = runs::run(board, kept, &mut log, allowance);
+    let ran = runs::run(board, kept, &mut log);
     let word = ran.word;
     let after = ran.kept;
     Shown {
@@ -51,8 +51,8 @@ fn press(board: Board, kept: Kept, event: Event) -> Pressed
 }
 
 // Tells of a push or release, as the event of this number: the run after it, or its refusal.
-fn pressed_line(board: Board, number: usize, pressed: Pressed, allowance: u32) -> Shown
-    ensures { λ r. ⌜ toldShown r ≡ pressedLine board number (toldPressed pressed) allowance ⌝ }
+fn pressed_line(board: Board, number: usize, pressed: Pressed) -> Shown
+    ensures { λ r. ⌜ toldShown r ≡ pressedLine board number (toldPressed pressed) ⌝ }
 {
     let kept = pressed.kept;
     let answer = pressed.answer;
@@ -62,13 +62,13 @@ fn pressed_line(board: Board, number: usize, pressed: Pressed, allowance: u32) -
             kept,
         }
     } else {
-        run_line(board, number, kept, allowance)
+        run_line(board, number, kept)
     }
 }
 
 // Makes an event in a state, and tells of it under its number.
-pub fn event_line(board: Board, number: usize, kept: Kept, event: Event, allowance: u32) -> Shown
-    ensures { λ r. ⌜ EventLine board number kept event allowance r ⌝ }
+pub fn event_line(board: Board, number: usize, kept: Kept, event: Event) -> Shown
+    ensures { λ r. ⌜ EventLine board number kept event r ⌝ }
 {
-    pressed_line(board, number, press(board, kept, event), allowance)
+    pressed_line(board, number, press(board, kept, event))
 }

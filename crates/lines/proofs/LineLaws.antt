@@ -17,8 +17,8 @@ use Rattle.refusals.specs.Refusals.{bufferTooShort}
 use Rattle.refusals.specs.Order.{firstNo}
 use Rattle.number.proofs.Buffers.{sets-at-zero}
 use Rattle.runs.specs.declared.Ending as code-ending
-use Rattle.runs.specs.declared.Ending.the-variants.{Idle, Spent, Undecided, Conflict, Refused}
-use Rattle.runs.specs.Looks.{Ending, idle, spent, undecided, conflict}
+use Rattle.runs.specs.declared.Ending.the-variants.{Idle, Spent, Conflict, Refused}
+use Rattle.runs.specs.Looks.{Ending, idle, spent, conflict}
 use Rattle.runs.specs.Running.{toldEnding}
 use Rattle.runs.proofs.Ending.{the-type}
 use Rattle.lines.specs.Texts.{space, decimal, spaced, ended, refusedText, wordText, mostDigits}
@@ -29,10 +29,9 @@ use Rattle.lines.proofs.PieceLaws.{put-room, put-piece-next}
 
 -- ---- how long a line is
 
-word-few : (w : Outcome Ending) → length (wordText w) ≤ 9
+word-few : (w : Outcome Ending) → length (wordText w) ≤ 8
 word-few (given idle) = omega arith
 word-few (given spent) = omega arith
-word-few (given undecided) = omega arith
 word-few (given conflict) = omega arith
 word-few (refused n p) = omega arith
 
@@ -86,27 +85,25 @@ line-put l out room put =
 number-few : (n c : ℕ) → length (endedBy (decimal n) c) ≤ 21
 number-few n c = simp length-append (omega (arith, decimal-few n))
 
-below-four : (t : ℕ) → OneOf (0 ∷ 1 ∷ 2 ∷ 3 ∷ []) t → t < 4
-below-four t (inl e) = omega arith
-below-four t (inr (inl e)) = omega arith
-below-four t (inr (inr (inl e))) = omega arith
-below-four t (inr (inr (inr e))) = omega arith
+below-three : (t : ℕ) → OneOf (0 ∷ 1 ∷ 2 ∷ []) t → t < 3
+below-three t (inl e) = omega arith
+below-three t (inr (inl e)) = omega arith
+below-three t (inr (inr e)) = omega arith
 
 -- a run that was not refused, by the tag of its word
-event-text : (e m d : ℕ) (w : code-ending.Ending) → OneOf (0 ∷ 1 ∷ 2 ∷ 3 ∷ []) (tagOf the-type w)
+event-text : (e m d : ℕ) (w : code-ending.Ending) → OneOf (0 ∷ 1 ∷ 2 ∷ []) (tagOf the-type w)
     → spaced (decimal e) ++ spaced (wordText (toldEnding w)) ++ spaced (decimal m) ++ ended (decimal d)
     ≡ lineText (event e (toldEnding w) m d)
 unfolding lineText
 event-text e m d Idle ran = refl
 event-text e m d Spent ran = refl
-event-text e m d Undecided ran = refl
 event-text e m d Conflict ran = refl
-event-text e m d (Refused r) ran = absurd (omega (arith, below-four 4 ran))
+event-text e m d (Refused r) ran = absurd (omega (arith, below-three 3 ran))
 
 module _ (e m d : ℕ) (w : code-ending.Ending) (out : List ℕ) (room : longestLine ≤ length out) {at₁ : ℕ}
     {out₁ : List ℕ} (first : Put out 0 (spaced (decimal e)) at₁ out₁) where
-  pub word-room : at₁ + 10 ≤ length out₁
-  word-room = put-room out 0 (spaced (decimal e)) first 21 10 (number-few e space) (omega arith)
+  pub word-room : at₁ + 9 ≤ length out₁
+  word-room = put-room out 0 (spaced (decimal e)) first 21 9 (number-few e space) (omega arith)
 
   module _ {at₂ : ℕ} {out₂ : List ℕ} (second : Put out₁ at₁ (spaced (wordText (toldEnding w))) at₂ out₂) where
     both : Put out 0 (spaced (decimal e) ++ spaced (wordText (toldEnding w))) at₂ out₂
@@ -114,7 +111,7 @@ module _ (e m d : ℕ) (w : code-ending.Ending) (out : List ℕ) (room : longest
 
     both-room : at₂ + 42 ≤ length out₂
     both-room =
-        put-room out 0 (spaced (decimal e) ++ spaced (wordText (toldEnding w))) both 31 42
+        put-room out 0 (spaced (decimal e) ++ spaced (wordText (toldEnding w))) both 30 42
         (simp length-append (omega (arith, decimal-few e, word-few (toldEnding w)))) (omega arith)
 
     pub field-room : at₂ + mostDigits < length out₂
@@ -134,7 +131,7 @@ module _ (e m d : ℕ) (w : code-ending.Ending) (out : List ℕ) (room : longest
       pub drawn-room : at₃ + mostDigits < length out₃
       drawn-room = omega (arith, put-room out₂ at₂ (spaced (decimal m)) third 21 21 (number-few m space) both-room)
 
-      pub event-ran : {at₄ : ℕ} {out₄ : List ℕ} → OneOf (0 ∷ 1 ∷ 2 ∷ 3 ∷ []) (tagOf the-type w)
+      pub event-ran : {at₄ : ℕ} {out₄ : List ℕ} → OneOf (0 ∷ 1 ∷ 2 ∷ []) (tagOf the-type w)
           → Put out₃ at₃ (ended (decimal d)) at₄ out₄
           → Put out 0 (lineText (event e (toldEnding w) m d)) at₄ out₄
       event-ran {at₄} {out₄} ran fourth =

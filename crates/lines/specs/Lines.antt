@@ -41,7 +41,7 @@ lineText (event e (refused n p) m d) = spaced (decimal e) ++ spaced (wordText (r
 lineText (closing n p) = spaced refusedText ++ spaced (decimal n) ++ ended (decimal p)
 
 abbrev pub longestLine : ℕ
-longestLine = 73
+longestLine = 72
 
 abbrev pub lineLines : List ℕ → Order
 lineLines out = (leb longestLine (length out), bufferTooShort) ∷ []

@@ -7,7 +7,7 @@ use runs::Ending;
 mod text;
 
 // The longest line, with its line end. No line is longer, and a buffer of this length takes every line.
-pub const LONGEST_LINE: usize = 73;
+pub const LONGEST_LINE: usize = 72;
 
 // A line: an event with its number, the run's word, its moves and the drawn relays; or the refusal that ends a session.
 pub enum Line {

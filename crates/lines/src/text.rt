@@ -53,13 +53,12 @@ fn put_number(value: u64, then: u8, out: &mut [u8], at: usize) -> usize
 
 // Writes a run's word and a space at a place, and gives the next place.
 fn put_word(word: Ending, out: &mut [u8], at: usize) -> usize
-    requires { ⌜ at + 10 ≤ length (now out) ⌝ }
+    requires { ⌜ at + 9 ≤ length (now out) ⌝ }
     ensures { λ r. ⌜ Put (now (out .entry)) at (spaced (wordText (toldEnding word))) r (now (out .exit)) ⌝ }
 {
     match word {
         Ending::Idle => put(b"idle ", out, at),
         Ending::Spent => put(b"spent ", out, at),
-        Ending::Undecided => put(b"undecided ", out, at),
         Ending::Conflict => put(b"conflict ", out, at),
         Ending::Refused(_) => put(b"refused ", out, at),
     }

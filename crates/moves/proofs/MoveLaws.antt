@@ -1,14 +1,12 @@
 -- Laws of what a relay does by plain tests, one for each way out of `regular` and `steel`; and by its windings, one for
 -- each way out of `step`.
-use Prim.Native.Nat.{ℕ}
-use native.Mathlib.Omega.{arith}
 use mathlib.Core.Path.{_≡_, refl, sym, ap, _∙_}
 use mathlib.Core.Bool.{Bool, true, false, cond}
 use Rattle.search.specs.declared.Winding.{Winding}
 use Rattle.judge.specs.declared.Windings.{Windings}
 use Rattle.judge.specs.declared.Windings.the-variants as found
-use Rattle.judge.specs.RelayWindings.{OfRelay, regular, steel, absent, toldWindings}
-use Rattle.moves.specs.Steps.{Move, drew, dropped, rests, undecided, conflict, regularMove, steelMove, moveBy}
+use Rattle.judge.specs.RelayWindings.{toldWindings}
+use Rattle.moves.specs.Steps.{Move, drew, dropped, rests, conflict, regularMove, steelMove, moveBy}
 
 -- ---- a regular relay, drawn if d, its winding live if l
 
@@ -56,37 +54,3 @@ module _ (live : Winding → Bool) (d : Bool) (x : Windings) where
   pub moves-steel : (v u : Winding) (l k : Bool) (m : Move) → x ≡ found.Steel v u → l ≡ live v → k ≡ live u
       → m ≡ steelMove d l k → m ≡ moveBy live d (toldWindings x)
   moves-steel v u l k m is on also moves = moves ∙ rw (on, also) refl ∙ told-by (found.Steel v u) is
-
--- ---- undecided is nothing that a relay comes to
-
-abbrev isUndecided : Move → ℕ
-isUndecided undecided = 1
-isUndecided drew = 0
-isUndecided dropped = 0
-isUndecided rests = 0
-isUndecided conflict = 0
-
-regular-decided : (d l : Bool) → isUndecided (regularMove d l) ≡ 0
-unfolding regularMove
-regular-decided true true = refl
-regular-decided true false = refl
-regular-decided false true = refl
-regular-decided false false = refl
-
-steel-decided : (d x y : Bool) → isUndecided (steelMove d x y) ≡ 0
-unfolding steelMove
-steel-decided d true true = refl
-steel-decided true true false = refl
-steel-decided false true false = refl
-steel-decided true false true = refl
-steel-decided false false true = refl
-steel-decided true false false = refl
-steel-decided false false false = refl
-
-pub moves-decided : (live : Winding → Bool) (d : Bool) (x : OfRelay Winding) → ¬ (moveBy live d x ≡ undecided)
-moves-decided live d x is = omega (arith, decided x, ap isUndecided is)
-  where
-    decided : (x : OfRelay Winding) → isUndecided (moveBy live d x) ≡ 0
-    decided (regular v) = regular-decided d (live v)
-    decided (steel v u) = steel-decided d (live v) (live u)
-    decided absent = refl

@@ -22,10 +22,10 @@ use Rattle.kept.specs.declared.Kept.{Kept}
 use Rattle.kept.specs.Kept.{keptAt, usableLines, usable, left}
 use Rattle.kept.proofs.KeptLaws.{kept-sets, usable-given, usable-lines, usable-next}
 use Rattle.moves.specs.declared.Move as code-move
-use Rattle.moves.specs.declared.Move.the-variants.{Drew, Dropped, Rests, Undecided, Conflict}
+use Rattle.moves.specs.declared.Move.the-variants.{Drew, Dropped, Rests, Conflict}
 use Rattle.moves.specs.declared.MoveAnswer.{MoveAnswer}
 use Rattle.moves.specs.declared.MoveAnswer.the-variants.{Says, Refused}
-use Rattle.moves.specs.Steps.{Move, drew, dropped, rests, undecided, conflict, stepBy, stepOf, made, keptMade}
+use Rattle.moves.specs.Steps.{Move, drew, dropped, rests, conflict, stepBy, stepOf, made, keptMade}
 use Rattle.moves.specs.Steps.{toldMove}
 use Rattle.moves.specs.Moving.{movable, moving, toldMoveAnswer, toldMoved}
 use Rattle.moves.proofs.StepLaws.{step-by, kept-made}
@@ -66,22 +66,22 @@ module _ (b : Board) (h : Kept) (r : ℕ) where
       past true below refusal = absurd (refused-never noSuchWinding 0 tt (sym refusal))
       past false beyond refusal = ltb-false r (b .counts .relays) beyond
 
-  pub moving-refused : (w k p : ℕ) → movable b h r ≡ refused k p → (h, refused k p) ≡ moving b h r w
+  pub moving-refused : (k p : ℕ) → movable b h r ≡ refused k p → (h, refused k p) ≡ moving b h r
   unfolding moving left
-  moving-refused w k p e = rw e refl
+  moving-refused k p e = rw e refl
 
-  pub moving-given : (w : ℕ) (m : Move) → movable b h r ≡ given tt → m ≡ stepOf b (h .state) r
-      → (keptAt b (made (h .state) r m), given m) ≡ moving b h r w
+  pub moving-given : (m : Move) → movable b h r ≡ given tt → m ≡ stepOf b (h .state) r
+      → (keptAt b (made (h .state) r m), given m) ≡ moving b h r
   unfolding moving left
-  moving-given w m e is = rw (e, is) refl
+  moving-given m e is = rw (e, is) refl
 
   -- by the step m that the kept sets let see, and what is kept after it
-  pub moving-moved : (w : ℕ) (m : Move) (t : Kept) → movable b h r ≡ given tt
-      → m ≡ stepBy (h .sets) b (h .state) r → t ≡ keptMade b h r m → (t, given m) ≡ moving b h r w
-  moving-moved w m t e is leaves =
+  pub moving-moved : (m : Move) (t : Kept) → movable b h r ≡ given tt
+      → m ≡ stepBy (h .sets) b (h .state) r → t ≡ keptMade b h r m → (t, given m) ≡ moving b h r
+  moving-moved m t e is leaves =
       let own = movable-kept e in
       ap (λ (k : Kept). (k, given m)) (leaves ∙ kept-made b h r m own)
-      ∙ moving-given w m e (step-by b (h .state) r (h .sets) m (kept-sets b h own) is)
+      ∙ moving-given m e (step-by b (h .state) r (h .sets) m (kept-sets b h own) is)
 
 -- what the code has asked, a, by the test t after o: its lines are those of the definition
 module _ (b : Board) (h : Kept) (r : ℕ) {t : Bool} {o : Outcome (Unit {0})} {a : Against} (first : o ≡ usable b h)
@@ -105,21 +105,18 @@ move-told = record { untold = untold; back = back; onto = onto }
     untold drew = Drew
     untold dropped = Dropped
     untold rests = Rests
-    untold undecided = Undecided
     untold conflict = Conflict
 
     back : (x : code-move.Move) → untold (toldMove x) ≡ x
     back Drew = refl
     back Dropped = refl
     back Rests = refl
-    back Undecided = refl
     back Conflict = refl
 
     onto : (y : Move) → toldMove (untold y) ≡ y
     onto drew = refl
     onto dropped = refl
     onto rests = refl
-    onto undecided = refl
     onto conflict = refl
 
 move-answer-told : Told toldMoveAnswer

@@ -1,7 +1,7 @@
--- Laws of a relay's step: by the sets of the state, and by what a run has worked out once; that it is never undecided;
--- a move changes that relay and nothing else. Runs go by these and by nothing of the definition's text.
+-- Laws of a relay's step: by the sets of the state, and by what a run has worked out once; a move changes that relay
+-- and nothing else. Runs go by these and by nothing of the definition's text.
 use Prim.Native.Nat.{ℕ, _<_}
-use mathlib.Core.Path.{_≡_, refl, sym, ap, _∙_}
+use mathlib.Core.Path.{_≡_, refl, ap, _∙_}
 use mathlib.Core.Bool.{Bool, true}
 use mathlib.Core.List.{List}
 use Rattle.board.specs.declared.Counts.{Counts}
@@ -22,9 +22,8 @@ use Rattle.feed.specs.Feeds.{served, linked, liveBy}
 use Rattle.judge.specs.RelayWindings.{OfRelay, windingsAt}
 use Rattle.moves.specs.declared.Move as code-move
 use Rattle.moves.specs.declared.Move.the-variants.{Drew, Dropped}
-use Rattle.moves.specs.Steps.{Move, drew, dropped, rests, undecided, conflict, moveBy, takenLive, stepBy, stepOf}
+use Rattle.moves.specs.Steps.{Move, drew, dropped, rests, conflict, moveBy, takenLive, stepBy, stepOf}
 use Rattle.moves.specs.Steps.{made, keptMade, toldMove}
-use Rattle.moves.proofs.MoveLaws.{moves-decided}
 
 -- ---- the step
 
@@ -47,11 +46,6 @@ pub step-windings : (b : Board) (s : State) (r : ℕ) (x : OfRelay Winding) → 
 unfolding stepOf stepBy
 step-windings b s r x is = ap (moveBy (takenLive (setsOf b s) (b .counts .terminals)) (isDrawn s r)) is
 
-pub step-decided : (b : Board) (s : State) (r : ℕ) → ¬ (stepOf b s r ≡ undecided)
-step-decided b s r is =
-    moves-decided (takenLive (setsOf b s) (b .counts .terminals)) (isDrawn s r) (windingsAt r (partsOf b))
-    (sym (step-windings b s r (windingsAt r (partsOf b)) refl) ∙ is)
-
 -- ---- "A move changes that relay and nothing else"
 
 -- what holds of the state with the relay drawn, with it dropped and as it was, holds after every move
@@ -60,7 +54,6 @@ made-holds : (P : State → Type 0) (s : State) (r : ℕ) (m : Move) → P (with
 made-holds P s r drew draws drops stays = draws
 made-holds P s r dropped draws drops stays = drops
 made-holds P s r rests draws drops stays = stays
-made-holds P s r undecided draws drops stays = stays
 made-holds P s r conflict draws drops stays = stays
 
 pub made-other : (s : State) (r : ℕ) (m : Move) (q : ℕ) → (q ≡ r → ⊥) → isDrawn (made s r m) q ≡ isDrawn s q
@@ -89,7 +82,6 @@ kept-made b h r m own = ap (λ (k : Kept). keptMade b k r m) own ∙ by m
         relay-kept b (h .state) (withDropped (h .state) r) r (made-other (h .state) r dropped)
         (made-pushed (h .state) r dropped)
     by rests = refl
-    by undecided = refl
     by conflict = refl
 
 -- one law for each way out of `after` that moves: the state t that was made, and what is kept beside it, x

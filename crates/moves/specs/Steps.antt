@@ -1,9 +1,8 @@
 -- What a relay does in a state. Rule book: "Regular: its winding is always judged .. it draws if dropped and live,
 -- drops if drawn and dead, else rests. Steel: both windings are always judged .. Both live: conflict. Otherwise it
 -- draws if dropped and the drawing winding is live, drops if drawn and the dropping winding is live, else rests."
--- Request A6: "Runs and single moves use the new judge", which knows no allowance; so none is undecided.
---     Move                      what a move comes to: drew, dropped, rests, undecided or conflict; nothing comes to
---                               undecided any more, a word that request A7 strikes
+-- Request A6: "Runs and single moves use the new judge", which knows no allowance.
+--     Move                      what a move comes to: drew, dropped, rests or conflict (request A7)
 --     regularMove d l           what a regular relay does, drawn if d, its winding live if l; what is not live is dead
 --     steelMove d x y           what a steel relay does, drawn if d, its drawing winding live if x and its dropping
 --                               winding live if y
@@ -41,7 +40,7 @@ use Rattle.moves.specs.declared.Move as code-move
 use Rattle.moves.specs.declared.Move.the-variants as said
 
 pub data Move : Type 0 where
-  drew dropped rests undecided conflict : Move
+  drew dropped rests conflict : Move
 
 unfoldable pub regularMove : Bool → Bool → Move
 regularMove d l = cond (not d && l) drew (cond (d && not l) dropped rests)
@@ -67,21 +66,18 @@ abbrev pub made : State → ℕ → Move → State
 made s r drew = withDrawn s r
 made s r dropped = withDropped s r
 made s r rests = s
-made s r undecided = s
 made s r conflict = s
 
 abbrev pub keptMade : Board → Kept → ℕ → Move → Kept
 keptMade b h r drew = changedTo h b (Relay r) (withDrawn (h .state) r)
 keptMade b h r dropped = changedTo h b (Relay r) (withDropped (h .state) r)
 keptMade b h r rests = h
-keptMade b h r undecided = h
 keptMade b h r conflict = h
 
 abbrev pub toldMove : code-move.Move → Move
 toldMove said.Drew = drew
 toldMove said.Dropped = dropped
 toldMove said.Rests = rests
-toldMove said.Undecided = undecided
 toldMove said.Conflict = conflict
 
 abbrev pub StepsRelay : ℕ → List ℕ → Windings → Bool → code-move.Move → Type 0

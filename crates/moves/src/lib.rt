@@ -1,5 +1,5 @@
 // Moves of a relay: what it does by what its windings are, live or dead, what it does in a state, and the call that
-// moves a named relay. No allowance is heeded (request A6).
+// moves a named relay.
 ghost use mathlib.Core.Path.{_≡_};
 ghost use mathlib.Core.Bool.{cond};
 ghost use Rattle.moves.specs.Steps.{drew, dropped, rests, toldMove, regularMove, steelMove, stepBy, StepsRelay};
@@ -18,7 +18,6 @@ pub enum Move {
     Drew,
     Dropped,
     Rests,
-    Undecided,
     Conflict,
 }
 
@@ -108,14 +107,13 @@ pub fn after(board: Board, kept: Kept, relay: u32, motion: Move) -> Kept
         Move::Drew => kept.changed(board, Change::Relay(relay), state.draw(relay)),
         Move::Dropped => kept.changed(board, Change::Relay(relay), state.drop(relay)),
         Move::Rests => kept,
-        Move::Undecided => kept,
         Move::Conflict => kept,
     }
 }
 
-// Moves a named relay, if it can move: refusals 15, 14, 18 and 11. The allowance is not heeded.
-pub fn move_relay(board: Board, kept: Kept, relay: u32, allowance: u32) -> Moved
-    ensures { λ r. ⌜ Moves board kept relay allowance r ⌝ }
+// Moves a named relay, if it can move: refusals 15, 14, 18 and 11.
+pub fn move_relay(board: Board, kept: Kept, relay: u32) -> Moved
+    ensures { λ r. ⌜ Moves board kept relay r ⌝ }
 {
     let usable = kept::usable(board, kept);
     let there = relay < bits::wide(board.counts.relays);

@@ -55,29 +55,29 @@ taken-as-told b h r n e f t j feeds lives told taken =
 
 -- ---- over the call
 
-module _ (b : Board) (h : Kept) (r w : ℕ) (a : Moved) (moves : Moves b h r w a) (taken : movable b h r ≡ given tt) where
+module _ (b : Board) (h : Kept) (r : ℕ) (a : Moved) (moves : Moves b h r a) (taken : movable b h r ≡ given tt) where
   accepts : (n : Which) (e : Winding) → ItsWinding b r n e → AcceptedWinding b h r n e
   accepts n e its = the-winding b h r n e .1 (usable-can b h (movable-given b h r taken .0), its)
 
   answers : toldMoveAnswer (a .answer) ≡ given (stepOf b (h .state) r)
-  answers = λ i. call-moved b h r w a moves taken i .1
+  answers = λ i. call-moved b h r a moves taken i .1
 
 pub regular-as-told : RegularAsTold
-regular-as-told b h r w a j moves taken sort told =
+regular-as-told b h r a j moves taken sort told =
     let its = regular-wound b r sort in
     let takes =
-    takes-told b h r First (its .winding) j told (accepts b h r w a moves taken First (its .winding) (its .first)) in
-    answers b h r w a moves taken
+    takes-told b h r First (its .winding) j told (accepts b h r a moves taken First (its .winding) (its .first)) in
+    answers b h r a moves taken
     ∙ ap given (step-windings b (h .state) r (regular (its .winding))
     (regular-windings b r sort (its .winding) (its .first))
     ∙ ap (regularMove (isDrawn (h .state) r)) takes)
 
 pub steel-as-told : SteelAsTold
-steel-as-told b h r w a j k moves taken sort told also =
+steel-as-told b h r a j k moves taken sort told also =
     let its = steel-wound b r sort in
-    let accept = accepts b h r w a moves taken in
+    let accept = accepts b h r a moves taken in
     let draws = takes-told b h r First (its .drawing) j told (accept First (its .drawing) (its .first)) in
     let drops = takes-told b h r Second (its .dropping) k also (accept Second (its .dropping) (its .second)) in
-    answers b h r w a moves taken
+    answers b h r a moves taken
     ∙ ap given (step-windings b (h .state) r (steel (its .drawing) (its .dropping))
     (steel-windings b r (its .drawing) (its .dropping) (its .first) (its .second)) ∙ rw (draws, drops) refl)

@@ -13,7 +13,7 @@ use Rattle.board.specs.Sorts.{isRegular, isSteel}
 use Rattle.state.specs.declared.State.{State}
 use Rattle.state.specs.States.{isDrawn}
 use Rattle.judge.specs.declared.Which.the-variants.{First, Second}
-use Rattle.moves.specs.Steps.{Move, drew, dropped, rests, undecided, conflict, regularMove, steelMove}
+use Rattle.moves.specs.Steps.{Move, drew, dropped, rests, conflict, regularMove, steelMove}
 use Rattle.moves_means.specs.Guards.{CurrentThrough, CanDraw, CanDrop, BothCurrents}
 use Rattle.moves_means.specs.SingleMoves.{Comes}
 use Rattle.moves_means.proofs.TakenLaws.{CurrentIf}
@@ -118,23 +118,18 @@ module _ (b : Board) (s : State) (r : ℕ) where
       dropped-drawn (there, inr (sort, guard)) = guard .0
 
   pub comes-exclusive : (m k : Move) → Comes b s r m → Comes b s r k → m ≡ k
-  comes-exclusive undecided k x y = absurd x
-  comes-exclusive conflict undecided x y = absurd y
   comes-exclusive conflict conflict x y = refl
   comes-exclusive conflict drew x y = absurd (y .0 x)
   comes-exclusive conflict dropped x y = absurd (y .0 x)
   comes-exclusive conflict rests x y = absurd (y .0 x)
-  comes-exclusive drew undecided x y = absurd y
   comes-exclusive drew conflict x y = absurd (x .0 y)
   comes-exclusive drew drew x y = refl
   comes-exclusive drew dropped x y = absurd (draw-not-drop (x .1) (y .1))
   comes-exclusive drew rests x y = absurd (y .1 (x .1))
-  comes-exclusive dropped undecided x y = absurd y
   comes-exclusive dropped conflict x y = absurd (x .0 y)
   comes-exclusive dropped drew x y = absurd (draw-not-drop (y .1) (x .1))
   comes-exclusive dropped dropped x y = refl
   comes-exclusive dropped rests x y = absurd (y .2 (x .1))
-  comes-exclusive rests undecided x y = absurd y
   comes-exclusive rests conflict x y = absurd (x .0 y)
   comes-exclusive rests drew x y = absurd (x .1 (y .1))
   comes-exclusive rests dropped x y = absurd (x .2 (y .1))

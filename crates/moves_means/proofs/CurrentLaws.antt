@@ -15,12 +15,11 @@ use Rattle.search.specs.declared.Winding.{Winding}
 use Rattle.judge.specs.declared.Which.{Which}
 use Rattle.judge.specs.RelayWindings.{endsOf}
 use Rattle.judge_means.specs.Circuits.{actualConnections, CurrentCarrying, WindingCarries}
-use Rattle.judge_means.specs.Shunts.{Shunted, OnBoard}
+use Rattle.judge_means.specs.Shunts.{Shunted}
 use Rattle.judge_means.specs.Exactness.{IsLive}
 use Rattle.judge_means.specs.Eleven.{ItsWinding}
 use Rattle.judge_means.proofs.Circuits.{connection-ends, ends-connection, live-is-carrying}
-use Rattle.judge_means.proofs.Shunts.{winding-conducts, found-on-board}
-use Rattle.judge_means.proofs.Eleven.{its-found}
+use Rattle.judge_means.proofs.Shunts.{winding-conducts}
 use Rattle.moves_means.specs.Guards.{CurrentThrough}
 
 -- ---- current through winding n of relay r, whose ends are e
@@ -76,6 +75,3 @@ module _ (b : Board) (s : State) (r : ℕ) (n : Which) (e : Winding) (its : ItsW
         λ live. carries-through (agree .0 (live .0)) (live .1),
         λ current. (agree .1 (through-carries current), through-unshunted current),
       )
-
-  pub its-on-board : BoardFits b → OnBoard b e
-  its-on-board fits = found-on-board b r n e fits (its-found b r n e its)

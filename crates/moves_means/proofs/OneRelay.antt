@@ -13,7 +13,7 @@ use Rattle.state.specs.declared.State.{State}
 use Rattle.state.specs.States.{isDrawn}
 use Rattle.state.proofs.StateLaws.{drawn-draw, drawn-drop}
 use Rattle.kept.specs.declared.Kept.{Kept}
-use Rattle.moves.specs.Steps.{Move, drew, dropped, rests, undecided, conflict, stepOf, made}
+use Rattle.moves.specs.Steps.{Move, drew, dropped, rests, conflict, stepOf, made}
 use Rattle.moves.specs.Moving.{movable, moving}
 use Rattle.moves.proofs.StepLaws.{made-other, made-pushed}
 use Rattle.moves.proofs.MovingLaws.{movable-fine, moving-refused, moving-given}
@@ -39,23 +39,22 @@ module _ (b : Board) (s : State) (r : ℕ) where
   made-changes drew fits comes = (can-draw-dropped (comes .1), drawn-draw s r fits, made-else s r drew)
   made-changes dropped fits comes = (can-drop-drawn (comes .1), drawn-drop s r, made-else s r dropped)
   made-changes rests fits comes = refl
-  made-changes undecided fits comes = refl
   made-changes conflict fits comes = refl
 
 -- what the call leaves, by what stands against it
-module _ (b : Board) (h : Kept) (r w : ℕ) where
+module _ (b : Board) (h : Kept) (r : ℕ) where
   abbrev ChangesTo : Kept × Outcome Move → Type 0
   ChangesTo x = Changes (h .state) r (x .1) (x .0 .state)
 
-  moving-changes : (o : Outcome (Unit {0})) → movable b h r ≡ o → ChangesTo (moving b h r w)
+  moving-changes : (o : Outcome (Unit {0})) → movable b h r ≡ o → ChangesTo (moving b h r)
   moving-changes (given u) taken =
       let fit = movable-fine b h r taken in
       let few = fine-range b (fit .0) .most-relays in
       let m = stepOf b (h .state) r in
-      subst ChangesTo (moving-given b h r w m taken refl)
+      subst ChangesTo (moving-given b h r m taken refl)
       (made-changes b (h .state) r m (omega (arith, fit .2, few)) (step-means b (h .state) r (fit .0) (fit .2)))
-  moving-changes (refused n p) off = subst ChangesTo (moving-refused b h r w n p off) refl
+  moving-changes (refused n p) off = subst ChangesTo (moving-refused b h r n p off) refl
 
 pub changes-one-relay : ChangesOneRelay
-changes-one-relay b h r w a moves =
-    subst (ChangesTo b h r w) (sym moves) (moving-changes b h r w (movable b h r) refl)
+changes-one-relay b h r a moves =
+    subst (ChangesTo b h r) (sym moves) (moving-changes b h r (movable b h r) refl)

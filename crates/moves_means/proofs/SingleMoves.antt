@@ -23,12 +23,12 @@ use Rattle.kept.specs.Kept.{keptAt}
 use Rattle.kept.proofs.KeptLaws.{usable-can, can-usable}
 use Rattle.search.specs.declared.Winding.{Winding}
 use Rattle.judge.specs.RelayWindings.{OfRelay, regular, steel, windingsAt}
-use Rattle.moves.specs.Steps.{Move, undecided, moveBy, takenLive, stepOf, made}
+use Rattle.moves.specs.Steps.{Move, moveBy, takenLive, stepOf, made}
 use Rattle.moves.specs.declared.Moved.{Moved}
 use Rattle.moves.specs.Moving.{movable, toldMoveAnswer, toldMoved, Moves}
-use Rattle.moves.proofs.StepLaws.{step-windings, step-decided}
+use Rattle.moves.proofs.StepLaws.{step-windings}
 use Rattle.moves.proofs.MovingLaws.{movable-fine, movable-lacking, movable-eleven, moving-refused, moving-given}
-use Rattle.moves_means.specs.SingleMoves.{Comes, StepExactly, MoveExactly, MoveDecided, MoveElevenExactly}
+use Rattle.moves_means.specs.SingleMoves.{Comes, StepExactly, MoveExactly, MoveElevenExactly}
 use Rattle.moves_means.proofs.TakenLaws.{regular-taken, drawing-taken, dropping-taken, regular-windings}
 use Rattle.moves_means.proofs.TakenLaws.{steel-windings}
 use Rattle.moves_means.proofs.ComesLaws.{regular-comes, steel-comes, comes-exclusive}
@@ -66,16 +66,16 @@ step-means b s r fine below =
 -- ---- over the call
 
 -- what it tells, where it is known whether the relay is moved
-module _ (b : Board) (h : Kept) (r w : ℕ) (a : Moved) (moves : Moves b h r w a) where
+module _ (b : Board) (h : Kept) (r : ℕ) (a : Moved) (moves : Moves b h r a) where
   -- what the relay's step comes to
   abbrev comes : Move
   comes = stepOf b (h .state) r
 
   pub call-moved : movable b h r ≡ given tt → toldMoved a ≡ (keptAt b (made (h .state) r comes), given comes)
-  call-moved taken = moves ∙ sym (moving-given b h r w comes taken refl)
+  call-moved taken = moves ∙ sym (moving-given b h r comes taken refl)
 
   call-refused : (k p : ℕ) → movable b h r ≡ refused k p → toldMoved a ≡ (h, refused k p)
-  call-refused k p off = moves ∙ sym (moving-refused b h r w k p off)
+  call-refused k p off = moves ∙ sym (moving-refused b h r k p off)
 
   refused-call : (k p : ℕ) → toldMoveAnswer (a .answer) ≡ refused k p → movable b h r ≡ refused k p
   refused-call k p says = by-call (movable b h r) refl
@@ -96,10 +96,10 @@ step-exactly b s r m fine below =
     )
 
 pub move-exactly : MoveExactly
-move-exactly b h r w a m moves taken =
+move-exactly b h r a m moves taken =
     let fit = movable-fine b h r taken in
     let exactly = step-exactly b (h .state) r m (fit .0) (fit .2) in
-    let told = call-moved b h r w a moves taken in
+    let told = call-moved b h r a moves taken in
     let step = stepOf b (h .state) r in
     let answers : toldMoveAnswer (a .answer) ≡ given step = λ i. told i .1 in
     let leaves : a .kept ≡ keptAt b (made (h .state) r step) = λ i. told i .0 in
@@ -109,21 +109,11 @@ move-exactly b h r w a m moves taken =
       λ says. leaves ∙ ap (λ (n : Move). keptAt b (made (h .state) r n)) (same says),
     )
 
-pub move-decided : MoveDecided
-move-decided b h r w a moves says = by (movable b h r) refl
-  where
-    by : (o : Outcome (Unit {0})) → movable b h r ≡ o → ⊥
-    by (given tt) taken =
-        step-decided b (h .state) r
-        (given-injective (stepOf b (h .state) r) undecided (sym (λ i. call-moved b h r w a moves taken i .1) ∙ says))
-    by (refused k p) off =
-        refused-never k p undecided (sym (λ i. call-refused b h r w a moves k p off i .1) ∙ says)
-
 pub move-eleven-exactly : MoveElevenExactly
-move-eleven-exactly b h r w a moves = (
+move-eleven-exactly b h r a moves = (
   λ says.
-      let last = movable-eleven b h r (refused-call b h r w a moves noSuchWinding 0 says) in
+      let last = movable-eleven b h r (refused-call b h r a moves noSuchWinding 0 says) in
       (usable-can b h (last .0), last .1),
   λ (can, past) i.
-      call-refused b h r w a moves noSuchWinding 0 (movable-lacking b h r (can-usable b h can) past) i .1,
+      call-refused b h r a moves noSuchWinding 0 (movable-lacking b h r (can-usable b h can) past) i .1,
 )

@@ -46,8 +46,8 @@ TakenAsTold =
 
 abbrev pub RegularAsTold : Type 0
 RegularAsTold =
-    (b : Board) (h : Kept) (r w : ℕ) (a : Moved) (j : code-judgement.Judgement)
-    → Moves b h r w a
+    (b : Board) (h : Kept) (r : ℕ) (a : Moved) (j : code-judgement.Judgement)
+    → Moves b h r a
     → movable b h r ≡ given tt
     → isRegular r (partsOf b)
     → JudgesAtOnce b h r First j
@@ -55,8 +55,8 @@ RegularAsTold =
 
 abbrev pub SteelAsTold : Type 0
 SteelAsTold =
-    (b : Board) (h : Kept) (r w : ℕ) (a : Moved) (j k : code-judgement.Judgement)
-    → Moves b h r w a
+    (b : Board) (h : Kept) (r : ℕ) (a : Moved) (j k : code-judgement.Judgement)
+    → Moves b h r a
     → movable b h r ≡ given tt
     → isSteel r (partsOf b)
     → JudgesAtOnce b h r First j

@@ -129,6 +129,27 @@ module _ (w : Width) where
       ∙ placed-as (length t) at v (p .bytes) (p .small)
       ∙ ap (found v) (sym (p .next))
 
+  -- where two inputs go on alike, from the places i and j, what is read there is the same, places apart
+  module _ (s t : List ℕ) (i j : ℕ) (P : Outcome (Found ℕ) → Outcome (Found ℕ) → Type 0)
+      (both-found : (v n : ℕ) → P (found v (i + n)) (found v (j + n)))
+      (both-end : P (refused inputEnds (length s)) (refused inputEnds (length t)))
+      (both-bad : P (refused badForm i) (refused badForm j)) where
+    placed-alike : (f : Form) → P (placed w (length s) i f) (placed w (length t) j f)
+    unfolding placed
+    placed-alike (Got v n) = by (leb v (w .largest))
+      where
+        by : (small : Bool)
+            → P (cond small (found v (i + n)) (refused badForm i)) (cond small (found v (j + n)) (refused badForm j))
+        by true = both-found v n
+        by false = both-bad
+    placed-alike Ends = both-end
+    placed-alike Bad = both-bad
+
+    pub number-alike : drop i s ≡ drop j t → P (numberAt w s i) (numberAt w t j)
+    unfolding numberAt
+    number-alike alike =
+        rw (← alike) (placed-alike (form (w .longest) (drop i s)))
+
   -- ---- a number from its form, as `read_number` reads it
 
   pub number-ends : (s : List ℕ) (at : ℕ) (f : Form) → f ≡ form (w .longest) (drop at s) → f ≡ Ends

@@ -1,4 +1,4 @@
-// Single moves. What is asked is the relay and the allowance.
+// Single moves. What is asked is the relay.
 use crate::handed_case;
 use crate::handed_sets;
 use crate::print;
@@ -15,7 +15,6 @@ fn print_move(motion: Move) {
         Move::Drew => print::words(b"moved drew"),
         Move::Dropped => print::words(b"moved dropped"),
         Move::Rests => print::words(b"moved rests"),
-        Move::Undecided => print::words(b"moved undecided"),
         Move::Conflict => print::words(b"moved conflict"),
     }
 }
@@ -35,12 +34,7 @@ fn print_moved(board: Board, given: Kept, moved: Moved) {
 // Moves a relay as is asked.
 pub fn answer_move(sets: &[u8], bytes: &[u8]) {
     let relay = handed_case::three_bytes_at(bytes, 6);
-    let allowance = handed_case::three_bytes_at(bytes, 9);
     let board = handed_case::handed_board(bytes);
     let given = handed_sets::handed_kept(board, handed_case::handed_state(bytes), sets);
-    print_moved(
-        board,
-        given,
-        moves::move_relay(board, given, relay, allowance),
-    );
+    print_moved(board, given, moves::move_relay(board, given, relay));
 }

@@ -1,4 +1,4 @@
-// Buttons pushed and released. What is asked is the button; the fourth number is not used.
+// Buttons pushed and released. What is asked is the button.
 use crate::handed_case;
 use crate::handed_sets;
 use crate::print;

@@ -1,4 +1,4 @@
-// Runs. What is asked is the allowance and the length of the log that is lent.
+// Runs. What is asked is the length of the log that is lent.
 use crate::handed_case;
 use crate::handed_sets;
 use crate::print;
@@ -20,7 +20,6 @@ fn print_word(word: Ending) {
     match word {
         Ending::Idle => print::words(b"ran idle"),
         Ending::Spent => print::words(b"ran spent"),
-        Ending::Undecided => print::words(b"ran undecided"),
         Ending::Conflict => print::words(b"ran conflict"),
         Ending::Refused(refused) => print::call_refusal(b"ran refused ", refused),
     }
@@ -60,10 +59,9 @@ fn print_ran(ran: Ran) {
 
 // Runs a board over a lent log, and prints what it answers, what it logged and the sets that it left.
 fn run_over(sets: &[u8], bytes: &[u8], log: &mut [u8]) {
-    let allowance = handed_case::three_bytes_at(bytes, 6);
     let board = handed_case::handed_board(bytes);
     let given = handed_sets::handed_kept(board, handed_case::handed_state(bytes), sets);
-    let ran = runs::run(board, given, log, allowance);
+    let ran = runs::run(board, given, log);
     print_ran(ran);
     print_log(log, ran.moves);
     print_sets::print_sets(board, given, ran.kept);
@@ -71,7 +69,7 @@ fn run_over(sets: &[u8], bytes: &[u8], log: &mut [u8]) {
 
 // Runs a board over a log of the length that is asked.
 pub fn answer_run(sets: &[u8], bytes: &[u8]) {
-    let length = handed_case::three_bytes_at(bytes, 9) as usize;
+    let length = handed_case::three_bytes_at(bytes, 6) as usize;
     if LOG_ROOM < length {
         return print::words(b"bad case\n");
     }

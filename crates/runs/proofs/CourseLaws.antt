@@ -13,8 +13,7 @@ use Rattle.state.specs.declared.State.{State}
 use Rattle.state.specs.States.{isDrawn}
 use Rattle.kept.specs.declared.Kept.{Kept}
 use Rattle.moves.specs.Steps as step
-use Rattle.runs.specs.Looks.{Stepper, Ending, idle, spent, undecided, conflict, Look, makes, decides, byteOf}
-use Rattle.runs.specs.Looks.{lookFrom}
+use Rattle.runs.specs.Looks.{Stepper, Ending, idle, spent, conflict, Look, makes, decides, byteOf, lookFrom}
 use Rattle.runs.specs.Runs.{noRelay, Run, logged, runOf}
 use Rattle.runs.specs.Running.{Ran, ran}
 use Rattle.runs.proofs.LookLaws.{look-quiet, look-decides}
@@ -145,9 +144,6 @@ module _ {f : Stepper} {g : ℕ → Bool → step.Move} {k : ℕ} {log₀ log : 
 
     module _ {mv : step.Move} {q : ℕ} {d : Bool} (below : r < k) (number : q ≡ r) (drawn : d ≡ isDrawn (h₀ .state) q)
         (is : mv ≡ g r d) where
-      pub course-undecided : mv ≡ step.undecided → stopped undecided m h r log ≡ all
-      course-undecided e = ends-here undecided r (halted (decided below number drawn (sym e ∙ is)))
-
       pub course-conflict : mv ≡ step.conflict → stopped conflict m h r log ≡ all
       course-conflict e = ends-here conflict r (halted (decided below number drawn (sym e ∙ is)))
 

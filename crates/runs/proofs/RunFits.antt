@@ -17,7 +17,7 @@ use Rattle.runs.proofs.RunLaws.{RunGoes, stops, moved, run-goes}
 
 abbrev MovesBelow : ℕ → Look → Type 0
 MovesBelow k quiet = Unit {0}
-MovesBelow k (halts e r) = Unit {0}
+MovesBelow k (halts r) = Unit {0}
 MovesBelow k (makes m r) = r < k
 
 decides-below : (k : ℕ) (m : step.Move) (r : ℕ) (next : Look) → r < k → MovesBelow k next
@@ -25,7 +25,6 @@ decides-below : (k : ℕ) (m : step.Move) (r : ℕ) (next : Look) → r < k → 
 decides-below k step.drew r next here later = here
 decides-below k step.dropped r next here later = here
 decides-below k step.rests r next here later = later
-decides-below k step.undecided r next here later = tt
 decides-below k step.conflict r next here later = tt
 
 look-below : (f : Stepper) (s : State) (k n r : ℕ) → r + n ≤ k → MovesBelow k (lookFrom f s n r)

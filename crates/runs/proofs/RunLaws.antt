@@ -6,15 +6,16 @@ use mathlib.Core.Path.{_≡_, refl, ap}
 use lib.ListN.{length}
 use Rattle.state.specs.declared.State.{State}
 use Rattle.moves.specs.Steps.{Move, made}
-use Rattle.runs.specs.Looks.{Stepper, Ending, idle, spent, Look, quiet, halts, makes, byteOf, lookFrom}
+use Rattle.runs.specs.Looks.{Stepper, Ending, idle, spent, conflict, Look, quiet, halts, makes, byteOf}
+use Rattle.runs.specs.Looks.{lookFrom}
 use Rattle.runs.specs.Runs.{noRelay, Run, ends, settle, logged, runOf}
 
 -- a run in a state, with room for so many moves, stops there: with this word, by this relay
 pub data RunStops (f : Stepper) (k : ℕ) : ℕ → State → Ending → ℕ → Type 0 where
   -- every relay rests
   rested : {n : ℕ} {s : State} → lookFrom f s k 0 ≡ quiet → RunStops f k n s idle noRelay
-  -- a relay is undecided or in conflict
-  halted : {n : ℕ} {s : State} {e : Ending} {r : ℕ} → lookFrom f s k 0 ≡ halts e r → RunStops f k n s e r
+  -- a relay is in conflict
+  halted : {n : ℕ} {s : State} {r : ℕ} → lookFrom f s k 0 ≡ halts r → RunStops f k n s conflict r
   -- a move finds the log full
   filled : {s : State} {r : ℕ} (m : Move) → lookFrom f s k 0 ≡ makes m r → RunStops f k zero s spent r
 
@@ -29,7 +30,7 @@ module _ (f : Stepper) (k : ℕ) where
   turn-goes : (n : ℕ) (s : State) (go : Move → ℕ → Run) (l : Look) → lookFrom f s k 0 ≡ l
       → ((m : Move) (r : ℕ) → l ≡ makes m r → RunGoes f k n s (go m r)) → RunGoes f k n s (settle l s go)
   turn-goes n s go quiet e on = stops (rested e)
-  turn-goes n s go (halts w r) e on = stops (halted e)
+  turn-goes n s go (halts r) e on = stops (halted e)
   turn-goes n s go (makes m r) e on = on m r refl
 
   pub run-goes : (n : ℕ) (s : State) → RunGoes f k n s (runOf f k n s)

@@ -16,9 +16,9 @@ use Rattle.kept.specs.declared.Kept.{Kept}
 use Rattle.kept.specs.Kept.{keptAt, usableLines, usable}
 use Rattle.kept.proofs.KeptLaws.{usable-lines}
 use Rattle.runs.specs.declared.Ending as code-ending
-use Rattle.runs.specs.declared.Ending.the-variants.{Idle, Spent, Undecided, Conflict, Refused}
+use Rattle.runs.specs.declared.Ending.the-variants.{Idle, Spent, Conflict, Refused}
 use Rattle.runs.specs.declared.Ran.{Ran}
-use Rattle.runs.specs.Looks.{Ending, idle, spent, undecided, conflict}
+use Rattle.runs.specs.Looks.{Ending, idle, spent, conflict}
 use Rattle.runs.specs.Running as told
 use Rattle.runs.specs.Running.{longestLog, runnable, ran, unrun, ranOver, running, toldEnding, toldRan}
 
@@ -37,19 +37,19 @@ module _ (b : Board) (h : Kept) (log : List ℕ) where
   runnable-given taken = all-hold (usableLines b h) _ taken .0
 
   -- what the call tells goes by what stands against it
-  pub running-by : (w : ℕ) (o : Outcome (Unit {0})) → runnable b h log ≡ o
-      → answering o (λ n p. unrun n p h log) (λ u. ranOver b h log) ≡ running b h log w
+  pub running-by : (o : Outcome (Unit {0})) → runnable b h log ≡ o
+      → answering o (λ n p. unrun n p h log) (λ u. ranOver b h log) ≡ running b h log
   unfolding running
-  running-by w o e = rw e refl
+  running-by o e = rw e refl
 
   -- sets that belong to the state given belong to the state left
-  pub running-kept : (w : ℕ) → h ≡ keptAt b (h .state) → LeavesOwn b (running b h log w)
+  pub running-kept : h ≡ keptAt b (h .state) → LeavesOwn b (running b h log)
   unfolding ran
-  running-kept w own = by (runnable b h log) refl
+  running-kept own = by (runnable b h log) refl
     where
-      by : (o : Outcome (Unit {0})) → runnable b h log ≡ o → LeavesOwn b (running b h log w)
-      by (given u) taken = subst (LeavesOwn b) (running-by w (given u) taken) refl
-      by (refused n p) off = subst (LeavesOwn b) (running-by w (refused n p) off) own
+      by : (o : Outcome (Unit {0})) → runnable b h log ≡ o → LeavesOwn b (running b h log)
+      by (given u) taken = subst (LeavesOwn b) (running-by (given u) taken) refl
+      by (refused n p) off = subst (LeavesOwn b) (running-by (refused n p) off) own
 
   -- ---- for the proof of `run`
 
@@ -60,14 +60,14 @@ module _ (b : Board) (h : Kept) (log : List ℕ) where
   runnable-asked first second = sym (asks-then (usableLines b h) logTooLong first refl second)
 
   -- a refused run tells the same over every log
-  pub running-refused : (w : ℕ) (r : Ran) (n p : ℕ) → toldRan r [] ≡ unrun n p h [] → runnable b h log ≡ refused n p
-      → toldRan r log ≡ running b h log w
-  running-refused w r n p e refuses =
+  pub running-refused : (r : Ran) (n p : ℕ) → toldRan r [] ≡ unrun n p h [] → runnable b h log ≡ refused n p
+      → toldRan r log ≡ running b h log
+  running-refused r n p e refuses =
       (λ i. record { word = e i .word; moves = e i .moves; kept = e i .kept; relay = e i .relay; log = log })
-      ∙ running-by w (refused n p) refuses
+      ∙ running-by (refused n p) refuses
 
-  pub running-ran : (w : ℕ) (x : told.Ran) → x ≡ ranOver b h log → runnable b h log ≡ given tt → x ≡ running b h log w
-  running-ran w x is taken = is ∙ running-by w (given tt) taken
+  pub running-ran : (x : told.Ran) → x ≡ ranOver b h log → runnable b h log ≡ given tt → x ≡ running b h log
+  running-ran x is taken = is ∙ running-by (given tt) taken
 
 -- ---- answers and what they tell
 
@@ -77,21 +77,18 @@ ending-told = record { untold = untold; back = back; onto = onto }
     untold : Outcome Ending → code-ending.Ending
     untold (given idle) = Idle
     untold (given spent) = Spent
-    untold (given undecided) = Undecided
     untold (given conflict) = Conflict
     untold (refused n p) = Refused (record { number = n; place = p })
 
     back : (x : code-ending.Ending) → untold (toldEnding x) ≡ x
     back Idle = refl
     back Spent = refl
-    back Undecided = refl
     back Conflict = refl
     back (Refused r) = refl
 
     onto : (y : Outcome Ending) → toldEnding (untold y) ≡ y
     onto (given idle) = refl
     onto (given spent) = refl
-    onto (given undecided) = refl
     onto (given conflict) = refl
     onto (refused n p) = refl
 

@@ -22,7 +22,7 @@ use Rattle.judge.specs.RelayWindings.{toldWindings, FindsAllWindings}
 use Rattle.judge.proofs.AllLaws.{windings-place}
 use Rattle.moves.proofs.Move.{the-type}
 use Rattle.moves.specs.declared.Move as code-move
-use Rattle.moves.specs.declared.Move.the-variants.{Drew, Dropped, Rests, Undecided, Conflict}
+use Rattle.moves.specs.declared.Move.the-variants.{Drew, Dropped, Rests, Conflict}
 use Rattle.moves.specs.Steps as step
 use Rattle.moves.specs.Steps.{moveBy, stepOf, toldMove}
 use Rattle.moves.proofs.StepLaws.{step-by, step-worked}
@@ -55,5 +55,4 @@ pub told-moving : (m : code-move.Move) → (tagOf the-type m ≡ 0) ⊎ (tagOf t
 told-moving Drew e = λ r next. refl
 told-moving Dropped e = λ r next. refl
 told-moving Rests e = absurd (omega (arith, first-two 2 e))
-told-moving Undecided e = absurd (omega (arith, first-two 3 e))
-told-moving Conflict e = absurd (omega (arith, first-two 4 e))
+told-moving Conflict e = absurd (omega (arith, first-two 3 e))

@@ -1,9 +1,9 @@
 -- A look at the relays. Rule book: "A run looks at the relays from 0 up; the first that doesn't rest decides. None: the
--- run is idle. Undecided or conflict: it stops with that word. A move: .."
+-- run is idle. .. conflict: it stops with that word. A move: .."; none is undecided (request A7).
 --     Stepper             what each relay comes to in each state. A run goes by this alone, whatever is below it
---     Ending              the words that a run ends with; on a board's own steps it is never undecided (request A6)
---     Look                what a look comes to: quiet, every relay rests; halts e r, relay r stops the run with the
---                         word e; makes m r, relay r makes the move m
+--     Ending              the words that a run ends with
+--     Look                what a look comes to: quiet, every relay rests; halts r, relay r is in conflict; makes m r,
+--                         relay r makes the move m
 --     drawMark            128
 --     byteOf r m          "Each log byte is the relay number, plus 128 for a draw"
 --     decides m r next    relay r came to m; where it rests, the next relays decide
@@ -16,11 +16,11 @@ abbrev pub Stepper : Type 0
 Stepper = State → ℕ → step.Move
 
 pub data Ending : Type 0 where
-  idle spent undecided conflict : Ending
+  idle spent conflict : Ending
 
 pub data Look : Type 0 where
   quiet : Look
-  halts : Ending → ℕ → Look
+  halts : ℕ → Look
   makes : step.Move → ℕ → Look
 
 abbrev pub drawMark : ℕ
@@ -30,13 +30,11 @@ abbrev pub byteOf : ℕ → step.Move → ℕ
 byteOf r step.drew = r + drawMark
 byteOf r step.dropped = r
 byteOf r step.rests = r
-byteOf r step.undecided = r
 byteOf r step.conflict = r
 
 abbrev pub decides : step.Move → ℕ → Look → Look
 decides step.rests r next = next
-decides step.undecided r next = halts undecided r
-decides step.conflict r next = halts conflict r
+decides step.conflict r next = halts r
 decides step.drew r next = makes step.drew r
 decides step.dropped r next = makes step.dropped r
 

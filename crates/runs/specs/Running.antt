@@ -11,10 +11,9 @@
 --     unrun n p h log        what a refused run tells
 --     runOn b n s            the run of the board's relays from state s, with room for n moves
 --     ranOver b h log        what a run that is not refused tells
---     running b h log w      the call. The allowance w is not heeded: "Runs and single moves use the new judge"
+--     running b h log        the call
 --     toldEnding, toldRan    the answer's cases in the rule book's words and numbers
---     Runs b h log w a l     promise: `run` of board b from h over the lent log, with the allowance w, answers a and
---                            leaves the log as l
+--     Runs b h log a l       promise: `run` of board b from h over the lent log answers a and leaves the log as l
 use Prim.Native.Nat.{ℕ}
 use mathlib.Core.Path.{_≡_}
 use mathlib.Core.List.{List, [], _∷_, _++_}
@@ -31,7 +30,7 @@ use Rattle.moves.specs.Steps.{stepOf}
 use Rattle.runs.specs.declared.Ending as code-ending
 use Rattle.runs.specs.declared.Ending.the-variants as said
 use Rattle.runs.specs.declared.Ran as code-ran
-use Rattle.runs.specs.Looks.{Ending, idle, spent, undecided, conflict}
+use Rattle.runs.specs.Looks.{Ending, idle, spent, conflict}
 use Rattle.runs.specs.Runs.{Run, noRelay, runOf}
 
 abbrev pub longestLog : ℕ
@@ -69,13 +68,12 @@ runOn b n s = runOf (stepOf b) (b .counts .relays) n s
 abbrev pub ranOver : Board → Kept → List ℕ → Ran
 ranOver b h log = ran (keptAt b) (runOn b (length log) (h .state)) log
 
-unfoldable pub running : Board → Kept → List ℕ → ℕ → Ran
-running b h log w = answering (runnable b h log) (λ n p. unrun n p h log) (λ u. ranOver b h log)
+unfoldable pub running : Board → Kept → List ℕ → Ran
+running b h log = answering (runnable b h log) (λ n p. unrun n p h log) (λ u. ranOver b h log)
 
 abbrev pub toldEnding : code-ending.Ending → Outcome Ending
 toldEnding said.Idle = given idle
 toldEnding said.Spent = given spent
-toldEnding said.Undecided = given undecided
 toldEnding said.Conflict = given conflict
 toldEnding (said.Refused r) = refused (r .number) (r .place)
 
@@ -83,5 +81,5 @@ toldEnding (said.Refused r) = refused (r .number) (r .place)
 abbrev pub toldRan : code-ran.Ran → List ℕ → Ran
 toldRan r l = record { word = toldEnding (r .word); moves = r .moves; kept = r .kept; relay = r .relay; log = l }
 
-abbrev pub Runs : Board → Kept → List ℕ → ℕ → code-ran.Ran → List ℕ → Type 0
-Runs b h log w a l = toldRan a l ≡ running b h log w
+abbrev pub Runs : Board → Kept → List ℕ → code-ran.Ran → List ℕ → Type 0
+Runs b h log a l = toldRan a l ≡ running b h log

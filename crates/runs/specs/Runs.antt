@@ -1,6 +1,6 @@
--- A run, on relays that move as the stepper f says. Rule book: "None: the run is idle. Undecided or conflict: it stops
--- with that word. A move: if the lent log is full the run is spent, otherwise the move is made and logged and the run
--- looks again from 0. The log's length is the move allowance."
+-- A run, on relays that move as the stepper f says. Rule book: "None: the run is idle. .. conflict: it stops with that
+-- word. A move: if the lent log is full the run is spent, otherwise the move is made and logged and the run looks again
+-- from 0. The log's length is the move allowance."
 --     noRelay          255
 --     Run              the word, the log bytes of the moves made, the state, and "the relay that stopped it (255
 --                      for idle)"
@@ -13,7 +13,8 @@ use Prim.Native.Nat.{ℕ, zero, suc}
 use mathlib.Core.List.{List, [], _∷_}
 use Rattle.state.specs.declared.State.{State}
 use Rattle.moves.specs.Steps.{Move, made}
-use Rattle.runs.specs.Looks.{Stepper, Ending, idle, spent, Look, quiet, halts, makes, byteOf, lookFrom}
+use Rattle.runs.specs.Looks.{Stepper, Ending, idle, spent, conflict, Look, quiet, halts, makes, byteOf}
+use Rattle.runs.specs.Looks.{lookFrom}
 
 abbrev pub noRelay : ℕ
 noRelay = 255
@@ -29,7 +30,7 @@ ends e s r = record { word = e; bytes = []; state = s; relay = r }
 
 abbrev pub settle : Look → State → (Move → ℕ → Run) → Run
 settle quiet s go = ends idle s noRelay
-settle (halts e r) s go = ends e s r
+settle (halts r) s go = ends conflict s r
 settle (makes m r) s go = go m r
 
 abbrev pub turn : Stepper → ℕ → State → (Move → ℕ → Run) → Run

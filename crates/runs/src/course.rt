@@ -28,7 +28,6 @@ fn byte(relay: u8, motion: Move) -> u8
         Move::Drew => relay + DRAW_MARK,
         Move::Dropped => relay,
         Move::Rests => relay,
-        Move::Undecided => relay,
         Move::Conflict => relay,
     }
 }
@@ -58,7 +57,6 @@ pub fn follow(board: Board, start: Kept, log: &mut [u8]) -> Ran
             let motion = moves::step(feed.served, &feed.linked, windings[relay as usize], drawn);
             match motion {
                 Move::Rests => relay += 1,
-                Move::Undecided => break 'run Stop(Ending::Undecided, relay),
                 Move::Conflict => break 'run Stop(Ending::Conflict, relay),
                 Move::Drew | Move::Dropped => {
                     if log.len() <= moves {

@@ -1,5 +1,5 @@
 // A run of a board over a lent log: the relays are looked at from 0 up, the first that can move is moved, and so on
-// until all rest, one is in conflict, or a move finds the log full. None is ever undecided (request A6).
+// until all rest, one is in conflict, or a move finds the log full.
 ghost use mathlib.Core.Path.{_≡_};
 ghost use mathlib.Core.List.{[]};
 ghost use Rattle.runs.specs.Running.{unrun, toldRan, Runs};
@@ -21,7 +21,6 @@ pub const NO_RELAY: u8 = 255;
 pub enum Ending {
     Idle,
     Spent,
-    Undecided,
     Conflict,
     Refused(Refusal),
 }
@@ -46,9 +45,9 @@ fn refuse(kept: Kept, refusal: Refusal) -> Ran
     }
 }
 
-// Runs a board from this state, and logs each move. The allowance is not heeded.
-pub fn run(board: Board, kept: Kept, log: &mut [u8], allowance: u32) -> Ran
-    ensures { λ r. ⌜ Runs board kept (now (log .entry)) allowance r (now (log .exit)) ⌝ }
+// Runs a board from this state, and logs each move.
+pub fn run(board: Board, kept: Kept, log: &mut [u8]) -> Ran
+    ensures { λ r. ⌜ Runs board kept (now (log .entry)) r (now (log .exit)) ⌝ }
 {
     let usable = kept::usable(board, kept);
     let against = usable.unless(log.len() <= LONGEST_LOG, LOG_TOO_LONG);

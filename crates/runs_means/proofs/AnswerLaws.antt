@@ -17,9 +17,9 @@ use Rattle.runs.proofs.RunningLaws.{running-by, ran-told}
 use Rattle.runs_means.specs.LongerRuns.{AcceptedRun, movesOf}
 
 -- a call that is not refused tells of the run
-pub accepted-ran : (b : Board) (h : Kept) (w : ℕ) (log : List ℕ) (a : Ran) (l : List ℕ) → Runs b h log w a l
+pub accepted-ran : (b : Board) (h : Kept) (log : List ℕ) (a : Ran) (l : List ℕ) → Runs b h log a l
     → AcceptedRun b h log → toldRan a l ≡ ran (keptAt b) (runOn b (length log) (h .state)) log
-accepted-ran b h w log a l told taken = told ∙ sym (running-by b h log w (given tt) taken)
+accepted-ran b h log a l told taken = told ∙ sym (running-by b h log (given tt) taken)
 
 module _ (keep : State → Kept) (a : Ran) (l : List ℕ) (x : Run) (log : List ℕ)
     (told : toldRan a l ≡ ran keep x log) where

@@ -1,12 +1,12 @@
 -- The theorem of specs/Courses.antt: what an accepted run tells is what the run says.
 use Prim.Native.Nat.{ℕ, _≤_}
 use native.Mathlib.Omega.{arith}
-use mathlib.Core.Path.{_≡_, refl, sym, ap, subst, _∙_}
+use mathlib.Core.Path.{_≡_, sym, ap, subst, _∙_}
 use mathlib.Core.List.{List}
 use lib.ListN.{length, drop}
 use lib.Seq.{drop-append-seam}
-use Rattle.refusals.specs.Outcomes.{Outcome, given, refused}
-use Rattle.refusals.proofs.OutcomeLaws.{refused-never, given-injective}
+use Rattle.refusals.specs.Outcomes.{given}
+use Rattle.refusals.proofs.OutcomeLaws.{given-injective}
 use Rattle.board.specs.declared.Board.{Board}
 use Rattle.state.specs.declared.State.{State}
 use Rattle.kept.specs.declared.Kept.{Kept}
@@ -14,15 +14,14 @@ use Rattle.kept.specs.Kept.{keptAt}
 use Rattle.kept.proofs.KeptLaws.{kept-sets, usable-given}
 use Rattle.moves.specs.Steps.{stepOf}
 use Rattle.runs.specs.declared.Ran.{Ran}
-use Rattle.runs.specs.Looks.{Ending, idle, undecided}
+use Rattle.runs.specs.Looks.{Ending, idle}
 use Rattle.runs.specs.Runs.{Run}
-use Rattle.runs.specs.Running as told
-use Rattle.runs.specs.Running.{runnable, ran, toldEnding, toldRan, runOn}
+use Rattle.runs.specs.Running.{ran, toldEnding, toldRan, runOn}
 use Rattle.runs.proofs.RunLaws.{run-goes, goes-room}
-use Rattle.runs.proofs.RunningLaws.{runnable-given, running-by}
+use Rattle.runs.proofs.RunningLaws.{runnable-given}
 use Rattle.runs_means.proofs.AnswerLaws.{accepted-ran, answer-word, answer-moves, answer-kept, answer-relay}
 use Rattle.runs_means.proofs.AnswerLaws.{answer-bytes, answer-log}
-use Rattle.runs_means.specs.Courses.{Ended, RunMeans, RunExactly, RunDecided}
+use Rattle.runs_means.specs.Courses.{Ended, RunMeans, RunExactly}
 use Rattle.runs_means.proofs.RunMeans.{Says, run-says, ended-exclusive}
 
 -- an answer a that tells of the run x means what x says
@@ -67,17 +66,7 @@ module _ (b : Board) (s : State) (log : List ℕ) (a : Ran) (l : List ℕ) (x : 
       }
 
 pub run-exactly : RunExactly
-run-exactly b h w log a l told taken =
-    says-means b (h .state) log a l (runOn b (length log) (h .state)) (accepted-ran b h w log a l told taken)
+run-exactly b h log a l told taken =
+    says-means b (h .state) log a l (runOn b (length log) (h .state)) (accepted-ran b h log a l told taken)
     (run-says b (usable-given b h (runnable-given b h log taken) .0) (length log) (h .state))
     (goes-room (run-goes (stepOf b) (b .counts .relays) (length log) (h .state)))
-
-pub run-decided : RunDecided
-run-decided b h w log a l tells says = by (runnable b h log) refl
-  where
-    by : (o : Outcome (Unit {0})) → runnable b h log ≡ o → ⊥
-    by (given u) taken = run-exactly b h w log a l tells taken .ended undecided .0 says
-    by (refused n p) off =
-        refused-never n p undecided
-        (ap (λ (x : told.Ran). x .word) (running-by b h log w (refused n p) off) ∙ sym
-        (ap (λ (x : told.Ran). x .word) tells) ∙ says)

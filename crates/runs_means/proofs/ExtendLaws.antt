@@ -5,7 +5,7 @@ use native.Mathlib.Omega.{arith}
 use mathlib.Core.Path.{_≡_, refl, sym, ap, _∙_}
 use mathlib.Core.List.{[], _∷_, append-nil}
 use Rattle.state.specs.declared.State.{State}
-use Rattle.runs.specs.Looks.{Stepper, Ending, idle, spent, undecided, conflict, byteOf}
+use Rattle.runs.specs.Looks.{Stepper, Ending, idle, spent, conflict, byteOf}
 use Rattle.runs.specs.Runs.{Run, ends, logged, runOf}
 use Rattle.runs.proofs.RunLaws.{RunStops, rested, halted, filled, RunGoes, stops, moved, run-goes, goes-run}
 use Rattle.runs_means.specs.LongerRuns.{IsStart}
@@ -15,7 +15,6 @@ abbrev pub Final : Ending → Type 0
 Final idle = Unit {0}
 Final conflict = Unit {0}
 Final spent = ⊥
-Final undecided = ⊥
 
 -- the run y starts with every move of x, and is the same run where x's word is final
 pub record GoesOn (x y : Run) : Type 0 where
@@ -23,14 +22,6 @@ pub record GoesOn (x y : Run) : Type 0 where
   pub stands : Final (x .word) → y ≡ x
 
 -- ---- a run
-
--- a run that ends with no move made and no final word
-goes-on-unfinal : (x y : Run) (e : Ending) (s : State) (r : ℕ) → x ≡ ends e s r → (Final e → ⊥) → GoesOn x y
-goes-on-unfinal x y e s r is never =
-    record {
-      starts = record { rest = y .bytes; whole = rw is refl };
-      stands = λ final. absurd (never (rw is at final));
-    }
 
 goes-on-same : (x y : Run) → y ≡ x → GoesOn x y
 goes-on-same x y same =
@@ -53,7 +44,7 @@ module _ (f : Stepper) (k : ℕ) where
       → GoesOn (ends e s r) (runOf f k m s)
   goes-on-stops (rested e) m = goes-on-same _ _ (goes-run (stops (rested e)))
   goes-on-stops (halted e) m = goes-on-same _ _ (goes-run (stops (halted e)))
-  goes-on-stops (filled mv e) m = goes-on-unfinal _ _ spent _ _ refl (λ never. never)
+  goes-on-stops (filled mv e) m = record { starts = record { rest = _; whole = refl }; stands = λ never. absurd never }
 
   goes-on : {n : ℕ} {s : State} {x : Run} → RunGoes f k n s x → (m : ℕ) → n ≤ m → GoesOn x (runOf f k m s)
   goes-on (stops why) m more = goes-on-stops why m

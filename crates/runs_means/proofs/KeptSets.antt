@@ -20,7 +20,7 @@ use Rattle.kept.proofs.Eighteen.{kept-join}
 use Rattle.kept.proofs.OnlyEnds.{only-ends}
 use Rattle.presses.specs.Presses.{pushing, releasing}
 use Rattle.presses.proofs.PressLaws.{pushed-kept, released-kept}
-use Rattle.moves.specs.Steps.{Move, drew, dropped, rests, undecided, conflict, keptMade, toldMove}
+use Rattle.moves.specs.Steps.{Move, drew, dropped, rests, conflict, keptMade, toldMove}
 use Rattle.moves.specs.Moving.{movable, moving}
 use Rattle.moves.proofs.StepLaws.{kept-made}
 use Rattle.moves.proofs.MovingLaws.{movable-kept}
@@ -52,12 +52,11 @@ module _ (b : Board) (h : Kept) (r : ℕ) where
   made-else drew = only-ends h b (Relay r) (withDrawn (h .state) r) _ refl
   made-else dropped = only-ends h b (Relay r) (withDropped (h .state) r) _ refl
   made-else rests = else-same b (Relay r) h
-  made-else undecided = else-same b (Relay r) h
   made-else conflict = else-same b (Relay r) h
 
-  moving-else : (w : ℕ) → ElseSets b (Relay r) h (moving b h r w .0)
+  moving-else : ElseSets b (Relay r) h (moving b h r .0)
   unfolding moving
-  moving-else w =
+  moving-else =
       left-either (ElseSets b (Relay r) h) h _ _ (else-same b (Relay r) h)
       (λ m taken. subst (ElseSets b (Relay r) h)
       (kept-made b h r m (movable-kept b h r (both-given (movable b h r) _ m taken .0))) (made-else m))
@@ -67,7 +66,7 @@ only-at-ends = record {
   pushed = λ b h n x press. subst (λ y. ElseSets b (Button n) h (y .0)) (sym press) (pushing-else b h n);
   released = λ b h n x press. subst (λ y. ElseSets b (Button n) h (y .0)) (sym press) (releasing-else b h n);
   after = λ b h r m t after. subst (ElseSets b (Relay r) h) (sym after) (made-else b h r (toldMove m));
-  moved = λ b h r w a moves. subst (λ y. ElseSets b (Relay r) h (y .0)) (sym moves) (moving-else b h r w);
+  moved = λ b h r a moves. subst (λ y. ElseSets b (Relay r) h (y .0)) (sym moves) (moving-else b h r);
 }
 
 -- ---- sets that belong belong after a call, and so after any calls
@@ -84,19 +83,19 @@ module _ (b : Board) (h : Kept) (own : Own b h) where
   unfolding releasing
   releasing-own n = left-either (Own b) h _ _ own (λ u taken. refl)
 
-  moving-own : (r w : ℕ) → Own b (moving b h r w .0)
+  moving-own : (r : ℕ) → Own b (moving b h r .0)
   unfolding moving
-  moving-own r w = left-either (Own b) h _ _ own (λ m taken. refl)
+  moving-own r = left-either (Own b) h _ _ own (λ m taken. refl)
 
   call-own : (k : Keeping) (t : Kept) → Leaves b h k t → Own b t
   call-own (push n) t (x, press, is) =
       subst (Own b) (sym (ap (λ y. y .0) press) ∙ is) (pushing-own n)
   call-own (release n) t (x, press, is) =
       subst (Own b) (sym (ap (λ y. y .0) press) ∙ is) (releasing-own n)
-  call-own (move r w) t (a, moves, is) =
-      subst (Own b) (sym (ap (λ y. y .0) moves) ∙ is) (moving-own r w)
-  call-own (run log w) t (a, l, runs, is) =
-      subst (Own b) (sym (ap (λ (y : told.Ran). y .kept) runs) ∙ is) (running-kept b h log w own)
+  call-own (move r) t (a, moves, is) =
+      subst (Own b) (sym (ap (λ y. y .0) moves) ∙ is) (moving-own r)
+  call-own (run log) t (a, l, runs, is) =
+      subst (Own b) (sym (ap (λ (y : told.Ran). y .kept) runs) ∙ is) (running-kept b h log own)
 
 through-own : (b : Board) (h : Kept) (ks : List Keeping) (t : Kept) → Own b h → Through b h ks t → Own b t
 unfolding Through

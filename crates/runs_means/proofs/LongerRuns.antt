@@ -1,5 +1,4 @@
--- The theorem of specs/LongerRuns.antt: no step goes by the allowance, so the run with more room goes on from the
--- other, and the two answers tell it.
+-- The theorem of specs/LongerRuns.antt: the run with more room goes on from the other, and the two answers tell it.
 use Prim.Native.Nat.{ℕ}
 use mathlib.Core.Path.{_≡_, sym, ap, _∙_}
 use mathlib.Core.Logic.{inl, inr}
@@ -39,8 +38,8 @@ answer-extends keep a c l k x y log long told also on =
     }
 
 pub longer-run : LongerRun
-longer-run b h w x log long a c l k told also taken accepted more room =
+longer-run b h log long a c l k told also taken accepted room =
     answer-extends (keptAt b) a c l k _ _ log long
-    (accepted-ran b h w log a l told taken)
-    (accepted-ran b h x long c k also accepted)
+    (accepted-ran b h log a l told taken)
+    (accepted-ran b h long c k also accepted)
     (run-goes-on (stepOf b) (b .counts .relays) (length log) (length long) (h .state) room)

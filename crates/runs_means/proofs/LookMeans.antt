@@ -14,13 +14,13 @@ use Rattle.state.specs.declared.State.{State}
 use Rattle.moves.specs.Steps as step
 use Rattle.moves_means.specs.SingleMoves.{Comes}
 use Rattle.moves_means.proofs.SingleMoves.{step-means}
-use Rattle.runs.specs.Looks.{Look, quiet, halts, makes, conflict, decides, lookFrom}
+use Rattle.runs.specs.Looks.{Look, quiet, halts, makes, decides, lookFrom}
 use Rattle.runs.proofs.LookLaws.{look-quiet, look-decides}
 use Rattle.runs_means.specs.Courses.{Resting, StoppedBy}
 
 abbrev pub LookMeans : Board → State → Look → Type 0
 LookMeans b s quiet = Resting b s (b .counts .relays)
-LookMeans b s (halts e r) = (e ≡ conflict) × StoppedBy b s r step.conflict
+LookMeans b s (halts r) = StoppedBy b s r step.conflict
 LookMeans b s (makes m r) =
     ((m ≡ step.drew) × StoppedBy b s r step.drew) ⊎ ((m ≡ step.dropped) × StoppedBy b s r step.dropped)
 
@@ -46,8 +46,7 @@ module _ (b : Board) (s : State) where
   decides-means step.drew r next below rest here later = inl (refl, (below, rest, here))
   decides-means step.dropped r next below rest here later = inr (refl, (below, rest, here))
   decides-means step.rests r next below rest here later = later (resting-more r rest here)
-  decides-means step.undecided r next below rest here later = absurd here
-  decides-means step.conflict r next below rest here later = (refl, (below, rest, here))
+  decides-means step.conflict r next below rest here later = (below, rest, here)
 
   module _ (fine : boardFine b ≡ true) where
     -- n relays are left to look at

@@ -12,7 +12,7 @@ use Rattle.moves.specs.Steps as step
 use Rattle.moves_means.specs.SingleMoves.{Comes}
 use Rattle.moves_means.proofs.ComesLaws.{comes-exclusive}
 use Rattle.moves_means.proofs.OneRelay.{made-else}
-use Rattle.runs.specs.Looks.{Ending, idle, spent, undecided, conflict, Look, quiet, halts, makes, byteOf, lookFrom}
+use Rattle.runs.specs.Looks.{Ending, idle, spent, conflict, Look, quiet, halts, makes, byteOf, lookFrom}
 use Rattle.runs.specs.Runs.{Run, ends, logged, runOf}
 use Rattle.runs.proofs.RunLaws.{RunStops, rested, halted, filled, RunGoes, stops, moved, run-goes}
 use Rattle.runs_means.specs.Courses.{AllowedMove, LowestMove, Follows, Resting, StoppedBy, Ended}
@@ -59,9 +59,6 @@ module _ (b : Board) where
   unfolding Follows
   says-ends n s e r h = record { follows = refl; ended = h }
 
-  halts-ended : (n : ℕ) (s : State) (e : Ending) (r : ℕ) → LookMeans b s (halts e r) → Ended b n 0 s r e
-  halts-ended n s e r (is, stopped) = rw is stopped
-
   full-ended : (s : State) (m : step.Move) (r : ℕ) → LookMeans b s (makes m r) → Ended b 0 0 s r spent
   full-ended s m r (inl (is, stopped)) = (refl, inl stopped)
   full-ended s m r (inr (is, stopped)) = (refl, inr stopped)
@@ -70,7 +67,6 @@ module _ (b : Board) where
   ended-more : (n k : ℕ) (s : State) (r : ℕ) (e : Ending) → Ended b n k s r e → Ended b (suc n) (suc k) s r e
   ended-more n k s r idle h = h
   ended-more n k s r spent h = (ap suc (h .0), h .1)
-  ended-more n k s r undecided h = h
   ended-more n k s r conflict h = h
 
   says-logged : (n : ℕ) (s : State) (c : ℕ) (t : State) (x : Run) → LowestMove b s c t → Says n t x
@@ -89,7 +85,7 @@ module _ (b : Board) where
     stops-ended : {n : ℕ} {s : State} {h : Ending} {r : ℕ} → RunStops (step.stepOf b) (b .counts .relays) n s h r
         → Ended b n 0 s r h
     stops-ended (rested {s = s} e) = (refl, means s quiet e)
-    stops-ended (halted {n = n} {s = s} {e = h} {r = r} e) = halts-ended n s h r (means s (halts h r) e)
+    stops-ended (halted {s = s} {r = r} e) = means s (halts r) e
     stops-ended (filled {s = s} {r = r} m e) = full-ended s m r (means s (makes m r) e)
 
     goes-says : {n : ℕ} {s : State} {x : Run} → RunGoes (step.stepOf b) (b .counts .relays) n s x → Says n s x
@@ -107,7 +103,6 @@ module _ (b : Board) where
   wordBy step.drew = spent
   wordBy step.dropped = spent
   wordBy step.rests = idle
-  wordBy step.undecided = undecided
   wordBy step.conflict = conflict
 
   record Stopped (s : State) (r : ℕ) (e : Ending) : Type 0 where
@@ -121,7 +116,6 @@ module _ (b : Board) where
   ended-by n k s r spent h =
       inr (⊎-elim (λ x. record { move = step.drew; by = x; says = refl })
       (λ x. record { move = step.dropped; by = x; says = refl }) (h .1))
-  ended-by n k s r undecided h = absurd h
   ended-by n k s r conflict h = inr (record { move = step.conflict; by = h; says = refl })
 
   -- where all rest, what a relay came to is that it rests

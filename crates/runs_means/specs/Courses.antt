@@ -1,5 +1,5 @@
 -- What a run means, over the call `runs::run`, whatever it answers under its promise: its moves, in the words of
--- documents 000 and 002, and what each of its words says exactly. No allowance bears on it (request A6).
+-- documents 000 and 002, and what each of its words says exactly.
 --     Resting b s k           each relay below k rests in state s: no guard holds of it, and there is not current
 --                             through both its windings
 --     StoppedBy b s r m       relay r is the first that does not rest in state s, and it comes to m
@@ -11,14 +11,12 @@
 --                             lower relay rests. So of no lower relay does a guard hold
 --     Follows b s cs t        the moves logged as cs lead from state s to state t, one after the other
 --     Ended b n m s r e       what the word e says, of a run with room for n moves that made m of them and stopped in
---                             state s at relay r. Spent: a further move was possible when the log was full. Undecided
---                             is never said
+--                             state s at relay r. Spent: a further move was possible when the log was full
 --     RunMeans, RunExactly    of a run that is not refused: the moves it made, as many as it says and as the log has
 --                             room for, follow one another from the state given to the state it answers with, and the
 --                             log beyond them is as it was; its word is e exactly if `Ended` holds of e; and a run that
 --                             ends idle leaves the board stable, as document 000 has it; and it hands back the sets of
 --                             the state that it answers with (request A5)
---     RunDecided              no run ends undecided, whatever it is given
 use Prim.Native.Nat.{ℕ, _+_, _<_, _≤_}
 use mathlib.Core.Path.{_≡_}
 use mathlib.Core.Logic.{_⊎_, _↔_}
@@ -35,7 +33,7 @@ use Rattle.moves_means.specs.Guards.{CanDraw, CanDrop, Stable}
 use Rattle.moves_means.specs.SingleMoves.{Comes}
 use Rattle.moves_means.specs.OneRelay.{ElseAsBefore}
 use Rattle.runs.specs.declared.Ran.{Ran}
-use Rattle.runs.specs.Looks.{drawMark, Ending, idle, spent, undecided, conflict}
+use Rattle.runs.specs.Looks.{drawMark, Ending, idle, spent, conflict}
 use Rattle.runs.specs.Runs.{noRelay}
 use Rattle.runs.specs.Running.{toldEnding, Runs}
 use Rattle.runs_means.specs.LongerRuns.{AcceptedRun, movesOf}
@@ -66,7 +64,6 @@ Follows b s (c ∷ cs) t = (u : State) × LowestMove b s c u × Follows b u cs t
 abbrev pub Ended : Board → ℕ → ℕ → State → ℕ → Ending → Type 0
 Ended b n m s r idle = (r ≡ noRelay) × Resting b s (b .counts .relays)
 Ended b n m s r spent = (m ≡ n) × (StoppedBy b s r step.drew ⊎ StoppedBy b s r step.dropped)
-Ended b n m s r undecided = ⊥
 Ended b n m s r conflict = StoppedBy b s r step.conflict
 
 pub record RunMeans (b : Board) (s : State) (log : List ℕ) (a : Ran) (l : List ℕ) : Type 0 where
@@ -81,13 +78,7 @@ pub record RunMeans (b : Board) (s : State) (log : List ℕ) (a : Ran) (l : List
 
 abbrev pub RunExactly : Type 0
 RunExactly =
-    (b : Board) (h : Kept) (w : ℕ) (log : List ℕ) (a : Ran) (l : List ℕ)
-    → Runs b h log w a l
+    (b : Board) (h : Kept) (log : List ℕ) (a : Ran) (l : List ℕ)
+    → Runs b h log a l
     → AcceptedRun b h log
     → RunMeans b (h .state) log a l
-
-abbrev pub RunDecided : Type 0
-RunDecided =
-    (b : Board) (h : Kept) (w : ℕ) (log : List ℕ) (a : Ran) (l : List ℕ)
-    → Runs b h log w a l
-    → ¬ (toldEnding (a .word) ≡ given undecided)

@@ -4,8 +4,8 @@
 --     OnlyAtEnds          what a push, a release and a single move leave, refused or not, and what `moves::after`
 --                         gives: every terminal that is no end of a part of that button, or of a contact of that relay,
 --                         has the sets that it had (`ElseSets`)
---     Keeping             a call that leaves a state and sets: a push or a release of a button, a move of a relay
---                         within an allowance, a run over a lent log within an allowance
+--     Keeping             a call that leaves a state and sets: a push or a release of a button, a move of a relay, a
+--                         run over a lent log
 --     Leaves b h k t      the call k on board b, given h, leaves t
 --     Through b h ks t    the calls ks lead from h to t, one after the other, refused or not
 --     AfterCalls b t      the sets of t are those of board b in its state; and on a board that breaks no rule y is in
@@ -38,19 +38,18 @@ use Rattle.runs.specs.Running.{Runs}
 pub record OnlyAtEnds : Type 0 where
   pub pushed : (b : Board) (h : Kept) (n : ℕ) (x : Pressed) → Pushes b h n x → ElseSets b (Button n) h (x .kept)
   pub released : (b : Board) (h : Kept) (n : ℕ) (x : Pressed) → Releases b h n x → ElseSets b (Button n) h (x .kept)
-  pub moved : (b : Board) (h : Kept) (r w : ℕ) (a : Moved) → Moves b h r w a → ElseSets b (Relay r) h (a .kept)
+  pub moved : (b : Board) (h : Kept) (r : ℕ) (a : Moved) → Moves b h r a → ElseSets b (Relay r) h (a .kept)
   pub after : (b : Board) (h : Kept) (r : ℕ) (m : Move) (t : Kept) → AfterMove b h r m t → ElseSets b (Relay r) h t
 
 pub data Keeping : Type 0 where
-  push release : ℕ → Keeping
-  move : ℕ → ℕ → Keeping
-  run : List ℕ → ℕ → Keeping
+  push release move : ℕ → Keeping
+  run : List ℕ → Keeping
 
 abbrev pub Leaves : Board → Kept → Keeping → Kept → Type 0
 Leaves b h (push n) t = (x : Pressed) × Pushes b h n x × (x .kept ≡ t)
 Leaves b h (release n) t = (x : Pressed) × Releases b h n x × (x .kept ≡ t)
-Leaves b h (move r w) t = (a : Moved) × Moves b h r w a × (a .kept ≡ t)
-Leaves b h (run log w) t = (a : Ran) × (l : List ℕ) × Runs b h log w a l × (a .kept ≡ t)
+Leaves b h (move r) t = (a : Moved) × Moves b h r a × (a .kept ≡ t)
+Leaves b h (run log) t = (a : Ran) × (l : List ℕ) × Runs b h log a l × (a .kept ≡ t)
 
 unfoldable pub Through : Board → Kept → List Keeping → Kept → Type 0
 Through b h [] t = h ≡ t

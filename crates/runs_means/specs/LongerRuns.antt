@@ -1,16 +1,15 @@
 -- Demand 3, second half, over the call `runs::run`, whatever it answers under its promise: "So of two accepted runs
 -- from one board and state, the one with no shorter log and no less allowance per winding starts with every move of the
 -- other, and where the other ended idle or in conflict it ends with that word in that same state." It does so after the
--- same moves.
+-- same moves. Request A7: "for runs demand 3 now speaks of the log alone".
 --     AcceptedRun b h log    the call is not refused
 --     movesOf a l            the moves made: the log's bytes up to their number
 --     IsStart xs ys          ys starts with xs
 --     Stands a               a ended idle or in conflict
 --     Extends a l c k        the run that answered c and left k starts with every move of the one that answered a and
 --                            left l, and is the same run where that one stands
---     LongerRun              the theorem: no shorter log and no less allowance for each winding, which since request A6
---                            does not bear on it. Of one state only
---                            its own sets are not refused, so "from one board and state" is from one h
+--     LongerRun              the theorem: no shorter log. Of one state only its own sets are not refused, so "from one
+--                            board and state" is from one h
 use Prim.Native.Nat.{ℕ, _≤_}
 use mathlib.Core.Path.{_≡_}
 use mathlib.Core.Logic.{_⊎_}
@@ -42,11 +41,10 @@ pub record Extends (a : Ran) (l : List ℕ) (c : Ran) (k : List ℕ) : Type 0 wh
 
 abbrev pub LongerRun : Type 0
 LongerRun =
-    (b : Board) (h : Kept) (w x : ℕ) (log long : List ℕ) (a c : Ran) (l k : List ℕ)
-    → Runs b h log w a l
-    → Runs b h long x c k
+    (b : Board) (h : Kept) (log long : List ℕ) (a c : Ran) (l k : List ℕ)
+    → Runs b h log a l
+    → Runs b h long c k
     → AcceptedRun b h log
     → AcceptedRun b h long
-    → w ≤ x
     → length log ≤ length long
     → Extends a l c k

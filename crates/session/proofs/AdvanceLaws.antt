@@ -14,6 +14,7 @@ use Rattle.refusals.specs.Refusals.{noSuchName}
 use Rattle.number.specs.declared.Number.{Number}
 use Rattle.number.specs.declared.Number.the-variants as number-was
 use Rattle.number.specs.Numbers.{ReadsNumber}
+use Rattle.board.specs.declared.Board.{Board}
 use Rattle.board_reader.specs.Editions.{currentEdition}
 use Rattle.board_reader.specs.Reading.{longestInput}
 use Rattle.board_reader.proofs.FieldLaws.{wanted-refused, wanted-fails, wanted-passes, told-found, told-refused}
@@ -25,7 +26,6 @@ use Rattle.session.specs.declared.Ahead as code-ahead
 use Rattle.session.specs.declared.event.EventRead.{EventRead}
 use Rattle.session.specs.declared.event.EventRead.the-variants as event-was
 use Rattle.session.specs.declared.next.Coming.the-variants as comes
-use Rattle.session.specs.Sessions.{Head}
 use Rattle.session.specs.EventReading.{toldEventRead}
 use Rattle.session.specs.Carried.{Ahead, Coming, no-line, following, goesOn, closes, eventComes}
 use Rattle.session.specs.Carried.{nextEvent, nextAt}
@@ -82,50 +82,50 @@ goes-on-told x e at n is = rw is
 
 -- ---- the next event
 
-module _ (h : Head) (a : Ahead) (s : List ℕ) where
-  pub event-none : length s ≤ a .place → _≡_ {A = Ahead × Coming} (a, no-line) (nextEvent currentEdition h a s)
+module _ (b : Board) (a : Ahead) (s : List ℕ) where
+  pub event-none : length s ≤ a .place → _≡_ {A = Ahead × Coming} (a, no-line) (nextEvent currentEdition b a s)
   unfolding nextEvent
   event-none done = rw (le-leb (length s) (a .place) done)
 
   -- an event is there, and x is what reading it came to
   module _ (x : EventRead) (there : a .place < length s)
-      (read : toldEventRead x ≡ eventAt currentEdition (h .board .counts .buttons) s (a .place)) where
-    event-by : eventComes h a (toldEventRead x) ≡ nextEvent currentEdition h a s
+      (read : toldEventRead x ≡ eventAt currentEdition (b .counts .buttons) s (a .place)) where
+    event-by : eventComes b a (toldEventRead x) ≡ nextEvent currentEdition b a s
     unfolding nextEvent
     event-by = rw (lt-leb (length s) (a .place) there, read)
 
     pub event-refused : (q : Refusal) → x ≡ event-was.Refused q
-        → closes a (q .number) (q .place) ≡ nextEvent currentEdition h a s
+        → closes a (q .number) (q .place) ≡ nextEvent currentEdition b a s
     unfolding eventComes
-    event-refused q is = ap (λ (y : EventRead). eventComes h a (toldEventRead y)) (sym is) ∙ event-by
+    event-refused q is = ap (λ (y : EventRead). eventComes b a (toldEventRead y)) (sym is) ∙ event-by
 
     pub event-made : (v : Event) (next : ℕ) (y : Shown) → x ≡ event-was.Read v next
-        → y ≡ eventLine (h .board) (a .event) (a .kept) v (h .allowance)
-        → goesOn (a .event) y next ≡ nextEvent currentEdition h a s
+        → y ≡ eventLine b (a .event) (a .kept) v
+        → goesOn (a .event) y next ≡ nextEvent currentEdition b a s
     unfolding eventComes
     event-made v next y is told =
         ap (λ (z : Shown). goesOn (a .event) z next) told
-        ∙ ap (λ (z : EventRead). eventComes h a (toldEventRead z)) (sym is) ∙ event-by
+        ∙ ap (λ (z : EventRead). eventComes b a (toldEventRead z)) (sym is) ∙ event-by
 
 -- ---- the next line, by the stage
 
-module _ (h : Head) (a : code-ahead.Ahead) (s : List ℕ) where
-  pub next-first : (y : Shown) → a .stage ≡ stage.First → y ≡ ranLine (h .board) (a .event) (a .kept) (h .allowance)
-      → goesOn (a .event) y (a .place) ≡ nextOf currentEdition h (toldAhead a) s
+module _ (b : Board) (a : code-ahead.Ahead) (s : List ℕ) where
+  pub next-first : (y : Shown) → a .stage ≡ stage.First → y ≡ ranLine b (a .event) (a .kept)
+      → goesOn (a .event) y (a .place) ≡ nextOf currentEdition b (toldAhead a) s
   unfolding nextOf nextAt
   next-first y is told = rw (told, is)
 
   pub next-events : a .stage ≡ stage.Events
-      → nextEvent currentEdition h (toldAhead a) s ≡ nextOf currentEdition h (toldAhead a) s
+      → nextEvent currentEdition b (toldAhead a) s ≡ nextOf currentEdition b (toldAhead a) s
   unfolding nextOf nextAt
   next-events is = rw is
 
   pub next-refusing : (q : Refusal) → a .stage ≡ stage.Refused q
-      → closes (toldAhead a) (q .number) (q .place) ≡ nextOf currentEdition h (toldAhead a) s
+      → closes (toldAhead a) (q .number) (q .place) ≡ nextOf currentEdition b (toldAhead a) s
   unfolding nextOf nextAt
   next-refusing q is = rw is
 
   pub next-over : a .stage ≡ stage.Over
-      → _≡_ {A = Ahead × Coming} (toldAhead a, no-line) (nextOf currentEdition h (toldAhead a) s)
+      → _≡_ {A = Ahead × Coming} (toldAhead a, no-line) (nextOf currentEdition b (toldAhead a) s)
   unfolding nextOf nextAt
   next-over is = rw is

@@ -18,7 +18,7 @@ use Rattle.lines.proofs.LineLaws.{line-length-most}
 use Rattle.session.specs.declared.Session as code-session
 use Rattle.session.specs.declared.Handed as code-handed
 use Rattle.session.specs.declared.HandOut.the-variants as said
-use Rattle.session.specs.Carried.{Ahead, headOf, Coming, line, no-line, nextIn, toldAhead, toldSession}
+use Rattle.session.specs.Carried.{Ahead, Coming, line, no-line, nextIn, toldAhead, toldSession}
 use Rattle.session.specs.HandingOut.{HandOut, written, HandedAhead, Handed, carrying, handedBy, lineHanded}
 use Rattle.session.specs.HandingOut.{nextLine, toldHandOut, toldHanded, NextLine}
 use Rattle.session.proofs.ToCome.{Advances}
@@ -36,7 +36,7 @@ line-bytes e = cc
 module _ (z : code-session.Session) (s out out′ : List ℕ) (r : code-handed.Handed)
     (called : NextLine z s out r out′) where
   -- what is handed on
-  call-hands : {x : HandedAhead} → lineHanded (headOf (toldSession z)) (toldAhead (z .ahead)) s out ≡ x
+  call-hands : {x : HandedAhead} → lineHanded (z .board) (toldAhead (z .ahead)) s out ≡ x
       → toldHanded r out′ ≡ carrying (toldSession z) x
   unfolding nextLine
   call-hands is = called ∙ ap (carrying (toldSession z)) is
@@ -114,10 +114,10 @@ module _ (z : code-session.Session) (s out out′ : List ℕ) (r : code-handed.H
   pub came : (n : ℕ) → r .answer ≡ said.Written n → Came n
   came n is = came-by n is (nextIn z s) refl
 
-  -- the head stays
-  pub call-head : headOf (toldSession (r .session)) ≡ headOf (toldSession z)
+  -- the board stays
+  pub call-board : r .session .board ≡ z .board
   unfolding nextLine
-  call-head = ap (λ (h : Handed). headOf (h .session)) called
+  call-board = ap (λ (h : Handed). h .session .board) called
 
   -- a line that was handed out fits the buffer, and leaves less to come
   pub call-advances : Advances z s (length out) r

@@ -12,6 +12,7 @@ use Rattle.refusals.specs.Outcomes.{Outcome, given, refused, Found, found}
 use Rattle.refusals.specs.Refusals.{noSuchName}
 use Rattle.refusals.proofs.OutcomeLaws.{handed, given-injective}
 use Rattle.number.proofs.NumberLaws.{number-next-within}
+use Rattle.board.specs.declared.Board.{Board}
 use Rattle.board_reader.specs.Editions.{Edition}
 use Rattle.board_reader.specs.Reading.{wanted}
 use Rattle.board_reader.proofs.FieldLaws.{wanted-found}
@@ -19,53 +20,52 @@ use Rattle.lines.specs.Lines.{Line}
 use Rattle.events.specs.declared.Event.{Event}
 use Rattle.events.specs.Events.{eventOf, eventAt, ranLine, eventLine}
 use Rattle.session.proofs.ToCome.{toComeAt, toCome}
-use Rattle.session.specs.Sessions.{Head}
 use Rattle.session.specs.Carried.{Stage, first, events, over, refusing, Ahead, Coming, line, no-line, goesOn}
 use Rattle.session.specs.Carried.{closes, eventComes, nextEvent, nextAt, nextOf}
 
-pub data Comes (ed : Edition) (h : Head) (a : Ahead) (s : List ℕ) : Type 0 where
+pub data Comes (ed : Edition) (b : Board) (a : Ahead) (s : List ℕ) : Type 0 where
   runs-first : a .stage ≡ first
-      → nextOf ed h a s
-      ≡ goesOn (a .event) (ranLine (h .board) (a .event) (a .kept) (h .allowance)) (a .place) → Comes ed h a s
+      → nextOf ed b a s
+      ≡ goesOn (a .event) (ranLine b (a .event) (a .kept)) (a .place) → Comes ed b a s
   makes-event : (v : Found Event) → a .stage ≡ events → a .place < length s
-      → eventAt ed (h .board .counts .buttons) s (a .place) ≡ given v
-      → nextOf ed h a s
-      ≡ goesOn (a .event) (eventLine (h .board) (a .event) (a .kept) (v .value) (h .allowance)) (v .next)
-      → Comes ed h a s
+      → eventAt ed (b .counts .buttons) s (a .place) ≡ given v
+      → nextOf ed b a s
+      ≡ goesOn (a .event) (eventLine b (a .event) (a .kept) (v .value)) (v .next)
+      → Comes ed b a s
   bad-event : (n p : ℕ) → a .stage ≡ events → a .place < length s
-      → eventAt ed (h .board .counts .buttons) s (a .place) ≡ refused n p → nextOf ed h a s ≡ closes a n p
-      → Comes ed h a s
-  tells-refusal : (n p : ℕ) → a .stage ≡ refusing n p → nextOf ed h a s ≡ closes a n p → Comes ed h a s
-  at-end : a .stage ≡ events → length s ≤ a .place → nextOf ed h a s ≡ (a, no-line) → Comes ed h a s
-  is-over : a .stage ≡ over → nextOf ed h a s ≡ (a, no-line) → Comes ed h a s
+      → eventAt ed (b .counts .buttons) s (a .place) ≡ refused n p → nextOf ed b a s ≡ closes a n p
+      → Comes ed b a s
+  tells-refusal : (n p : ℕ) → a .stage ≡ refusing n p → nextOf ed b a s ≡ closes a n p → Comes ed b a s
+  at-end : a .stage ≡ events → length s ≤ a .place → nextOf ed b a s ≡ (a, no-line) → Comes ed b a s
+  is-over : a .stage ≡ over → nextOf ed b a s ≡ (a, no-line) → Comes ed b a s
 
-module _ (ed : Edition) (h : Head) (a : Ahead) (s : List ℕ) where
+module _ (ed : Edition) (b : Board) (a : Ahead) (s : List ℕ) where
   module _ (is : a .stage ≡ events) where
-    next-is-event : nextOf ed h a s ≡ nextEvent ed h a s
+    next-is-event : nextOf ed b a s ≡ nextEvent ed b a s
     unfolding nextOf nextAt
-    next-is-event = ap (λ (k : Stage). nextAt ed k h a s) is
+    next-is-event = ap (λ (k : Stage). nextAt ed k b a s) is
 
-    event-by : (o : Outcome (Found Event)) → eventAt ed (h .board .counts .buttons) s (a .place) ≡ o
-        → leb (length s) (a .place) ≡ false → Comes ed h a s
+    event-by : (o : Outcome (Found Event)) → eventAt ed (b .counts .buttons) s (a .place) ≡ o
+        → leb (length s) (a .place) ≡ false → Comes ed b a s
     unfolding nextEvent eventComes
     event-by (given v) e there =
         makes-event v is (leb-false (length s) (a .place) there) e (next-is-event ∙ rw (there, e) refl)
     event-by (refused n p) e there =
         bad-event n p is (leb-false (length s) (a .place) there) e (next-is-event ∙ rw (there, e) refl)
 
-    end-by : (t : Bool) → leb (length s) (a .place) ≡ t → Comes ed h a s
+    end-by : (t : Bool) → leb (length s) (a .place) ≡ t → Comes ed b a s
     unfolding nextEvent
     end-by true e = at-end is (leb-true (length s) (a .place) e) (next-is-event ∙ rw e refl)
-    end-by false e = event-by (eventAt ed (h .board .counts .buttons) s (a .place)) refl e
+    end-by false e = event-by (eventAt ed (b .counts .buttons) s (a .place)) refl e
 
-  stage-by : (k : Stage) → a .stage ≡ k → Comes ed h a s
+  stage-by : (k : Stage) → a .stage ≡ k → Comes ed b a s
   unfolding nextOf nextAt
-  stage-by first is = runs-first is (ap (λ (k : Stage). nextAt ed k h a s) is)
+  stage-by first is = runs-first is (ap (λ (k : Stage). nextAt ed k b a s) is)
   stage-by events is = end-by is (leb (length s) (a .place)) refl
-  stage-by over is = is-over is (ap (λ (k : Stage). nextAt ed k h a s) is)
-  stage-by (refusing n p) is = tells-refusal n p is (ap (λ (k : Stage). nextAt ed k h a s) is)
+  stage-by over is = is-over is (ap (λ (k : Stage). nextAt ed k b a s) is)
+  stage-by (refusing n p) is = tells-refusal n p is (ap (λ (k : Stage). nextAt ed k b a s) is)
 
-  pub comes : Comes ed h a s
+  pub comes : Comes ed b a s
   comes = stage-by (a .stage) refl
 
 -- an event's number stands at its place and takes at least a byte
@@ -84,11 +84,11 @@ pub line-never : (l : Line) → no-line ≡ line l → ⊥
 line-never l e = let z : _≡_ {A = ℕ} 0 1 = cc in omega arith
 
 -- where nothing comes, what is ahead stays as it is
-module _ (ed : Edition) (h : Head) (a y : Ahead) (s : List ℕ) (is : nextOf ed h a s ≡ (y, no-line)) where
-  never-line : (x : Ahead) (l : Line) → nextOf ed h a s ≡ (x, line l) → ⊥
+module _ (ed : Edition) (b : Board) (a y : Ahead) (s : List ℕ) (is : nextOf ed b a s ≡ (y, no-line)) where
+  never-line : (x : Ahead) (l : Line) → nextOf ed b a s ≡ (x, line l) → ⊥
   never-line x l e = line-never l (ap (λ (p : Ahead × Coming). p .1) (sym is ∙ e))
 
-  same-by : Comes ed h a s → y ≡ a
+  same-by : Comes ed b a s → y ≡ a
   same-by (runs-first at e) = absurd (never-line _ _ e)
   same-by (makes-event v at there found e) = absurd (never-line _ _ e)
   same-by (bad-event n p at there bad e) = absurd (never-line _ _ e)
@@ -97,25 +97,25 @@ module _ (ed : Edition) (h : Head) (a y : Ahead) (s : List ℕ) (is : nextOf ed 
   same-by (is-over at e) = ap (λ (p : Ahead × Coming). p .0) (sym is ∙ e)
 
   pub none-same : y ≡ a
-  none-same = same-by (comes ed h a s)
+  none-same = same-by (comes ed b a s)
 
 -- after a line there is less to come
-module _ (ed : Edition) (h : Head) (a y : Ahead) (s : List ℕ) (l : Line) (is : nextOf ed h a s ≡ (y, line l)) where
-  left-by : (x : Ahead) (c : Coming) → nextOf ed h a s ≡ (x, c) → toCome y s ≡ toCome x s
+module _ (ed : Edition) (b : Board) (a y : Ahead) (s : List ℕ) (l : Line) (is : nextOf ed b a s ≡ (y, line l)) where
+  left-by : (x : Ahead) (c : Coming) → nextOf ed b a s ≡ (x, c) → toCome y s ≡ toCome x s
   left-by x c e = ap (λ (p : Ahead × Coming). toCome (p .0) s) (sym is ∙ e)
 
-  never-none : nextOf ed h a s ≡ (a, no-line) → ⊥
+  never-none : nextOf ed b a s ≡ (a, no-line) → ⊥
   never-none e = line-never l (ap (λ (p : Ahead × Coming). p .1) (sym e ∙ is))
 
-  less-by : Comes ed h a s → toCome y s < toCome a s
+  less-by : Comes ed b a s → toCome y s < toCome a s
   unfolding toCome toComeAt
   less-by (runs-first at e) = rw (left-by _ _ e, at) (omega arith)
   less-by (makes-event v at there found e) =
-      rw (left-by _ _ e, at) (omega (arith, event-next ed (h .board .counts .buttons) s (a .place) v found))
+      rw (left-by _ _ e, at) (omega (arith, event-next ed (b .counts .buttons) s (a .place) v found))
   less-by (bad-event n p at there bad e) = rw (left-by _ _ e, at) (omega arith)
   less-by (tells-refusal n p at e) = rw (left-by _ _ e, at) (omega arith)
   less-by (at-end at past e) = absurd (never-none e)
   less-by (is-over at e) = absurd (never-none e)
 
   pub next-less : toCome y s < toCome a s
-  next-less = less-by (comes ed h a s)
+  next-less = less-by (comes ed b a s)

@@ -15,14 +15,14 @@ use types.Run.{OneOf}
 use Rattle.bits.proofs.BoolLaws.{by-test}
 use Rattle.refusals.specs.Outcomes.{Outcome, given, refused}
 use Rattle.refusals.specs.Refusals.{bufferTooShort}
+use Rattle.board.specs.declared.Board.{Board}
 use Rattle.board_reader.specs.Editions.{currentEdition}
 use Rattle.lines.specs.Lines.{Line, lineText, longestLine}
 use Rattle.lines.proofs.LineLaws.{line-length-some, line-length-most, line-room, line-short}
-use Rattle.session.specs.declared.Session as code-session
 use Rattle.session.specs.declared.fill.HandedAhead as code-ahead
 use Rattle.session.specs.declared.HandOut as code-handout
 use Rattle.session.specs.declared.HandOut.the-variants as said
-use Rattle.session.specs.Sessions.{Head, lineTexts, printed}
+use Rattle.session.specs.Sessions.{lineTexts, printed}
 use Rattle.session.specs.Carried.{Ahead, Coming, line, no-line, nextOf, toldAhead}
 use Rattle.session.specs.HandingOut.{HandOut, written, nothing, HandedAhead, handedBy, lineHanded}
 use Rattle.session.specs.HandingOut.{toldHandOut, toldHandedAhead}
@@ -49,12 +49,12 @@ module _ (out : List ℕ) (at : ℕ) where
       ap (λ (n : ℕ). drop n (drop at out)) (sym part-rest) ∙ drop-length (drop at out) in
       ap (λ (x : List ℕ). take at out ++ (o ++ x)) none ∙ ap (λ (x : List ℕ). take at out ++ x) (append-nil o)
 
-  pub line-at-by : (h : Head) (a : Ahead) (s o out′ : List ℕ) (r : code-ahead.HandedAhead)
-      → toldHandedAhead r o ≡ lineHanded h a s (midOf at (length out - at) out)
+  pub line-at-by : (b : Board) (a : Ahead) (s o out′ : List ℕ) (r : code-ahead.HandedAhead)
+      → toldHandedAhead r o ≡ lineHanded b a s (midOf at (length out - at) out)
       → out′ ≡ putMid at (length out - at) out o
-      → toldHandedAhead r out′ ≡ behind (take at out) (lineHanded h a s (drop at out))
-  line-at-by h a s o out′ r called back =
-      let lent = called ∙ ap (lineHanded h a s) part-lent in
+      → toldHandedAhead r out′ ≡ behind (take at out) (lineHanded b a s (drop at out))
+  line-at-by b a s o out′ r called back =
+      let lent = called ∙ ap (lineHanded b a s) part-lent in
       ap (toldHandedAhead r) (back ∙ part-back o) ∙ ap (behind (take at out)) lent
 
 -- ---- the answer
@@ -66,26 +66,26 @@ summed-some (suc n) o some = refl
 -- ---- the lines handed out so far
 
 -- `used` bytes of the buffer hold lines, and a is ahead after them; the rest of the buffer is as lent
-pub record FilledTo (h : Head) (a₀ : Ahead) (s out₀ : List ℕ) (a : Ahead) (out : List ℕ) (used : ℕ) : Type 0 where
+pub record FilledTo (b : Board) (a₀ : Ahead) (s out₀ : List ℕ) (a : Ahead) (out : List ℕ) (used : ℕ) : Type 0 where
   pub lines : List Line
   pub rest : Ahead × List Line
   pub most : ℕ
   pub enough : length out₀ - used ≤ most
-  pub left : fitting most h a s (length out₀ - used) ≡ rest
-  pub all : fitting (length out₀) h a₀ s (length out₀) ≡ (rest .0, lines ++ rest .1)
+  pub left : fitting most b a s (length out₀ - used) ≡ rest
+  pub all : fitting (length out₀) b a₀ s (length out₀) ≡ (rest .0, lines ++ rest .1)
   pub bytes : used ≡ length (bytesOf lines)
   pub text : out ≡ bytesOf lines ++ drop used out₀
   pub within : used ≤ length out₀
 
-pub filled-none : (h : Head) (a : Ahead) (s out : List ℕ) → FilledTo h a s out a out 0
+pub filled-none : (b : Board) (a : Ahead) (s out : List ℕ) → FilledTo b a s out a out 0
 unfolding lineTexts printed
-filled-none h a s out =
+filled-none b a s out =
     record {
       lines = [];
-      rest = fitting (length out) h a s (length out);
+      rest = fitting (length out) b a s (length out);
       most = length out;
       enough = omega arith;
-      left = ap (fitting (length out) h a s) (omega arith);
+      left = ap (fitting (length out) b a s) (omega arith);
       all = refl;
       bytes = refl;
       text = refl;
@@ -93,37 +93,37 @@ filled-none h a s out =
     }
 
 -- what a call of `hand_line` on the buffer p does
-data Ways (h : Head) (a : Ahead) (s p : List ℕ) : Type 0 where
+data Ways (b : Board) (a : Ahead) (s p : List ℕ) : Type 0 where
   no-room : length p < longestLine
-      → lineHanded h a s p ≡ record { ahead = a; answer = refused bufferTooShort 0; out = p } → Ways h a s p
-  no-more : (y : Ahead) → longestLine ≤ length p → nextOf currentEdition h a s ≡ (y, no-line)
-      → lineHanded h a s p ≡ record { ahead = y; answer = given nothing; out = p } → Ways h a s p
-  one-line : (y : Ahead) (l : Line) → longestLine ≤ length p → nextOf currentEdition h a s ≡ (y, line l)
-      → lineHanded h a s p
+      → lineHanded b a s p ≡ record { ahead = a; answer = refused bufferTooShort 0; out = p } → Ways b a s p
+  no-more : (y : Ahead) → longestLine ≤ length p → nextOf currentEdition b a s ≡ (y, no-line)
+      → lineHanded b a s p ≡ record { ahead = y; answer = given nothing; out = p } → Ways b a s p
+  one-line : (y : Ahead) (l : Line) → longestLine ≤ length p → nextOf currentEdition b a s ≡ (y, line l)
+      → lineHanded b a s p
       ≡ record {
         ahead = y;
         answer = given (written (length (lineText l)));
         out = lineText l ++ drop (length (lineText l)) p;
       }
-      → Ways h a s p
+      → Ways b a s p
 
-module _ (h : Head) (a : Ahead) (s p : List ℕ) where
-  handed-by : longestLine ≤ length p → (x : Ahead × Coming) → nextOf currentEdition h a s ≡ x
-      → lineHanded h a s p ≡ handedBy x p
-  handed-by room x is = sym (line-handed-room h a s p room) ∙ ap (λ (y : Ahead × Coming). handedBy y p) is
+module _ (b : Board) (a : Ahead) (s p : List ℕ) where
+  handed-by : longestLine ≤ length p → (x : Ahead × Coming) → nextOf currentEdition b a s ≡ x
+      → lineHanded b a s p ≡ handedBy x p
+  handed-by room x is = sym (line-handed-room b a s p room) ∙ ap (λ (y : Ahead × Coming). handedBy y p) is
 
-  room-ways : longestLine ≤ length p → (x : Ahead × Coming) → nextOf currentEdition h a s ≡ x → Ways h a s p
+  room-ways : longestLine ≤ length p → (x : Ahead × Coming) → nextOf currentEdition b a s ≡ x → Ways b a s p
   unfolding handedBy
   room-ways room (y, no-line) is = no-more y room is (handed-by room _ is)
   room-ways room (y, line l) is = one-line y l room is (handed-by room _ is)
 
-  ways : Ways h a s p
+  ways : Ways b a s p
   ways =
       by-test (leb longestLine (length p))
-      (λ room. room-ways (leb-true longestLine (length p) room) (nextOf currentEdition h a s) refl)
+      (λ room. room-ways (leb-true longestLine (length p) room) (nextOf currentEdition b a s) refl)
       (λ short.
       let less = leb-false longestLine (length p) short in
-      no-room less (sym (line-handed-short h a s p less)))
+      no-room less (sym (line-handed-short b a s p less)))
 
 pub line-is : {m n : ℕ} → _≡_ {A = Outcome HandOut} (given (written m)) (given (written n)) → m ≡ n
 line-is e = cc
@@ -140,42 +140,42 @@ line-not-nothing e = let z : _≡_ {A = ℕ} 0 1 = cc in omega arith
 abbrev Why : ℕ → Outcome HandOut → Type 0
 Why n o = ((longestLine ≤ n) × (o ≡ given nothing)) ⊎ ((n < longestLine) × (o ≡ refused bufferTooShort 0))
 
-module _ (h : Head) (a₀ : Ahead) (s out₀ : List ℕ) where
+module _ (b : Board) (a₀ : Ahead) (s out₀ : List ℕ) where
   pub lines-room : longestLine ≤ length out₀
-      → filledBy (fitting (length out₀) h a₀ s (length out₀)) out₀ ≡ linesHanded h a₀ s out₀
+      → filledBy (fitting (length out₀) b a₀ s (length out₀)) out₀ ≡ linesHanded b a₀ s out₀
   unfolding linesHanded
   lines-room room = rw (line-room out₀ room)
 
   pub lines-short : length out₀ < longestLine
-      → record { ahead = a₀; answer = refused bufferTooShort 0; out = out₀ } ≡ linesHanded h a₀ s out₀
+      → record { ahead = a₀; answer = refused bufferTooShort 0; out = out₀ } ≡ linesHanded b a₀ s out₀
   unfolding linesHanded
   lines-short short = rw (line-short out₀ short)
 
   module _ (y : Ahead) (o : Outcome HandOut) where
     -- where a line fits, the buffer has room
-    some-room : (l : Line) (ls : List Line) → fitting (length out₀) h a₀ s (length out₀) ≡ (y, l ∷ ls)
+    some-room : (l : Line) (ls : List Line) → fitting (length out₀) b a₀ s (length out₀) ≡ (y, l ∷ ls)
         → longestLine ≤ length out₀
     some-room l ls fits =
         by-test (leb longestLine (length out₀)) (leb-true longestLine (length out₀))
         (λ short.
-        let none = fitting-short h a₀ s (length out₀) (length out₀) (leb-false longestLine (length out₀) short) in
+        let none = fitting-short b a₀ s (length out₀) (length out₀) (leb-false longestLine (length out₀) short) in
         absurd (omega (arith, ap (λ (x : Ahead × List Line). length (x .1)) (sym none ∙ fits))))
 
     -- the lines ls are those that fit, and o says why no more came
-    lines-end : (ls : List Line) → fitting (length out₀) h a₀ s (length out₀) ≡ (y, ls)
+    lines-end : (ls : List Line) → fitting (length out₀) b a₀ s (length out₀) ≡ (y, ls)
         → Why (length out₀ - length (bytesOf ls)) o
         → record {
           ahead = y;
           answer = summed (length (bytesOf ls)) o;
           out = bytesOf ls ++ drop (length (bytesOf ls)) out₀;
-        } ≡ linesHanded h a₀ s out₀
+        } ≡ linesHanded b a₀ s out₀
     unfolding lineTexts printed filledBy
     lines-end [] fits (inl (room, is)) =
         rw is (ap (λ (x : Ahead × List Line). filledBy x out₀) (sym fits) ∙ lines-room (omega (arith, room)))
     lines-end [] fits (inr (short, is)) =
         let less : length out₀ < longestLine = omega (arith, short) in
         let same : y ≡ a₀ =
-        ap (λ (x : Ahead × List Line). x .0) (sym fits ∙ fitting-short h a₀ s (length out₀) (length out₀) less) in
+        ap (λ (x : Ahead × List Line). x .0) (sym fits ∙ fitting-short b a₀ s (length out₀) (length out₀) less) in
         rw (is, same) (lines-short less)
     lines-end (l ∷ ls) fits why =
         let some : length (lineText l ++ bytesOf ls) ≡ 0 → ⊥ =
@@ -183,8 +183,8 @@ module _ (h : Head) (a₀ : Ahead) (s out₀ : List ℕ) where
         rw (← summed-some (length (lineText l ++ bytesOf ls)) o some)
         (ap (λ (x : Ahead × List Line). filledBy x out₀) (sym fits) ∙ lines-room (some-room l ls fits))
 
-module _ (h : Head) (a₀ : Ahead) (s out₀ : List ℕ) (a : Ahead) (out : List ℕ) (used : ℕ)
-    (f : FilledTo h a₀ s out₀ a out used) where
+module _ (b : Board) (a₀ : Ahead) (s out₀ : List ℕ) (a : Ahead) (out : List ℕ) (used : ℕ)
+    (f : FilledTo b a₀ s out₀ a out used) where
   -- the first bytes are the lines, and those behind them as lent
   lines-first : take used out ≡ bytesOf (f .lines)
   lines-first =
@@ -208,16 +208,16 @@ module _ (h : Head) (a₀ : Ahead) (s out₀ : List ℕ) (a : Ahead) (out : List
   room-left = ap length rest-lent ∙ length-drop used out₀
 
   -- the lines that fit in what is left, where x comes next
-  left-next : longestLine ≤ length (drop used out) → (x : Ahead × Coming) → nextOf currentEdition h a s ≡ x
-      → f .rest ≡ fitsOn x (λ y l. fitting (f .most - 1) h y s (length out₀ - used - length (lineText l)))
+  left-next : longestLine ≤ length (drop used out) → (x : Ahead × Coming) → nextOf currentEdition b a s ≡ x
+      → f .rest ≡ fitsOn x (λ y l. fitting (f .most - 1) b y s (length out₀ - used - length (lineText l)))
   left-next room x is =
       sym (f .left)
-      ∙ fitting-next h a s (length out₀ - used) (f .most) (omega (arith, room, room-left)) (f .enough) x is
+      ∙ fitting-next b a s (length out₀ - used) (f .most) (omega (arith, room, room-left)) (f .enough) x is
 
   -- ---- a line is added
 
   module _ (y : Ahead) (l : Line) (room : longestLine ≤ length (drop used out))
-      (is : nextOf currentEdition h a s ≡ (y, line l)) where
+      (is : nextOf currentEdition b a s ≡ (y, line l)) where
     bytes-on : bytesOf (f .lines ++ (l ∷ [])) ≡ bytesOf (f .lines) ++ lineText l
     bytes-on = bytes-append (f .lines) (l ∷ []) ∙ ap (λ (x : List ℕ). bytesOf (f .lines) ++ x) (bytes-one l)
 
@@ -227,18 +227,18 @@ module _ (h : Head) (a₀ : Ahead) (s out₀ : List ℕ) (a : Ahead) (out : List
         rw (lines-first, rest-lent, drop-drop (length (lineText l)) used out₀, bytes-on)
         (sym (append-assoc (bytesOf (f .lines)) (lineText l) (drop (used + length (lineText l)) out₀)))
 
-    filled-line : FilledTo h a₀ s out₀ y (take used out ++ (lineText l ++ drop (length (lineText l)) (drop used out)))
+    filled-line : FilledTo b a₀ s out₀ y (take used out ++ (lineText l ++ drop (length (lineText l)) (drop used out)))
         (used + length (lineText l))
     filled-line =
         let less : length out₀ - used - length (lineText l) ≡ length out₀ - (used + length (lineText l)) =
         omega arith in
-        let x = fitting (f .most - 1) h y s (length out₀ - used - length (lineText l)) in
+        let x = fitting (f .most - 1) b y s (length out₀ - used - length (lineText l)) in
         record {
           lines = f .lines ++ (l ∷ []);
           rest = x;
           most = f .most - 1;
           enough = omega (arith, f .enough, line-length-some l);
-          left = ap (fitting (f .most - 1) h y s) (sym less);
+          left = ap (fitting (f .most - 1) b y s) (sym less);
           all =
               f .all
               ∙ ap {B = Ahead × List Line} (λ (w : Ahead × List Line). (w .0, f .lines ++ w .1))
@@ -254,16 +254,16 @@ module _ (h : Head) (a₀ : Ahead) (s out₀ : List ℕ) (a : Ahead) (out : List
   -- ---- what a call of `line_at` comes to
 
   module _ (r : code-ahead.HandedAhead) (out′ : List ℕ)
-      (called : toldHandedAhead r out′ ≡ behind (take used out) (lineHanded h a s (drop used out))) where
-    came-to : (x : HandedAhead) → lineHanded h a s (drop used out) ≡ x
+      (called : toldHandedAhead r out′ ≡ behind (take used out) (lineHanded b a s (drop used out))) where
+    came-to : (x : HandedAhead) → lineHanded b a s (drop used out) ≡ x
         → toldHandedAhead r out′ ≡ behind (take used out) x
     came-to x is = called ∙ ap (behind (take used out)) is
 
     pub record Goes (n : ℕ) : Type 0 where
       pub grows : 0 < n
-      pub filled-on : FilledTo h a₀ s out₀ (toldAhead (r .ahead)) out′ (used + n)
+      pub filled-on : FilledTo b a₀ s out₀ (toldAhead (r .ahead)) out′ (used + n)
 
-    goes-by : (n : ℕ) → r .answer ≡ said.Written n → Ways h a s (drop used out) → Goes n
+    goes-by : (n : ℕ) → r .answer ≡ said.Written n → Ways b a s (drop used out) → Goes n
     goes-by n is (no-room short e) =
         absurd (line-not-refused (ap toldHandOut (sym is) ∙ ap (λ (x : HandedAhead). x .answer) (came-to _ e)))
     goes-by n is (no-more y room none e) =
@@ -280,7 +280,7 @@ module _ (h : Head) (a₀ : Ahead) (s out₀ : List ℕ) (a : Ahead) (out : List
         }
 
     pub line-goes : (n : ℕ) → r .answer ≡ said.Written n → Goes n
-    line-goes n is = goes-by n is (ways h a s (drop used out))
+    line-goes n is = goes-by n is (ways b a s (drop used out))
 
     -- ---- the end: no line, or no room for one
 
@@ -301,11 +301,11 @@ module _ (h : Head) (a₀ : Ahead) (s out₀ : List ℕ) (a : Ahead) (out : List
           why = subst (Why (length out₀ - used)) (ap (λ (x : HandedAhead). x .answer) (sym told)) why;
         }
 
-    ends-by : ((n : ℕ) → r .answer ≡ said.Written n → ⊥) → Ways h a s (drop used out) → Ends
+    ends-by : ((n : ℕ) → r .answer ≡ said.Written n → ⊥) → Ways b a s (drop used out) → Ends
     ends-by never (no-room short e) =
         let less : length out₀ - used < longestLine = omega (arith, short, room-left) in
         ends-with a (refused bufferTooShort 0)
-        (sym (f .left) ∙ fitting-short h a s (length out₀ - used) (f .most) less) (inr (less, refl)) (came-to _ e)
+        (sym (f .left) ∙ fitting-short b a s (length out₀ - used) (f .most) less) (inr (less, refl)) (came-to _ e)
     ends-by never (no-more y room none e) =
         ends-with y (given nothing) (left-next room (y, no-line) none) (inl (omega (arith, room, room-left), refl))
         (came-to _ e)
@@ -316,15 +316,15 @@ module _ (h : Head) (a₀ : Ahead) (s out₀ : List ℕ) (a : Ahead) (out : List
 
     pub line-ends : ((n : ℕ) → r .answer ≡ said.Written n → ⊥) → (o : code-handout.HandOut)
         → toldHandOut o ≡ summed used (toldHandOut (r .answer))
-        → toldHandedAhead (record { ahead = r .ahead; answer = o }) out′ ≡ linesHanded h a₀ s out₀
+        → toldHandedAhead (record { ahead = r .ahead; answer = o }) out′ ≡ linesHanded b a₀ s out₀
     line-ends never o told =
-        let end = ends-by never (ways h a s (drop used out)) in
+        let end = ends-by never (ways b a s (drop used out)) in
         let fits =
         f .all
         ∙ ap {B = Ahead × List Line} (λ (w : Ahead × List Line). (w .0, f .lines ++ w .1)) (end .none)
         ∙ ap {B = Ahead × List Line} (λ (ls : List Line). (toldAhead (r .ahead), ls)) (append-nil (f .lines)) in
         rw (told, end .buffer, f .text, f .bytes)
-        (lines-end h a₀ s out₀ (toldAhead (r .ahead)) (toldHandOut (r .answer)) (f .lines) fits
+        (lines-end b a₀ s out₀ (toldAhead (r .ahead)) (toldHandOut (r .answer)) (f .lines) fits
         (subst (λ (n : ℕ). Why (length out₀ - n) (toldHandOut (r .answer))) (f .bytes) (end .why)))
 
 -- the answer to `let .. else` is no line

@@ -12,13 +12,13 @@ use borrow.Author.Tests.{leb-true, leb-false}
 use Rattle.bits.proofs.BoolLaws.{by-test}
 use Rattle.refusals.specs.Outcomes.{given}
 use Rattle.refusals.proofs.OutcomeLaws.{refused-never}
+use Rattle.board.specs.declared.Board.{Board}
 use Rattle.board_reader.specs.Editions.{currentEdition}
 use Rattle.lines.specs.Lines.{Line, longestLine}
 use Rattle.session.specs.declared.Session as code-session
 use Rattle.session.specs.declared.Handed as code-handed
 use Rattle.session.specs.declared.HandOut.the-variants as said
-use Rattle.session.specs.Sessions.{Head}
-use Rattle.session.specs.Carried.{Ahead, headOf, Coming, line, no-line, nextOf, nextIn, toldAhead, toldSession}
+use Rattle.session.specs.Carried.{Ahead, Coming, line, no-line, nextOf, nextIn, toldAhead, toldSession}
 use Rattle.session.specs.HandingOut.{HandOut, written, nothing, HandedAhead, Handed, carrying, toldHandOut}
 use Rattle.session.specs.HandingOut.{toldHanded}
 use Rattle.session.specs.Filling.{fitting, filledBy, linesHanded, nextLines, NextLines}
@@ -33,10 +33,10 @@ module _ (z : code-session.Session) (s out out′ : List ℕ) (r : code-handed.H
     (called : NextLines z s out r out′) where
   -- the lines that fit, and what is ahead after them
   abbrev fits-in : Ahead × List Line
-  fits-in = fitting (length out) (headOf (toldSession z)) (toldAhead (z .ahead)) s (length out)
+  fits-in = fitting (length out) (z .board) (toldAhead (z .ahead)) s (length out)
 
   -- what is handed on
-  filled-hands : {x : HandedAhead} → linesHanded (headOf (toldSession z)) (toldAhead (z .ahead)) s out ≡ x
+  filled-hands : {x : HandedAhead} → linesHanded (z .board) (toldAhead (z .ahead)) s out ≡ x
       → toldHanded r out′ ≡ carrying (toldSession z) x
   unfolding nextLines
   filled-hands is = called ∙ ap (carrying (toldSession z)) is
@@ -120,20 +120,20 @@ module _ (z : code-session.Session) (s out out′ : List ℕ) (r : code-handed.H
   pub came-lines : (n : ℕ) → r .answer ≡ said.Written n → CameLines n
   came-lines n is = came-lines-by n is (fits-in) refl
 
-  -- the head stays
-  pub filled-head : headOf (toldSession (r .session)) ≡ headOf (toldSession z)
+  -- the board stays
+  pub filled-board : r .session .board ≡ z .board
   unfolding nextLines
-  filled-head = ap (λ (h : Handed). headOf (h .session)) called
+  filled-board = ap (λ (h : Handed). h .session .board) called
 
   -- they are as many as fit
   pub came-full : (n : ℕ) (is : r .answer ≡ said.Written n)
-      → Full (headOf (toldSession (r .session))) s (length out)
+      → Full (r .session .board) s (length out)
       (toldAhead (r .session .ahead), came-lines n is .lines-told)
   came-full n is =
-      subst (λ (h : Head). Full h s (length out) (toldAhead (r .session .ahead), came-lines n is .lines-told))
-      (sym filled-head)
+      subst (λ (b : Board). Full b s (length out) (toldAhead (r .session .ahead), came-lines n is .lines-told))
+      (sym filled-board)
       (rw (came-lines n is .lines-fit) at
-      (fitting-full (headOf (toldSession z)) s (length out) (toldAhead (z .ahead)) (length out) (omega arith)))
+      (fitting-full (z .board) s (length out) (toldAhead (z .ahead)) (length out) (omega arith)))
 
   -- lines that were handed out fit the buffer, and leave less to come
   pub filled-advances : Advances z s (length out) r
@@ -141,7 +141,7 @@ module _ (z : code-session.Session) (s out out′ : List ℕ) (r : code-handed.H
       let c = came-lines n is in
       let within =
       rw (c .lines-fit) at
-      (fitting-within (headOf (toldSession z)) s (length out) (toldAhead (z .ahead)) (length out) (omega arith)) in
+      (fitting-within (z .board) s (length out) (toldAhead (z .ahead)) (length out) (omega arith)) in
       (omega (arith, within .0, c .lines-bytes), omega (arith, within .1, c .lines-some))
 
   -- ---- nothing comes
@@ -192,7 +192,7 @@ module _ (z : code-session.Session) (s out out′ : List ℕ) (r : code-handed.H
   none-left : r .answer ≡ said.Over → nextIn (r .session) s .1 ≡ no-line
   none-left is =
       let stays = stays-by is fits-in refl (nextIn z s) refl in
-      ap₂ (λ (h : Head) (a : Ahead). nextOf currentEdition h a s .1) filled-head stays
+      ap₂ (λ (b : Board) (a : Ahead). nextOf currentEdition b a s .1) filled-board stays
       ∙ filled-over is (nextIn z s) refl
 
   pub filled-ends : longestLine ≤ length out → ((n : ℕ) → r .answer ≡ said.Written n → ⊥)

@@ -5,6 +5,7 @@ use mathlib.Core.List.{List}
 use lib.ListN.{length}
 use Rattle.refusals.specs.Outcomes.{Outcome, refused}
 use Rattle.refusals.specs.Refusals.{bufferTooShort}
+use Rattle.board.specs.declared.Board.{Board}
 use Rattle.lines.specs.declared.Line.{Line}
 use Rattle.lines.specs.declared.LineWritten.{LineWritten}
 use Rattle.board_reader.specs.Editions.{currentEdition}
@@ -16,40 +17,39 @@ use Rattle.session.specs.declared.HandOut.the-variants.{Over}
 use Rattle.session.specs.declared.fill.HandedAhead.{HandedAhead}
 use Rattle.session.specs.declared.next.Next.{Next}
 use Rattle.session.specs.declared.next.Coming.the-variants as comes
-use Rattle.session.specs.Sessions.{Head}
 use Rattle.session.specs.Carried.{Ahead, Coming, line, no-line, nextOf, toldAhead, toldSession}
 use Rattle.session.specs.Carried.{toldComing, toldNext}
 use Rattle.session.specs.HandingOut as told
 use Rattle.session.specs.HandingOut.{carrying, writtenAnswer, handedBy, lineHanded, toldHandOut}
 use Rattle.session.specs.HandingOut.{toldHandedAhead, toldHanded}
 
-module _ (h : Head) (a : Ahead) (s out : List ℕ) where
+module _ (b : Board) (a : Ahead) (s out : List ℕ) where
   pub line-handed-short : length out < longestLine
-      → record { ahead = a; answer = refused bufferTooShort 0; out = out } ≡ lineHanded h a s out
+      → record { ahead = a; answer = refused bufferTooShort 0; out = out } ≡ lineHanded b a s out
   unfolding lineHanded
   line-handed-short short = rw (line-short out short)
 
-  pub line-handed-room : longestLine ≤ length out → handedBy (nextOf currentEdition h a s) out ≡ lineHanded h a s out
+  pub line-handed-room : longestLine ≤ length out → handedBy (nextOf currentEdition b a s) out ≡ lineHanded b a s out
   unfolding lineHanded
   line-handed-room room = rw (line-room out room)
 
   -- the buffer has room, and x is what comes next
-  module _ (x : Next) (room : longestLine ≤ length out) (next : toldNext x ≡ nextOf currentEdition h a s) where
+  module _ (x : Next) (room : longestLine ≤ length out) (next : toldNext x ≡ nextOf currentEdition b a s) where
     line-handed-by : (c : Coming) → toldComing (x .coming) ≡ c
-        → handedBy (toldAhead (x .ahead), c) out ≡ lineHanded h a s out
+        → handedBy (toldAhead (x .ahead), c) out ≡ lineHanded b a s out
     line-handed-by c is =
         let came = ap {B = Ahead × Coming} (λ d. (toldAhead (x .ahead), d)) (sym is) ∙ next in
         ap (λ (y : Ahead × Coming). handedBy y out) came ∙ line-handed-room room
 
     pub line-handed-over : x .coming ≡ comes.Over
-        → toldHandedAhead (record { ahead = x .ahead; answer = Over }) out ≡ lineHanded h a s out
+        → toldHandedAhead (record { ahead = x .ahead; answer = Over }) out ≡ lineHanded b a s out
     unfolding handedBy
     line-handed-over is = line-handed-by no-line (ap toldComing is)
 
     pub line-handed-written : (l : Line) (w : LineWritten) (r : HandOut) (out′ : List ℕ) → x .coming ≡ comes.Line l
         → _≡_ {A = Outcome ℕ × List ℕ} (toldLineWritten w, out′) (lineWriting (toldLine l) out)
         → toldHandOut r ≡ writtenAnswer (toldLineWritten w)
-        → toldHandedAhead (record { ahead = x .ahead; answer = r }) out′ ≡ lineHanded h a s out
+        → toldHandedAhead (record { ahead = x .ahead; answer = r }) out′ ≡ lineHanded b a s out
     unfolding handedBy
     line-handed-written l w r out′ is put told =
         let written = put ∙ line-written (toldLine l) out room in
@@ -62,7 +62,7 @@ module _ (h : Head) (a : Ahead) (s out : List ℕ) where
 pub handed-carried : (z : Session) (x : HandedAhead) (out′ : List ℕ) {o : told.HandedAhead} → toldHandedAhead x out′ ≡ o
     → toldHanded
     (record {
-      session = record { board = z .board; allowance = z .allowance; ahead = x .ahead };
+      session = record { board = z .board; ahead = x .ahead };
       answer = x .answer;
     }) out′
     ≡ carrying (toldSession z) o

@@ -16,14 +16,13 @@ use Rattle.board_reader.specs.declared.ReadAnswer.the-variants as board-was
 use Rattle.board_reader.specs.Editions.{currentEdition}
 use Rattle.board_reader.specs.Reading.{toldReadAnswer, Reads}
 use Rattle.session.specs.declared.Stage.the-variants as stage
-use Rattle.session.specs.Sessions.{withAllowance, headAt}
+use Rattle.session.specs.Sessions.{pastAllowance, headAt}
 use Rattle.session.specs.Carried.{begunFrom, beginning, toldSession}
 
 pub begun-refused : (b : Board) (t : Kept) (q : Refusal) → b ≡ emptyBoard → t ≡ keptFresh b
     → toldSession
     (record {
       board = b;
-      allowance = 0;
       ahead = record { kept = t; event = 0; place = 0; stage = stage.Refused q };
     }) ≡ begunFrom (refused (q .number) (q .place))
 unfolding begunFrom
@@ -34,30 +33,29 @@ module _ (b : Board) (x : number.Number) where
       → toldSession
       (record {
         board = b;
-        allowance = w;
         ahead = record { kept = t; event = 0; place = at; stage = stage.First };
-      }) ≡ begunFrom (withAllowance b (toldNumber x))
-  unfolding begunFrom withAllowance
+      }) ≡ begunFrom (pastAllowance b (toldNumber x))
+  unfolding begunFrom pastAllowance
   begun-read t w at is fresh = rw (is, fresh)
 
   pub begun-unread : (q : Refusal) → x ≡ number-was.Refused q
-      → begunFrom (refused (q .number) (q .place)) ≡ begunFrom (withAllowance b (toldNumber x))
-  unfolding withAllowance
+      → begunFrom (refused (q .number) (q .place)) ≡ begunFrom (pastAllowance b (toldNumber x))
+  unfolding pastAllowance
   begun-unread q is = rw is
 
 -- the head of a session, by what reading its board came to
 module _ (s : List ℕ) (r : BoardRead) (read : Reads s r) where
   head-by : headAt currentEdition s
-      ≡ (toldReadAnswer (r .answer) >>= (λ at. withAllowance (r .board) (numberAt currentWidth s at)))
+      ≡ (toldReadAnswer (r .answer) >>= (λ at. pastAllowance (r .board) (numberAt currentWidth s at)))
   unfolding headAt
   head-by =
-      ap (λ (x : Board × Outcome ℕ). x .1 >>= (λ at. withAllowance (x .0) (numberAt currentWidth s at))) (sym read)
+      ap (λ (x : Board × Outcome ℕ). x .1 >>= (λ at. pastAllowance (x .0) (numberAt currentWidth s at))) (sym read)
 
   pub beginning-board : (at : ℕ) (x : number.Number) → r .answer ≡ board-was.Read at → ReadsNumber s at x
-      → begunFrom (withAllowance (r .board) (toldNumber x)) ≡ beginning s
+      → begunFrom (pastAllowance (r .board) (toldNumber x)) ≡ beginning s
   unfolding beginning
   beginning-board at x is number =
-      let head : headAt currentEdition s ≡ withAllowance (r .board) (toldNumber x) = head-by ∙ rw (is, number) refl in
+      let head : headAt currentEdition s ≡ pastAllowance (r .board) (toldNumber x) = head-by ∙ rw (is, number) refl in
       ap begunFrom (sym head)
 
   pub beginning-refused : (q : Refusal) → r .answer ≡ board-was.Refused q

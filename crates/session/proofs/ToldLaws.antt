@@ -66,15 +66,15 @@ pub session-told : Told toldSession
 session-told = record { untold = untold; back = back; onto = onto }
   where
     untold : carried.Session → Session
-    untold z = record { board = z .board; allowance = z .allowance; ahead = ahead-told .untold (z .ahead) }
+    untold z = record { board = z .board; ahead = ahead-told .untold (z .ahead) }
 
     back : (x : Session) → untold (toldSession x) ≡ x
     back x =
-        λ i. record { board = x .board; allowance = x .allowance; ahead = ahead-told .back (x .ahead) i }
+        λ i. record { board = x .board; ahead = ahead-told .back (x .ahead) i }
 
     onto : (y : carried.Session) → toldSession (untold y) ≡ y
     onto y =
-        λ i. record { board = y .board; allowance = y .allowance; ahead = ahead-told .onto (y .ahead) i }
+        λ i. record { board = y .board; ahead = ahead-told .onto (y .ahead) i }
 
 pub hand-out-told : Told toldHandOut
 hand-out-told = record { untold = untold; back = back; onto = onto }

@@ -3,8 +3,7 @@
 --                                 refusing n p, that of the refusal n at p; over, none
 --     Ahead                       what changes from line to line: the state with the kept sets, the number and place
 --                                 of the next event, and the stage
---     Session                     the board and allowance, and what is ahead
---     headOf z                    the head of the session z
+--     Session                     the board, and what is ahead
 --     onward z a                  the session z with a ahead
 --     freshAhead b at k           what is ahead at the stage k before the first run: the fresh state of board b with
 --                                 its sets, and the first event at a place
@@ -15,13 +14,13 @@
 --                                 each event takes a byte
 --     goesOn e x at               event e tells x, and the session goes on with the event at a place
 --     closes a n p                the session with a ahead tells the refusal n at p, and is over
---     eventComes h a o            the session makes the event o and tells of it; where its number is refused, it tells
+--     eventComes b a o            the session makes the event o and tells of it; where its number is refused, it tells
 --                                 that and is over
---     nextEvent ed h a s          it tells of the event at its place of the input s, by the edition ed; at the input's
+--     nextEvent ed b a s          it tells of the event at its place of the input s, by the edition ed; at the input's
 --                                 end nothing comes
---     nextAt ed k h a s           its next line at the stage k
---     nextOf ed h a s             the next line of the session with the head h and a ahead on the input s, and what is
---                                 ahead after it
+--     nextAt ed k b a s           its next line at the stage k
+--     nextOf ed b a s             the next line of the session with the board b and a ahead on the input s, and what
+--                                 is ahead after it
 --     toldStage, toldAhead        the code's stage and what is ahead in these words
 --     toldSession                 the code's session in these words
 --     toldComing, toldNext        the code's next line, and what is ahead after it
@@ -51,7 +50,7 @@ use Rattle.session.specs.declared.next.Coming.the-variants as comes
 use Rattle.session.specs.declared.next.Next.{Next}
 use Rattle.events.specs.declared.Event.{Event}
 use Rattle.events.specs.Events.{Shown, eventAt, ranLine, eventLine}
-use Rattle.session.specs.Sessions.{Head, headWith, headAt}
+use Rattle.session.specs.Sessions.{headAt}
 
 pub data Stage : Type 0 where
   first events over : Stage
@@ -65,24 +64,17 @@ pub record Ahead : Type 0 where
 
 pub record Session : Type 0 where
   pub board : Board
-  pub allowance : ℕ
   pub ahead : Ahead
 
-abbrev pub headOf : Session → Head
-headOf z = headWith (z .board) (z .allowance)
-
 abbrev pub onward : Session → Ahead → Session
-onward z a = record { board = z .board; allowance = z .allowance; ahead = a }
+onward z a = record { board = z .board; ahead = a }
 
 abbrev pub freshAhead : Board → ℕ → Stage → Ahead
 freshAhead b at k = record { kept = keptFresh b; event = 0; place = at; stage = k }
 
-unfoldable pub begunFrom : Outcome (Found Head) → Session
-begunFrom (given h) =
-    let b = h .value .board in
-    record { board = b; allowance = h .value .allowance; ahead = freshAhead b (h .next) first }
-begunFrom (refused n p) =
-    record { board = emptyBoard; allowance = 0; ahead = freshAhead emptyBoard 0 (refusing n p) }
+unfoldable pub begunFrom : Outcome (Found Board) → Session
+begunFrom (given h) = record { board = h .value; ahead = freshAhead (h .value) (h .next) first }
+begunFrom (refused n p) = record { board = emptyBoard; ahead = freshAhead emptyBoard 0 (refusing n p) }
 
 unfoldable pub beginning : List ℕ → Session
 beginning s = begunFrom (headAt currentEdition s)
@@ -103,24 +95,22 @@ closes a n p = (
   line (closing n p),
 )
 
-unfoldable pub eventComes : Head → Ahead → Outcome (Found Event) → Ahead × Coming
-eventComes h a (given v) =
-    goesOn (a .event) (eventLine (h .board) (a .event) (a .kept) (v .value) (h .allowance)) (v .next)
-eventComes h a (refused n p) = closes a n p
+unfoldable pub eventComes : Board → Ahead → Outcome (Found Event) → Ahead × Coming
+eventComes b a (given v) = goesOn (a .event) (eventLine b (a .event) (a .kept) (v .value)) (v .next)
+eventComes b a (refused n p) = closes a n p
 
-unfoldable pub nextEvent : Edition → Head → Ahead → List ℕ → Ahead × Coming
-nextEvent ed h a s =
-    cond (leb (length s) (a .place)) (a, no-line) (eventComes h a (eventAt ed (h .board .counts .buttons) s (a .place)))
+unfoldable pub nextEvent : Edition → Board → Ahead → List ℕ → Ahead × Coming
+nextEvent ed b a s =
+    cond (leb (length s) (a .place)) (a, no-line) (eventComes b a (eventAt ed (b .counts .buttons) s (a .place)))
 
-unfoldable pub nextAt : Edition → Stage → Head → Ahead → List ℕ → Ahead × Coming
-nextAt ed first h a s =
-    goesOn (a .event) (ranLine (h .board) (a .event) (a .kept) (h .allowance)) (a .place)
-nextAt ed events h a s = nextEvent ed h a s
-nextAt ed over h a s = (a, no-line)
-nextAt ed (refusing n p) h a s = closes a n p
+unfoldable pub nextAt : Edition → Stage → Board → Ahead → List ℕ → Ahead × Coming
+nextAt ed first b a s = goesOn (a .event) (ranLine b (a .event) (a .kept)) (a .place)
+nextAt ed events b a s = nextEvent ed b a s
+nextAt ed over b a s = (a, no-line)
+nextAt ed (refusing n p) b a s = closes a n p
 
-unfoldable pub nextOf : Edition → Head → Ahead → List ℕ → Ahead × Coming
-nextOf ed h a s = nextAt ed (a .stage) h a s
+unfoldable pub nextOf : Edition → Board → Ahead → List ℕ → Ahead × Coming
+nextOf ed b a s = nextAt ed (a .stage) b a s
 
 abbrev pub toldStage : code-stage.Stage → Stage
 toldStage said.First = first
@@ -132,7 +122,7 @@ abbrev pub toldAhead : code-ahead.Ahead → Ahead
 toldAhead a = record { kept = a .kept; event = a .event; place = a .place; stage = toldStage (a .stage) }
 
 abbrev pub toldSession : code-session.Session → Session
-toldSession z = record { board = z .board; allowance = z .allowance; ahead = toldAhead (z .ahead) }
+toldSession z = record { board = z .board; ahead = toldAhead (z .ahead) }
 
 abbrev pub toldComing : code-coming.Coming → Coming
 toldComing (comes.Line l) = line (toldLine l)
@@ -142,7 +132,7 @@ abbrev pub toldNext : Next → Ahead × Coming
 toldNext r = (toldAhead (r .ahead), toldComing (r .coming))
 
 abbrev pub nextIn : code-session.Session → List ℕ → Ahead × Coming
-nextIn z s = nextOf currentEdition (headOf (toldSession z)) (toldSession z .ahead) s
+nextIn z s = nextOf currentEdition (z .board) (toldAhead (z .ahead)) s
 
 abbrev pub Begins : List ℕ → code-session.Session → Type 0
 Begins s z = toldSession z ≡ beginning s

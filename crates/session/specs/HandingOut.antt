@@ -6,7 +6,7 @@
 --     carrying z x               what is handed out with the session z to carry on, where x is handed on
 --     writtenAnswer o            the answer where writing the line came to o; only for the inner function `answer_of`
 --     handedBy x out             what is handed on where x comes next
---     lineHanded h a s out       what is handed on of the session with the head h and a ahead, by the current edition:
+--     lineHanded b a s out       what is handed on of the session with the board b and a ahead, by the current edition:
 --                                16 if the longest line has no room in the buffer, and then a as given
 --     nextLine z s out           the call
 --     toldHandOut                the answer's cases in these words and the rule book's numbers
@@ -20,6 +20,7 @@ use mathlib.Core.List.{List, _++_}
 use lib.ListN.{length, drop}
 use Rattle.refusals.specs.Outcomes.{Outcome, given, refused}
 use Rattle.refusals.specs.Order.{firstNo, answering}
+use Rattle.board.specs.declared.Board.{Board}
 use Rattle.board_reader.specs.Editions.{currentEdition}
 use Rattle.lines.specs.Lines.{lineText, lineLines}
 use Rattle.session.specs.declared.Session as code-session
@@ -27,8 +28,7 @@ use Rattle.session.specs.declared.HandOut as code-handout
 use Rattle.session.specs.declared.HandOut.the-variants as said
 use Rattle.session.specs.declared.Handed as code-handed
 use Rattle.session.specs.declared.fill.HandedAhead as code-on
-use Rattle.session.specs.Sessions.{Head}
-use Rattle.session.specs.Carried.{Ahead, Session, headOf, onward, Coming, line, no-line, nextOf, toldAhead}
+use Rattle.session.specs.Carried.{Ahead, Session, onward, Coming, line, no-line, nextOf, toldAhead}
 use Rattle.session.specs.Carried.{toldSession}
 
 pub data HandOut : Type 0 where
@@ -61,14 +61,14 @@ handedBy (a, line l) out =
     }
 handedBy (a, no-line) out = record { ahead = a; answer = given nothing; out = out }
 
-unfoldable pub lineHanded : Head → Ahead → List ℕ → List ℕ → HandedAhead
-lineHanded h a s out =
+unfoldable pub lineHanded : Board → Ahead → List ℕ → List ℕ → HandedAhead
+lineHanded b a s out =
     answering (firstNo (lineLines out))
     (λ n p. record { ahead = a; answer = refused n p; out = out })
-    (λ u. handedBy (nextOf currentEdition h a s) out)
+    (λ u. handedBy (nextOf currentEdition b a s) out)
 
 unfoldable pub nextLine : Session → List ℕ → List ℕ → Handed
-nextLine z s out = carrying z (lineHanded (headOf z) (z .ahead) s out)
+nextLine z s out = carrying z (lineHanded (z .board) (z .ahead) s out)
 
 abbrev pub toldHandOut : code-handout.HandOut → Outcome HandOut
 toldHandOut (said.Written n) = given (written n)

@@ -3,7 +3,6 @@ ghost use Prim.Native.Nat.{_≤_};
 ghost use mathlib.Core.Path.{_≡_};
 ghost use lib.ListN.{length, take, drop};
 ghost use Rattle.lines.specs.Lines.{toldLineWritten};
-ghost use Rattle.session.specs.Sessions.{headWith};
 ghost use Rattle.session.specs.Carried.{toldAhead};
 ghost use Rattle.session.specs.HandingOut.{writtenAnswer, lineHanded, toldHandOut, toldHandedAhead};
 ghost use Rattle.session.specs.Filling.{behind, summed};
@@ -34,15 +33,9 @@ fn answer_of(written: LineWritten) -> HandOut
 }
 
 // Hands out the next line into a buffer: 16 if the longest line has no room there.
-pub fn hand_line(
-    board: Board,
-    allowance: u32,
-    ahead: Ahead,
-    s: &[u8],
-    out: &mut [u8],
-) -> HandedAhead
+pub fn hand_line(board: Board, ahead: Ahead, s: &[u8], out: &mut [u8]) -> HandedAhead
     ensures { λ r. ⌜ toldHandedAhead r (now (out .exit))
-        ≡ lineHanded (headWith board allowance) (toldAhead ahead) (now (s .entry)) (now (out .entry)) ⌝ }
+        ≡ lineHanded board (toldAhead ahead) (now (s .entry)) (now (out .entry)) ⌝ }
 {
     if out.len() < LONGEST_LINE {
         return HandedAhead {
@@ -53,7 +46,7 @@ pub fn hand_line(
             }),
         };
     }
-    let next = next::advance(board, allowance, ahead, s);
+    let next = next::advance(board, ahead, s);
     let ahead = next.ahead;
     let coming = next.coming;
     match coming {
@@ -70,19 +63,12 @@ pub fn hand_line(
 }
 
 // Hands out the next line into the buffer from a place on.
-pub fn line_at(
-    board: Board,
-    allowance: u32,
-    ahead: Ahead,
-    s: &[u8],
-    out: &mut [u8],
-    at: usize,
-) -> HandedAhead
+pub fn line_at(board: Board, ahead: Ahead, s: &[u8], out: &mut [u8], at: usize) -> HandedAhead
     requires { ⌜ at ≤ length (now out) ⌝ }
     ensures { λ r. ⌜ toldHandedAhead r (now (out .exit)) ≡ behind (take at (now (out .entry)))
-        (lineHanded (headWith board allowance) (toldAhead ahead) (now (s .entry)) (drop at (now (out .entry)))) ⌝ }
+        (lineHanded board (toldAhead ahead) (now (s .entry)) (drop at (now (out .entry)))) ⌝ }
 {
-    hand_line(board, allowance, ahead, s, &mut out[at..])
+    hand_line(board, ahead, s, &mut out[at..])
 }
 
 // What a call came to that handed out so many bytes of lines, and then met the last answer: where there are no lines,

@@ -1,5 +1,5 @@
-// A session: a board, the allowance and events. `begin` reads what stands before the events, each `next_line` hands out
-// one line of the session into a lent buffer, and each `next_lines` as many as fit.
+// A session: a board, the allowance, which is read and then ignored, and events. `begin` reads what stands before the
+// events, each `next_line` hands out one line of the session into a lent buffer, and each `next_lines` as many as fit.
 ghost use Rattle.session.specs.Carried.{Begins};
 ghost use Rattle.session.specs.HandingOut.{NextLine};
 ghost use Rattle.session.specs.Filling.{NextLines};
@@ -30,10 +30,9 @@ pub struct Ahead {
     pub stage: Stage,
 }
 
-// What a session carries from line to line: its board and allowance, and what is ahead.
+// What a session carries from line to line: its board, and what is ahead.
 pub struct Session {
     pub board: Board,
-    pub allowance: u32,
     pub ahead: Ahead,
 }
 
@@ -70,17 +69,12 @@ pub fn next_line(session: Session, s: &[u8], out: &mut [u8]) -> Handed
     ensures { λ r. ⌜ NextLine session (now (s .entry)) (now (out .entry)) r (now (out .exit)) ⌝ }
 {
     let board = session.board;
-    let allowance = session.allowance;
     let ahead = session.ahead;
-    let handed = fill::hand_line(board, allowance, ahead, s, out);
+    let handed = fill::hand_line(board, ahead, s, out);
     let ahead = handed.ahead;
     let answer = handed.answer;
     Handed {
-        session: Session {
-            board,
-            allowance,
-            ahead,
-        },
+        session: Session { board, ahead },
         answer,
     }
 }
@@ -91,21 +85,16 @@ pub fn next_lines(session: Session, s: &[u8], out: &mut [u8]) -> Handed
     ensures { λ r. ⌜ NextLines session (now (s .entry)) (now (out .entry)) r (now (out .exit)) ⌝ }
 {
     let board = session.board;
-    let allowance = session.allowance;
     let mut ahead = session.ahead;
     let mut used = 0;
     loop {
-        let handed = fill::line_at(board, allowance, ahead, s, out, used);
+        let handed = fill::line_at(board, ahead, s, out, used);
         let next = handed.ahead;
         ahead = next;
         let answer = handed.answer;
         let HandOut::Written(length) = answer else {
             return Handed {
-                session: Session {
-                    board,
-                    allowance,
-                    ahead,
-                },
+                session: Session { board, ahead },
                 answer: fill::sum_up(used, answer),
             };
         };

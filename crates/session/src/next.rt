@@ -2,7 +2,6 @@
 ghost use mathlib.Core.Path.{_≡_};
 ghost use Rattle.board_reader.specs.Editions.{currentEdition};
 ghost use Rattle.events.specs.Events.{toldShown};
-ghost use Rattle.session.specs.Sessions.{headWith};
 ghost use Rattle.session.specs.Carried.{following, goesOn, closes, nextEvent, nextOf};
 ghost use Rattle.session.specs.Carried.{toldAhead, toldNext};
 use crate::Ahead;
@@ -73,9 +72,8 @@ fn close(ahead: Ahead, refusal: Refusal) -> Next
 }
 
 // What comes of the event at the session's place in the input, or that the input ends there.
-fn next_event(board: Board, allowance: u32, ahead: Ahead, s: &[u8]) -> Next
-    ensures { λ r. ⌜ toldNext r
-        ≡ nextEvent currentEdition (headWith board allowance) (toldAhead ahead) (now (s .entry)) ⌝ }
+fn next_event(board: Board, ahead: Ahead, s: &[u8]) -> Next
+    ensures { λ r. ⌜ toldNext r ≡ nextEvent currentEdition board (toldAhead ahead) (now (s .entry)) ⌝ }
 {
     let place = ahead.place;
     if s.len() <= place {
@@ -90,7 +88,7 @@ fn next_event(board: Board, allowance: u32, ahead: Ahead, s: &[u8]) -> Next
         EventRead::Read(event, next) => {
             let kept = ahead.kept;
             let number = ahead.event;
-            let shown = events::event_line(board, number, kept, event, allowance);
+            let shown = events::event_line(board, number, kept, event);
             go_on(number, shown, next)
         }
         EventRead::Refused(refusal) => close(ahead, refusal),
@@ -98,19 +96,18 @@ fn next_event(board: Board, allowance: u32, ahead: Ahead, s: &[u8]) -> Next
 }
 
 // The next line of the session.
-pub fn advance(board: Board, allowance: u32, ahead: Ahead, s: &[u8]) -> Next
-    ensures { λ r. ⌜ toldNext r
-        ≡ nextOf currentEdition (headWith board allowance) (toldAhead ahead) (now (s .entry)) ⌝ }
+pub fn advance(board: Board, ahead: Ahead, s: &[u8]) -> Next
+    ensures { λ r. ⌜ toldNext r ≡ nextOf currentEdition board (toldAhead ahead) (now (s .entry)) ⌝ }
 {
     let stage = ahead.stage;
     match stage {
         Stage::First => {
             let kept = ahead.kept;
             let number = ahead.event;
-            let shown = events::run_line(board, number, kept, allowance);
+            let shown = events::run_line(board, number, kept);
             go_on(number, shown, ahead.place)
         }
-        Stage::Events => next_event(board, allowance, ahead, s),
+        Stage::Events => next_event(board, ahead, s),
         Stage::Refused(refusal) => close(ahead, refusal),
         Stage::Over => Next {
             ahead,

@@ -1,8 +1,8 @@
-// How a session starts: with a board and an allowance, or with a refusal.
+// How a session starts: with a board and the place past its allowance, or with a refusal.
 ghost use mathlib.Core.Path.{_≡_};
 ghost use Rattle.refusals.specs.Outcomes.{refused};
 ghost use Rattle.number.specs.Numbers.{toldNumber};
-ghost use Rattle.session.specs.Sessions.{withAllowance};
+ghost use Rattle.session.specs.Sessions.{pastAllowance};
 ghost use Rattle.session.specs.Carried.{begunFrom, toldSession};
 use crate::Ahead;
 use crate::Session;
@@ -19,7 +19,6 @@ pub fn refuse(refusal: Refusal) -> Session
     let board = board::empty();
     Session {
         board,
-        allowance: 0,
         ahead: Ahead {
             kept: Kept::fresh(board),
             event: 0,
@@ -29,14 +28,13 @@ pub fn refuse(refusal: Refusal) -> Session
     }
 }
 
-// The session of a board and of what reading its allowance came to.
+// The session of a board and of what reading its allowance came to: any number will do, and it is ignored.
 pub fn begin_with(board: Board, allowance: Number) -> Session
-    ensures { λ r. ⌜ toldSession r ≡ begunFrom (withAllowance board (toldNumber allowance)) ⌝ }
+    ensures { λ r. ⌜ toldSession r ≡ begunFrom (pastAllowance board (toldNumber allowance)) ⌝ }
 {
     match allowance {
-        Number::Read(allowance, place) => Session {
+        Number::Read(_, place) => Session {
             board,
-            allowance,
             ahead: Ahead {
                 kept: Kept::fresh(board),
                 event: 0,

@@ -15,15 +15,15 @@ use Rattle.board.specs.declared.Board.{Board}
 use Rattle.board_reader.specs.Editions.{currentEdition}
 use Rattle.board_reader.specs.Reading.{longestInput, answered, reading}
 use Rattle.board_reader.proofs.ReadLaws.{reading-long}
-use Rattle.session.specs.Sessions.{Head, withAllowance, headAt, headLines, sessionLines}
+use Rattle.session.specs.Sessions.{pastAllowance, headAt, headLines, sessionLines}
 use Rattle.session.specs.declared.Session.{Session}
 use Rattle.session.specs.Carried as carried
-use Rattle.session.specs.Carried.{headOf, begunFrom, beginning, Begins}
+use Rattle.session.specs.Carried.{begunFrom, beginning, Begins}
 use Rattle.session.proofs.ToCome.{toComeAt, toCome}
 use Rattle.session_means.proofs.StillLaws.{stillAt, still, stillIn, Numbered, NumberedIn}
 
-begun-still : (o : Outcome (Found Head)) (s : List ℕ)
-    → still currentEdition (headOf (begunFrom o)) (begunFrom o .ahead) s ≡ headLines currentEdition o s
+begun-still : (o : Outcome (Found Board)) (s : List ℕ)
+    → still currentEdition (begunFrom o .board) (begunFrom o .ahead) s ≡ headLines currentEdition o s
 unfolding begunFrom headLines still stillAt
 begun-still (given h) s = refl
 begun-still (refused n p) s = refl
@@ -31,7 +31,7 @@ begun-still (refused n p) s = refl
 pub beginning-still : (s : List ℕ) (z : Session) → Begins s z → stillIn z s ≡ sessionLines currentEdition s
 unfolding beginning sessionLines
 beginning-still s z begun =
-    ap (λ (x : carried.Session). still currentEdition (headOf x) (x .ahead) s) begun
+    ap (λ (x : carried.Session). still currentEdition (x .board) (x .ahead) s) begun
     ∙ begun-still (headAt currentEdition s) s
 
 long-refused : (s : List ℕ) → longestInput < length s → reading currentEdition s .1 ≡ refused inputTooLong 0
@@ -47,16 +47,16 @@ read-short s at read = by (leb (length s) longestInput) refl
     by false e =
         absurd (refused-never inputTooLong 0 at (sym (long-refused s (leb-false (length s) longestInput e)) ∙ read))
 
-head-short : (s : List ℕ) (h : Found Head) → headAt currentEdition s ≡ given h → length s ≤ longestInput
+head-short : (s : List ℕ) (h : Found Board) → headAt currentEdition s ≡ given h → length s ≤ longestInput
 unfolding headAt
 head-short s h e =
     let board =
     handed (reading currentEdition s .1)
-    (λ at. withAllowance (reading currentEdition s .0) (numberAt currentWidth s at)) h e in
+    (λ at. pastAllowance (reading currentEdition s .0) (numberAt currentWidth s at)) h e in
     read-short s (board .value) (board .first)
 
-begun-numbered : (o : Outcome (Found Head)) (s : List ℕ)
-    → ((h : Found Head) → o ≡ given h → length s ≤ longestInput) → Numbered (begunFrom o .ahead) s
+begun-numbered : (o : Outcome (Found Board)) (s : List ℕ)
+    → ((h : Found Board) → o ≡ given h → length s ≤ longestInput) → Numbered (begunFrom o .ahead) s
 unfolding begunFrom toCome toComeAt
 begun-numbered (given h) s short = omega (arith, short h refl)
 begun-numbered (refused n p) s short = omega arith

@@ -54,13 +54,13 @@ log-short = simp length-replicate (omega arith)
 module _ (b : Board) where
   -- ---- a run
 
-  pub ran-fits : (w e : ℕ) (t : Kept) → usable b t ≡ given tt → ShownFits b (ranLine b e t w)
+  pub ran-fits : (e : ℕ) (t : Kept) → usable b t ≡ given tt → ShownFits b (ranLine b e t)
   unfolding ranLine ran
-  ran-fits w e t fits =
+  ran-fits e t fits =
       let goes = runnable-log b t sessionLog fits log-short in
       let was = usable-given b t fits in
       let after = run-fits (b .counts) (stepOf b) (length sessionLog) (t .state) (was .1) in
-      subst (λ r. ShownFits b (tells e r)) (running-by b t sessionLog w (given tt) goes)
+      subst (λ r. ShownFits b (tells e r)) (running-by b t sessionLog (given tt) goes)
       (record { twelve = tt; drawn = refl; fits = usable-fine b _ (was .0) after })
 
   -- ---- a push or a release
@@ -104,12 +104,12 @@ module _ (b : Board) where
 
   -- ---- the event
 
-  pressed-fits : (w e : ℕ) (x : Kept × Outcome (Unit {0})) → PressFits b x → ShownFits b (pressedLine b e x w)
+  pressed-fits : (e : ℕ) (x : Kept × Outcome (Unit {0})) → PressFits b x → ShownFits b (pressedLine b e x)
   unfolding pressedLine
-  pressed-fits w e (t, given u) so = ran-fits w e t (so .fits)
-  pressed-fits w e (t, refused n p) so = record { twelve = so .twelve; drawn = refl; fits = so .fits }
+  pressed-fits e (t, given u) so = ran-fits e t (so .fits)
+  pressed-fits e (t, refused n p) so = record { twelve = so .twelve; drawn = refl; fits = so .fits }
 
-  pub event-fits : (w e : ℕ) (t : Kept) (v : Event) → usable b t ≡ given tt
-      → ltb (v .button) (b .counts .buttons) ≡ true → ShownFits b (eventLine b e t v w)
+  pub event-fits : (e : ℕ) (t : Kept) (v : Event) → usable b t ≡ given tt
+      → ltb (v .button) (b .counts .buttons) ≡ true → ShownFits b (eventLine b e t v)
   unfolding eventLine
-  event-fits w e t v fits below = pressed-fits w e (pressing b t v) (press-fits t v fits below)
+  event-fits e t v fits below = pressed-fits e (pressing b t v) (press-fits t v fits below)

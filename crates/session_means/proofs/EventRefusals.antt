@@ -5,20 +5,21 @@ use mathlib.Core.Path.{subst}
 use mathlib.Core.List.{List, _∷_}
 use Rattle.lists.specs.Members.{All}
 use Rattle.refusals.specs.Outcomes.{Outcome, given, refused, Found}
+use Rattle.board.specs.declared.Board.{Board}
 use Rattle.board_reader.specs.Editions.{currentEdition}
 use Rattle.file_means.proofs.GivesLaws.{Gives}
-use Rattle.session.specs.Sessions.{Head, headAt, headLines, sessionLines}
+use Rattle.session.specs.Sessions.{headAt, headLines, sessionLines}
 use Rattle.lines.specs.Lines.{Line, event, closing}
 use Rattle.events.specs.Events.{Shown}
 use Rattle.session_means.specs.EventRefusals.{OnlyTwelve, EventsRefused, ClosedByEvent, EventsClosed}
 use Rattle.session_means.proofs.EventFits.{ShownFits}
 use Rattle.session_means.proofs.LinesWalk.{Along, HeadFine, head-fine, head-walk}
 
-along-twelve : (h : Head) → Along h (λ e t ls. All OnlyTwelve ls)
-along-twelve h =
+along-twelve : (b : Board) → Along b (λ e t ls. All OnlyTwelve ls)
+along-twelve b =
     record { none = λ e t. tt; closes = λ e t n p by. (tt, tt); shown = λ e t x ls shows so on. (so .twelve, on) }
 
-head-lines-twelve : (o : Outcome (Found Head)) (s : List ℕ) → Gives HeadFine o
+head-lines-twelve : (o : Outcome (Found Board)) (s : List ℕ) → Gives HeadFine o
     → All OnlyTwelve (headLines currentEdition o s)
 unfolding headLines
 head-lines-twelve (refused n p) s fine = (tt, tt)
@@ -28,17 +29,17 @@ pub events-refused : EventsRefused
 unfolding sessionLines
 events-refused s = head-lines-twelve (headAt currentEdition s) s (head-fine s)
 
-shown-closes-none : (h : Head) (x : Shown) (ls : List Line) → ShownFits (h .board) x → All ClosedByEvent ls
+shown-closes-none : (b : Board) (x : Shown) (ls : List Line) → ShownFits b x → All ClosedByEvent ls
     → All ClosedByEvent (x .0 ∷ ls)
-shown-closes-none h (event n o m d, u) ls so on = (tt, on)
-shown-closes-none h (closing n p, u) ls so on = absurd (so .drawn)
+shown-closes-none b (event n o m d, u) ls so on = (tt, on)
+shown-closes-none b (closing n p, u) ls so on = absurd (so .drawn)
 
-along-closed : (h : Head) → Along h (λ e t ls. All ClosedByEvent ls)
-along-closed h =
+along-closed : (b : Board) → Along b (λ e t ls. All ClosedByEvent ls)
+along-closed b =
     record {
       none = λ e t. tt;
       closes = λ e t n p by. (by, tt);
-      shown = λ e t x ls shows so on. shown-closes-none h x ls so on;
+      shown = λ e t x ls shows so on. shown-closes-none b x ls so on;
     }
 
 pub events-closed : EventsClosed

@@ -6,18 +6,19 @@ use mathlib.Core.Path.{_≡_, refl, sym, ap, ap₂, subst, _∙_}
 use mathlib.Core.List.{List, [], _∷_, _++_, append-nil, append-assoc}
 use mathlib.Core.Logic.{inl, inr, _⊎_}
 use lib.ListN.{length}
+use Rattle.board.specs.declared.Board.{Board}
 use Rattle.board_reader.specs.Editions.{currentEdition}
 use Rattle.lines.specs.Lines.{Line, longestLine}
 use Rattle.session.specs.declared.Session as code-session
 use Rattle.session.specs.declared.Handed as code-handed
 use Rattle.session.specs.declared.HandOut.the-variants.{Written, Over}
-use Rattle.session.specs.Sessions.{Head, sessionLines, sessionText, lineTexts, printed}
-use Rattle.session.specs.Carried.{Ahead, headOf, Coming, line, no-line, nextOf, toldAhead, toldSession, Begins}
+use Rattle.session.specs.Sessions.{sessionLines, sessionText, lineTexts, printed}
+use Rattle.session.specs.Carried.{Ahead, Coming, line, no-line, nextOf, toldAhead, Begins}
 use Rattle.session.specs.Filling.{fitting, NextLines}
 use Rattle.session.proofs.ComingLaws.{line-never}
 use Rattle.session.proofs.FitLaws.{bytesOf, Full, bytes-append, fitting-holds}
 use Rattle.session.proofs.FilledCalls.{came-lines, came-full, filled-answers, filled-over, filled-lent}
-use Rattle.session.proofs.FilledCalls.{filled-head}
+use Rattle.session.proofs.FilledCalls.{filled-board}
 use Rattle.session_means.specs.HandedLines.{Hands, HandsOut, PutsText}
 use Rattle.session_means.specs.FilledBuffers.{HandsSome, BuffersFilled, AllFilled}
 use Rattle.session_means.proofs.StillLaws.{still, stillIn, Numbered, NumberedIn, still-next, numbered-next}
@@ -28,26 +29,26 @@ abbrev Filled : ℕ → List Line → List Line → Type 0
 Filled n ls left = (left ≡ []) ⊎ (n < length (bytesOf ls) + longestLine)
 
 -- the lines ls are the first that are still to tell where a is ahead, and the rest where y is
-abbrev FirstLines : Head → List ℕ → Ahead → List Line → Ahead → Type 0
-FirstLines h s a ls y = (still currentEdition h a s ≡ ls ++ still currentEdition h y s) × Numbered y s
+abbrev FirstLines : Board → List ℕ → Ahead → List Line → Ahead → Type 0
+FirstLines b s a ls y = (still currentEdition b a s ≡ ls ++ still currentEdition b y s) × Numbered y s
 
 -- likewise of the code's sessions
 abbrev FirstIn : List ℕ → code-session.Session → List Line → code-session.Session → Type 0
 FirstIn s z ls y = (stillIn z s ≡ ls ++ stillIn y s) × NumberedIn y s
 
 module _ (s : List ℕ) where
-  first-line : (h : Head) (a y x : Ahead) (l : Line) (ls : List Line) → Numbered a s
-      → nextOf currentEdition h a s ≡ (y, line l) → (Numbered y s → FirstLines h s y ls x) → FirstLines h s a (l ∷ ls) x
-  first-line h a y x l ls numbered is rest =
-      let so = rest (numbered-next currentEdition h a s numbered y l is) in
-      (still-next currentEdition h a s numbered (y, line l) is ∙ ap {B = List Line} (λ ms. l ∷ ms) (so .0), so .1)
+  first-line : (b : Board) (a y x : Ahead) (l : Line) (ls : List Line) → Numbered a s
+      → nextOf currentEdition b a s ≡ (y, line l) → (Numbered y s → FirstLines b s y ls x) → FirstLines b s a (l ∷ ls) x
+  first-line b a y x l ls numbered is rest =
+      let so = rest (numbered-next currentEdition b a s numbered y l is) in
+      (still-next currentEdition b a s numbered (y, line l) is ∙ ap {B = List Line} (λ ms. l ∷ ms) (so .0), so .1)
 
   -- the lines that fit are the first
-  fitting-first : (h : Head) (k : ℕ) (a : Ahead) (n : ℕ) → n ≤ k → Numbered a s
-      → FirstLines h s a (fitting k h a s n .1) (fitting k h a s n .0)
-  fitting-first h =
-      fitting-holds h s (λ a n x. Numbered a s → FirstLines h s a (x .1) (x .0)) (λ a n why numbered. (refl, numbered))
-      (λ a y l n x is room rest numbered. first-line h a y (x .0) l (x .1) numbered is rest)
+  fitting-first : (b : Board) (k : ℕ) (a : Ahead) (n : ℕ) → n ≤ k → Numbered a s
+      → FirstLines b s a (fitting k b a s n .1) (fitting k b a s n .0)
+  fitting-first b =
+      fitting-holds b s (λ a n x. Numbered a s → FirstLines b s a (x .1) (x .0)) (λ a n why numbered. (refl, numbered))
+      (λ a y l n x is room rest numbered. first-line b a y (x .0) l (x .1) numbered is rest)
 
   came-first : (z : code-session.Session) (out out′ : List ℕ) (r : code-handed.Handed)
       (called : NextLines z s out r out′) (n : ℕ) (is : r .answer ≡ Written n) → NumberedIn z s
@@ -55,11 +56,10 @@ module _ (s : List ℕ) where
   came-first z out out′ r called n is numbered =
       let ls = came-lines z s out out′ r called n is .lines-told in
       let after : Ahead = toldAhead (r .session .ahead) in
-      let head = headOf (toldSession z) in
-      let first : FirstLines head s (toldAhead (z .ahead)) ls after =
+      let first : FirstLines (z .board) s (toldAhead (z .ahead)) ls after =
       rw (came-lines z s out out′ r called n is .lines-fit) at
-      (fitting-first head (length out) (toldAhead (z .ahead)) (length out) (omega arith) numbered) in (
-        first .0 ∙ ap (λ (h : Head). ls ++ still currentEdition h after s) (sym (filled-head z s out out′ r called)),
+      (fitting-first (z .board) (length out) (toldAhead (z .ahead)) (length out) (omega arith) numbered) in (
+        first .0 ∙ ap (λ (b : Board). ls ++ still currentEdition b after s) (sym (filled-board z s out out′ r called)),
         first .1,
       )
 
@@ -109,19 +109,19 @@ module _ (s : List ℕ) where
   -- ---- the next buffer
 
   -- where nothing comes, nothing is left
-  none-by : (h : Head) (a : Ahead) → Numbered a s → (c : Ahead × Coming) → c .1 ≡ no-line
-      → nextOf currentEdition h a s ≡ c → still currentEdition h a s ≡ []
-  none-by h a numbered (y, no-line) is next = still-next currentEdition h a s numbered _ next
-  none-by h a numbered (y, line l) is next = absurd (line-never l (sym is))
+  none-by : (b : Board) (a : Ahead) → Numbered a s → (c : Ahead × Coming) → c .1 ≡ no-line
+      → nextOf currentEdition b a s ≡ c → still currentEdition b a s ≡ []
+  none-by b a numbered (y, no-line) is next = still-next currentEdition b a s numbered _ next
+  none-by b a numbered (y, line l) is next = absurd (line-never l (sym is))
 
-  none-left : (h : Head) (a : Ahead) → Numbered a s → nextOf currentEdition h a s .1 ≡ no-line
-      → still currentEdition h a s ≡ []
-  none-left h a numbered is = none-by h a numbered (nextOf currentEdition h a s) is refl
+  none-left : (b : Board) (a : Ahead) → Numbered a s → nextOf currentEdition b a s .1 ≡ no-line
+      → still currentEdition b a s ≡ []
+  none-left b a numbered is = none-by b a numbered (nextOf currentEdition b a s) is refl
 
-  full-still : (h : Head) (n : ℕ) (a : Ahead) (ls : List Line) → Numbered a s → Full h s n (a, ls)
-      → Filled n ls (still currentEdition h a s)
-  full-still h n a ls numbered (inl none) = inl (none-left h a numbered none)
-  full-still h n a ls numbered (inr less) = inr less
+  full-still : (b : Board) (n : ℕ) (a : Ahead) (ls : List Line) → Numbered a s → Full b s n (a, ls)
+      → Filled n ls (still currentEdition b a s)
+  full-still b n a ls numbered (inl none) = inl (none-left b a numbered none)
+  full-still b n a ls numbered (inr less) = inr less
 
   module _ (z : code-session.Session) (out out′ : List ℕ) (r : code-handed.Handed) (called : NextLines z s out r out′)
       (numbered : NumberedIn z s) where

@@ -18,16 +18,16 @@ use Rattle.events.specs.Events.{Shown, eventAt, eventLine}
 use Rattle.session.specs.Sessions.{eventLines, linesFrom}
 use Rattle.session.proofs.ComingLaws.{event-next}
 
-module _ (ed : Edition) (b : Board) (w : ℕ) (s : List ℕ) where
-  pub from-end : (k : ℕ) (t : Kept) (e at : ℕ) → length s ≤ at → linesFrom ed k b s t e at w ≡ []
+module _ (ed : Edition) (b : Board) (s : List ℕ) where
+  pub from-end : (k : ℕ) (t : Kept) (e at : ℕ) → length s ≤ at → linesFrom ed k b s t e at ≡ []
   unfolding linesFrom
   from-end zero t e at past = refl
   from-end (suc k) t e at past = rw (le-leb (length s) at past) refl
 
   pub from-event : (k : ℕ) (t : Kept) (e at : ℕ) → at < length s
-      → linesFrom ed (suc k) b s t e at w
-      ≡ eventLines (eventAt ed (b .counts .buttons) s at) (λ v. eventLine b e t v w)
-      (λ u next. linesFrom ed k b s u (suc e) next w)
+      → linesFrom ed (suc k) b s t e at
+      ≡ eventLines (eventAt ed (b .counts .buttons) s at) (eventLine b e t)
+      (λ u. linesFrom ed k b s u (suc e))
   unfolding linesFrom
   from-event k t e at there = rw (lt-leb (length s) at there) refl
 
@@ -42,20 +42,20 @@ module _ (ed : Edition) (b : Board) (w : ℕ) (s : List ℕ) where
   lines-same at tell go stay same (refused n p) e = refl
 
   enough-by : (k m : ℕ) (t : Kept) (e at : ℕ)
-      → ((u : Kept) (next : ℕ) → at < next → linesFrom ed k b s u (suc e) next w ≡ linesFrom ed m b s u (suc e) next w)
-      → (past : Bool) → leb (length s) at ≡ past → linesFrom ed (suc k) b s t e at w ≡ linesFrom ed (suc m) b s t e at w
+      → ((u : Kept) (next : ℕ) → at < next → linesFrom ed k b s u (suc e) next ≡ linesFrom ed m b s u (suc e) next)
+      → (past : Bool) → leb (length s) at ≡ past → linesFrom ed (suc k) b s t e at ≡ linesFrom ed (suc m) b s t e at
   enough-by k m t e at same true past =
       from-end (suc k) t e at (leb-true (length s) at past)
       ∙ sym (from-end (suc m) t e at (leb-true (length s) at past))
   enough-by k m t e at same false there =
       from-event k t e at (leb-false (length s) at there)
-      ∙ lines-same at (λ v. eventLine b e t v w) (λ u next. linesFrom ed k b s u (suc e) next w)
-      (λ u next. linesFrom ed m b s u (suc e) next w) same (eventAt ed (b .counts .buttons) s at) refl
+      ∙ lines-same at (eventLine b e t) (λ u. linesFrom ed k b s u (suc e))
+      (λ u. linesFrom ed m b s u (suc e)) same (eventAt ed (b .counts .buttons) s at) refl
       ∙ sym (from-event m t e at (leb-false (length s) at there))
 
   -- k and m both allow for an event on each byte left
   pub from-enough : (k m : ℕ) (t : Kept) (e at : ℕ) → length s - at ≤ k → length s - at ≤ m
-      → linesFrom ed k b s t e at w ≡ linesFrom ed m b s t e at w
+      → linesFrom ed k b s t e at ≡ linesFrom ed m b s t e at
   from-enough zero m t e at few most = from-end zero t e at (omega arith) ∙ sym (from-end m t e at (omega arith))
   from-enough (suc k) zero t e at most few =
       from-end (suc k) t e at (omega arith) ∙ sym (from-end zero t e at (omega arith))

@@ -4,16 +4,17 @@ use Prim.Native.Nat.{ℕ, _≤_}
 use mathlib.Core.Path.{_≡_, refl, sym, ap, ap₂, subst, _∙_}
 use mathlib.Core.List.{List, [], _∷_, _++_, append-nil}
 use lib.ListN.{length}
+use Rattle.board.specs.declared.Board.{Board}
 use Rattle.board_reader.specs.Editions.{currentEdition}
 use Rattle.lines.specs.Lines.{Line, longestLine}
 use Rattle.session.specs.declared.Session as code-session
 use Rattle.session.specs.declared.Handed as code-handed
 use Rattle.session.specs.declared.HandOut.the-variants.{Over}
 use Rattle.session.specs.HandingOut.{nothing, toldHandOut, NextLine}
-use Rattle.session.specs.Sessions.{Head, lineTexts}
-use Rattle.session.specs.Carried.{Ahead, headOf, Coming, line, no-line, nextIn, toldAhead, toldSession}
+use Rattle.session.specs.Sessions.{lineTexts}
+use Rattle.session.specs.Carried.{Ahead, Coming, line, no-line, nextIn, toldAhead}
 use Rattle.session.proofs.CallLaws.{over-never, call-room, call-over, call-lent, call-line, call-stays}
-use Rattle.session.proofs.CallLaws.{call-head, came}
+use Rattle.session.proofs.CallLaws.{call-board, came}
 use Rattle.session_means.specs.HandedLines.{Hands, HandsOut, Tells, LinesHandedOut, AllHandedOut}
 use Rattle.session_means.proofs.StillLaws.{still, stillIn, NumberedIn, still-next, numbered-next}
 use Rattle.session_means.proofs.BeginningLaws.{beginning-still, beginning-numbered}
@@ -33,8 +34,9 @@ module _ (s : List ℕ) where
   hands-first z y t numbered h =
       let c = came z s (h .out) (h .out′) (h .answer) (h .called) (h .bytes) (h .wrote) in
       let after : Ahead = toldAhead (h .answer .session .ahead) in
-      let rest : still currentEdition (headOf (toldSession z)) after s ≡ stillIn y s =
-      ap (λ (k : Head). still currentEdition k after s) (sym (call-head z s (h .out) (h .out′) (h .answer) (h .called)))
+      let rest : still currentEdition (z .board) after s ≡ stillIn y s =
+      ap (λ (k : Board). still currentEdition k after s)
+      (sym (call-board z s (h .out) (h .out′) (h .answer) (h .called)))
       ∙ ap (λ (x : code-session.Session). stillIn x s) (h .after) in
       record {
         told =

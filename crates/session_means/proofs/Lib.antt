@@ -9,3 +9,4 @@ pub mod LinesWalk
 pub mod EventRefusals
 pub mod LinesDrawn
 pub mod SessionsKept
+pub mod AnyAllowance

@@ -3,31 +3,32 @@
 use Prim.Native.Nat.{ℕ, suc}
 use mathlib.Core.Path.{refl, subst, _∙_}
 use mathlib.Core.List.{List, _∷_}
+use Rattle.board.specs.declared.Board.{Board}
 use Rattle.kept.specs.declared.Kept.{Kept}
 use Rattle.kept.proofs.KeptLaws.{usable-given}
 use Rattle.file_means.proofs.GivesLaws.{Gives}
 use Rattle.lines.specs.Lines.{Line, event, closing}
 use Rattle.events.specs.Events.{Shown}
 use Rattle.events.proofs.DrawnLaws.{drawn-is-sum}
-use Rattle.session.specs.Sessions.{Head, sessionLines}
+use Rattle.session.specs.Sessions.{sessionLines}
 use Rattle.session_means.specs.LinesDrawn.{EventShows, SumsFrom, LinesDrawn}
 use Rattle.session_means.proofs.EventFits.{ShownFits}
 use Rattle.session_means.proofs.LinesWalk.{Along, HeadFine, head-fine, head-walk}
 
-shown-sum : (h : Head) (e : ℕ) (t : Kept) (x : Shown) (ls : List Line) → EventShows h e t x
-    → ShownFits (h .board) x → SumsFrom h (suc e) (x .1) ls → SumsFrom h e t (x .0 ∷ ls)
-shown-sum h e t (event n o m d, u) ls shows so on =
-    let fits = usable-given (h .board) u (so .fits) .1 in (
+shown-sum : (b : Board) (e : ℕ) (t : Kept) (x : Shown) (ls : List Line) → EventShows b e t x
+    → ShownFits b x → SumsFrom b (suc e) (x .1) ls → SumsFrom b e t (x .0 ∷ ls)
+shown-sum b e t (event n o m d, u) ls shows so on =
+    let fits = usable-given b u (so .fits) .1 in (
       u,
       (
-        record { shows = shows; fits = fits; sum = so .drawn ∙ drawn-is-sum (h .board .counts) (u .state) fits },
+        record { shows = shows; fits = fits; sum = so .drawn ∙ drawn-is-sum (b .counts) (u .state) fits },
         on,
       ),
     )
-shown-sum h e t (closing n p, u) ls shows so on = absurd (so .drawn)
+shown-sum b e t (closing n p, u) ls shows so on = absurd (so .drawn)
 
-along-drawn : (h : Head) → Along h (SumsFrom h)
-along-drawn h = record { none = λ e t. tt; closes = λ e t n p by. refl; shown = shown-sum h }
+along-drawn : (b : Board) → Along b (SumsFrom b)
+along-drawn b = record { none = λ e t. tt; closes = λ e t n p by. refl; shown = shown-sum b }
 
 pub lines-drawn : LinesDrawn
 unfolding sessionLines

@@ -20,7 +20,7 @@ use Rattle.file_means.proofs.KeptLaws.{Changed, first-changed, second-changed, 
 use Rattle.lines.specs.Lines.{Line, closing}
 use Rattle.events.specs.declared.Event.{Event}
 use Rattle.events.specs.Events.{Shown, eventAt}
-use Rattle.session.specs.Sessions.{Head, withAllowance, headAt, eventLines, linesFrom, headLines, sessionLines}
+use Rattle.session.specs.Sessions.{pastAllowance, headAt, eventLines, linesFrom, headLines, sessionLines}
 use Rattle.session.specs.Sessions.{lineTexts, printed, sessionText}
 use Rattle.session_means.specs.SessionsKept.{Unclosed, SessionsKept, FirstSessionsKept, LinesKept, same, ended}
 use Rattle.session_means.specs.SessionsKept.{LinesStand}
@@ -48,16 +48,16 @@ module _ {m : ℕ} (old new : Edition) (more : Changed m old new) (s : List ℕ)
   event-lines-kept (refused n p) o′ tell go go′ (stands is) later = rw is (same refl)
   event-lines-kept o o′ tell go go′ (was-refused p is) later = ended [] _ p (rw is) refl
 
-  lines-kept : (k : ℕ) (b : Board) (t : beside.Kept) (e at a : ℕ)
-      → LinesKept m (linesFrom old k b s t e at a) (linesFrom new k b s t e at a)
+  lines-kept : (k : ℕ) (b : Board) (t : beside.Kept) (e at : ℕ)
+      → LinesKept m (linesFrom old k b s t e at) (linesFrom new k b s t e at)
   unfolding linesFrom
-  lines-kept zero b t e at a = same refl
-  lines-kept (suc k) b t e at a =
+  lines-kept zero b t e at = same refl
+  lines-kept (suc k) b t e at =
       kept-unless-done (leb (length s) at)
-      (event-lines-kept _ _ _ _ _ (event-kept (b .counts .buttons) at) (λ u next. lines-kept k b u (suc e) next a))
+      (event-lines-kept _ _ _ _ _ (event-kept (b .counts .buttons) at) (λ u next. lines-kept k b u (suc e) next))
 
   head-kept : Kept m (headAt old s) (headAt new s)
-  unfolding headAt withAllowance answered
+  unfolding headAt pastAllowance answered
   head-kept = by (board-within-kept old new more s)
     where
       by : Kept m (boardWithin old s) (boardWithin new s) → Kept m (headAt old s) (headAt new s)
@@ -68,10 +68,10 @@ module _ {m : ℕ} (old new : Edition) (more : Changed m old new) (s : List ℕ)
           (more .numbers s at) (λ a. stands refl)))
       by (was-refused p is) = was-refused p (rw (reading-answers old s is))
 
-  head-lines-kept : (o o′ : Outcome (Found Head)) → Kept m o o′
+  head-lines-kept : (o o′ : Outcome (Found Board)) → Kept m o o′
       → LinesKept m (headLines old o s) (headLines new o′ s)
   unfolding headLines
-  head-lines-kept (given h) o′ (stands is) = rw is (kept-behind _ (lines-kept (length s) _ _ 1 (h .next) _))
+  head-lines-kept (given h) o′ (stands is) = rw is (kept-behind _ (lines-kept (length s) _ _ 1 (h .next)))
   head-lines-kept (refused n p) o′ (stands is) = rw is (same refl)
   head-lines-kept o o′ (was-refused p is) = ended [] _ p (rw is) refl
 

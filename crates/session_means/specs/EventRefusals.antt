@@ -14,9 +14,10 @@ use mathlib.Core.List.{List}
 use Rattle.lists.specs.Members.{All}
 use Rattle.refusals.specs.Outcomes.{given, refused, Found}
 use Rattle.refusals.specs.Refusals.{inputEnds, badForm, noSuchName, alreadySo}
+use Rattle.board.specs.declared.Board.{Board}
 use Rattle.board_reader.specs.Editions.{currentEdition}
 use Rattle.lines.specs.Lines.{Line, event, closing}
-use Rattle.session.specs.Sessions.{Head, headAt, sessionLines}
+use Rattle.session.specs.Sessions.{headAt, sessionLines}
 
 abbrev pub OnlyTwelve : Line → Type 0
 OnlyTwelve (event e (given w) m d) = Unit {0}
@@ -32,6 +33,6 @@ ClosedByEvent (closing n p) = (n ≡ inputEnds) ⊎ ((n ≡ badForm) ⊎ (n ≡ 
 
 abbrev pub EventsClosed : Type 0
 EventsClosed =
-    (s : List ℕ) (h : Found Head)
+    (s : List ℕ) (h : Found Board)
     → headAt currentEdition s ≡ given h
     → All ClosedByEvent (sessionLines currentEdition s)

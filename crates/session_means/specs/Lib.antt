@@ -4,3 +4,4 @@ pub mod FilledBuffers
 pub mod EventRefusals
 pub mod LinesDrawn
 pub mod SessionsKept
+pub mod AnyAllowance

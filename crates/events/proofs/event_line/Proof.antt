@@ -6,7 +6,7 @@ use mathlib.Core.Path.{_∙_}
 use Rattle.events.proofs.EventLaws.{event-told}
 
 returns : tie.Need-returns
-returns c = c .pressed-line .ensures ∙ event-told _ _ _ _ _ (c .before .press .result) (c .before .press .ensures)
+returns c = c .pressed-line .ensures ∙ event-told _ _ _ _ (c .before .press .result) (c .before .press .ensures)
 
 pub event-line-spec : {M : Type 1} → statement M
 event-line-spec = tie.close (tie.spec (λ c κs. search needs) (λ c κs. search needs) returns)

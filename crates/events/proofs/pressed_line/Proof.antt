@@ -6,11 +6,11 @@ use mathlib.Core.Path.{_∙_}
 use Rattle.events.proofs.EventLaws.{pressed-refused, pressed-done}
 
 returns : tie.Need-returns
-returns c = pressed-refused _ _ _ (c .before .before .before .before .args .pressed) _ (c .before .answer .given .1)
+returns c = pressed-refused _ _ (c .before .before .before .before .args .pressed) _ (c .before .answer .given .1)
 
 returns-2 : tie.Need-returns-2
 returns-2 c =
-    c .run-line .ensures ∙ pressed-done _ _ _ (c .before .before .before .before .args .pressed)
+    c .run-line .ensures ∙ pressed-done _ _ (c .before .before .before .before .args .pressed)
     (c .before .enum-told .given .1)
 
 pub pressed-line-spec : {M : Type 1} → statement M

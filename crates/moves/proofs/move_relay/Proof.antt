@@ -11,7 +11,7 @@ returns : tie.Need-returns
 returns c =
     let at-told = c .before .before in
     let at-unless = at-told .before .before in
-    moving-moved _ _ _ _ _ _
+    moving-moved _ _ _ _ _
     (movable-nothing _ _ _ (at-unless .before .before .usable .ensures)
     (ap (ltb _) (at-unless .before .wide .ensures .0)) (at-unless .unless .ensures) (at-told .enum-told .given .1))
     (c .before .step-by .ensures) (c .after .ensures)
@@ -19,7 +19,7 @@ returns c =
 returns-2 : tie.Need-returns-2
 returns-2 c =
     let at-unless = c .before .before .before in
-    moving-refused _ _ _ _ _ _
+    moving-refused _ _ _ _ _
     (movable-refused _ _ _ (at-unless .before .before .usable .ensures)
     (ap (ltb _) (at-unless .before .wide .ensures .0)) (at-unless .unless .ensures) _ (c .before .against .given .1))
 

@@ -22,7 +22,7 @@ returns : tie.Need-returns
 returns c =
     let at-enum-told = c .before .before .before .before in
     let at-unless = at-enum-told .before .before in
-    running-ran _ _ _ _ _ (c .before .before .follow .ensures)
+    running-ran _ _ _ _ (c .before .before .follow .ensures)
     (runnable-asked _ _ _ (at-unless .before .usable .ensures) (at-unless .unless .ensures)
     ∙ ap toldAgainst (at-enum-told .enum-told .given .1))
 
@@ -30,7 +30,7 @@ returns-2 : tie.Need-returns-2
 returns-2 c =
     let at-against = c .before .before in
     let at-unless = at-against .before .before in
-    running-refused _ _ _ _ (c .refuse .result) _ _ (c .refuse .ensures)
+    running-refused _ _ _ (c .refuse .result) _ _ (c .refuse .ensures)
     (runnable-asked _ _ _ (at-unless .before .usable .ensures) (at-unless .unless .ensures)
     ∙ ap toldAgainst (at-against .against .given .1))
 

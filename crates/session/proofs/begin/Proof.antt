@@ -1,4 +1,4 @@
--- `session::begin` meets its contract: a board that is read takes its allowance, one that is refused ends the session.
+-- `session::begin` meets its contract: behind a board that is read comes its allowance, a refused one ends the session.
 use borrow.Author.Needs.{needs}
 use Rattle.session.proofs.begin.Statement.{statement}
 use Rattle.session.proofs.begin.Tie as tie

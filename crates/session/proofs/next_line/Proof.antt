@@ -1,4 +1,4 @@
--- `session::next_line` meets its contract: the board and the allowance beside what `hand_line` hands on.
+-- `session::next_line` meets its contract: the board beside what `hand_line` hands on.
 use borrow.Author.Needs.{needs}
 use Rattle.session.proofs.next_line.Statement.{statement}
 use Rattle.session.proofs.next_line.Tie as tie

@@ -4,7 +4,6 @@ use mathlib.Core.Path.{_≡_, _∙_}
 use native.Mathlib.Omega.{arith}
 use lib.ListN.{length}
 use borrow.Author.Needs.{needs}
-use Rattle.session.specs.Sessions.{headWith}
 use Rattle.session.specs.Carried.{toldAhead}
 use Rattle.session.specs.Filling.{nextLines}
 use Rattle.session.proofs.next_lines.Statement.{statement}
@@ -14,11 +13,11 @@ use Rattle.session.proofs.FillLaws.{Goes, tag-never-line}
 use Rattle.session.proofs.NextLineLaws.{handed-carried}
 
 abbrev Inv-loop : tie.InvT-loop
-Inv-loop s out₀ board allowance ahead₀ used₀ out ahead used =
-    FilledTo (headWith board allowance) (toldAhead ahead₀) s out₀ (toldAhead ahead) out used
+Inv-loop s out₀ board ahead₀ used₀ out ahead used =
+    FilledTo board (toldAhead ahead₀) s out₀ (toldAhead ahead) out used
 
 abbrev μ-loop : tie.MeasureT-loop
-μ-loop s out₀ board allowance ahead₀ used₀ out ahead used = length out₀ - used
+μ-loop s out₀ board ahead₀ used₀ out ahead used = length out₀ - used
 
 line-at-requires : tie.Need-line-at-requires Inv-loop μ-loop
 line-at-requires c κs =
@@ -29,7 +28,7 @@ same-length : tie.Need-same-length Inv-loop μ-loop
 same-length c =
     let at-line-at = c .before .before .before .before .before in
     let at-loop = at-line-at .before .before in
-    let kept : length (at-line-at .line-at .last .1 .1 .1 .1 .0) ≡ length (at-loop .loop .out) = search needs in
+    let kept : length (at-line-at .line-at .last .1 .1 .1 .0) ≡ length (at-loop .loop .out) = search needs in
     kept ∙ filled-to-length _ _ _ _ _ _ _ (at-loop .loop .inv)
 
 returns : tie.Need-returns Inv-loop μ-loop

@@ -15,7 +15,7 @@ use Rattle.runs.specs.Runs.{runOf}
 use Rattle.runs.specs.Running.{ran}
 use Rattle.runs.proofs.SeenLaws.{seeing, step-seen, told-moving}
 use Rattle.runs.proofs.CourseLaws.{Course, ScanSoFar, course-starts, scan-starts, scan-rests, scan-long}
-use Rattle.runs.proofs.CourseLaws.{course-idle, course-undecided, course-conflict, course-spent, course-moves}
+use Rattle.runs.proofs.CourseLaws.{course-idle, course-conflict, course-spent, course-moves}
 
 abbrev Inv-scan : tie.InvT-scan
 Inv-scan board log₀ relays windings kept₀ moves₀ state feed relay₀ log kept moves relay =
@@ -85,7 +85,7 @@ run-again c =
     (c .before .wide2 .ensures .0)
     (λ own. c .after .ensures
     ∙ kept-made _ (at-scan .scan .kept) (c .before .wide2 .result) (toldMove (at-step .step .result)) own)
-    (told-moving (at-step .step .result) (at-if2 .before .match .keys4))
+    (told-moving (at-step .step .result) (at-if2 .before .match .keys3))
     (at-if2 .if2 .left) (c .before .before .byte .ensures)
 
 same-length : tie.Need-same-length Inv-scan μ-scan Inv-run μ-run
@@ -107,8 +107,7 @@ returns-2 c =
     let at-drawn = at-step .before .before .before .before in
     let at-if1 = at-drawn .before .before in
     let at-scan = at-if1 .before in
-    course-undecided (at-scan .scan .inv) (at-scan .before .before .before .before .run .inv)
-    (at-if1 .if1 .left)
+    course-conflict (at-scan .scan .inv) (at-scan .before .before .before .before .run .inv) (at-if1 .if1 .left)
     (at-drawn .before .wide .ensures .0) (at-drawn .is-drawn .ensures) (at-step .step .ensures)
     (ap toldMove (c .enum-told2 .given .1))
 
@@ -123,24 +122,9 @@ returns-3 c =
     let at-drawn = at-step .before .before .before .before in
     let at-if1 = at-drawn .before .before in
     let at-scan = at-if1 .before in
-    course-conflict (at-scan .scan .inv) (at-scan .before .before .before .before .run .inv) (at-if1 .if1 .left)
-    (at-drawn .before .wide .ensures .0) (at-drawn .is-drawn .ensures) (at-step .step .ensures)
-    (ap toldMove (c .enum-told3 .given .1))
-
-same-length-4 : tie.Need-same-length-4 Inv-scan μ-scan Inv-run μ-run
-same-length-4 c =
-    let at-scan = c .before .before .before .before .before .before .before .before .before in
-    scan-long (at-scan .scan .inv) (at-scan .before .before .before .before .run .inv)
-
-returns-4 : tie.Need-returns-4 Inv-scan μ-scan Inv-run μ-run
-returns-4 c =
-    let at-step = c .before .before in
-    let at-drawn = at-step .before .before .before .before in
-    let at-if1 = at-drawn .before .before in
-    let at-scan = at-if1 .before in
     course-spent (at-scan .scan .inv) (at-scan .before .before .before .before .run .inv) (at-if1 .if1 .left)
     (at-drawn .before .wide .ensures .0) (at-drawn .is-drawn .ensures) (at-step .step .ensures)
-    (told-moving (at-step .step .result) (c .before .match .keys4)) (c .if2 .taken)
+    (told-moving (at-step .step .result) (c .before .match .keys3)) (c .if2 .taken)
 
 pub follow-spec : {M : Type 1} → statement M
 follow-spec =
@@ -162,7 +146,7 @@ follow-spec =
     ))
     (λ c κs. search needs) (λ c. search needs) (λ c. omega arith) (λ c. omega arith)
     scan-again
-    (λ c. search needs) (λ c. search needs) (λ c κs. search needs) (λ c. omega arith) (λ c κs. search needs)
+    (λ c. search needs) (λ c κs. search needs) (λ c. omega arith) (λ c κs. search needs)
     (λ c κs. search needs)
     add-moves
     run-less
@@ -172,6 +156,4 @@ follow-spec =
     same-length-2
     returns-2
     same-length-3
-    returns-3
-    same-length-4
-    returns-4)
+    returns-3)

@@ -1,4 +1,4 @@
--- `session::start::begin_with` meets its contract: a number is the allowance, a refusal ends the session.
+-- `session::start::begin_with` meets its contract: past a number the session begins, a refusal ends it.
 use borrow.Author.Needs.{needs}
 use Rattle.session.proofs.start.begin_with.Statement.{statement}
 use Rattle.session.proofs.start.begin_with.Tie as tie
