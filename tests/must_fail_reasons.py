@@ -10,7 +10,7 @@ import repository
 
 # What says that an edit changed the code's shape, or never reached a fact. That a name is not in scope "here" is advice on how
 # a message is read, and no such word.
-SHAPE = re.compile(r"has no `Need-|has no field|that can be named from here|expected type `tie\.(?:Need-|Then|Else|After-)|is not in scope(?! here)|Parse|expected `[\w-]+-spec` in .*the borrow checker")
+SHAPE = re.compile(r"has no `Need-|has no field|that can be named from here|error: `(?:Inv|μ)-[\w-]+`|expected type `tie\.(?:Need-|Then|Else|After-)|is not in scope(?! here)|Parse|expected `[\w-]+-spec` in .*the borrow checker")
 
 # What a message begins with: a path and a place in that file, or one of the words that the checker begins a line with. Every
 # other line goes on with the message before it; most of them are indented.
