@@ -127,9 +127,10 @@ def calls(counts, parts):
     of its line."""
     own = run_model.Board(counts, parts)
     moved, after = run_model.move(own, NONE, NONE, 0) if counts[1] else ("refused 11", NONE)
-    ran, log, left, stopped = run_model.run(own, NONE, NONE, ROOM)
+    ran = run_model.run(own, NONE, NONE, ROOM)
     yield "^", f"moved {moved}", (after, NONE), ""
-    yield "=", f"ran {ran} {len(log)}", (left, NONE), " ".join([f" {stopped}:"] + [str(byte) for byte in log])
+    rest = f" {ran.relay} {ran.earlier} {ran.between}:" + "".join(f" {byte}" for byte in ran.log)
+    yield "=", f"ran {ran.word} {len(ran.log)}", (ran.drawn, NONE), rest
     pushed, released, button = ("done", "refused 12", {0}) if counts[2] else ("refused 7", "refused 7", NONE)
     yield "+", f"pressed {pushed}", (NONE, button), ""
     yield "-", f"pressed {released}", (NONE, NONE), ""
@@ -207,7 +208,7 @@ def compare(seed, count):
     for want in every_line(found):
         words.update(f"refused {number.split()[0]}" for number in want.split("refused ")[1:])
         words.update({want.split()[0], " ".join(want.split()[:2])})
-    met = ["read", "write", "short", "moved drew", "moved rests", "moved conflict", "ran idle", "ran spent", "ran conflict", "pressed done"]
+    met = ["read", "write", "short", "moved drew", "moved rests", "moved conflict", "ran idle", "ran spent", "ran conflict", "ran buzz", "pressed done"]
     for word in met + [f"refused {number}" for number in (1, 2, 3, 4, 5, 6, 7, 8, 9, 11, 12, 15, 16, 17, 18)]:
         checks.append((f"some case answers {word}", word in words))
     return checks

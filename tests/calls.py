@@ -1,9 +1,10 @@
 """Compares the proved calls with the independent second program in plain Rust (second/), one judgement, check, move or run a line,
 by way of `current_cases` and `run_cases`: the verdict, the effort, the length and the chain that is shown; what is told without an
 allowance, with the terminal that divides; whether a terminal handed in does; what a relay comes to; the word of a run, its moves,
-the state left, the relay that stopped it, and every byte of the log (a run prints the first 40 moves, and is asked to go on from
-there). Boards of all sorts in tests/lib/session_boards.py and tests/dividing.py, in states within and beyond them, with
-allowances around the efforts, terminals on the board and beyond it, and logs of 0, 1 and around the moves; damaged files; boards
+the state left, the relay that stopped it, where it met its state before, and every byte of the log (a run prints the first 40
+moves, and where it is spent is asked to go on from there). Boards of all sorts in tests/lib/session_boards.py and
+tests/dividing.py, in states within and beyond them, with allowances around the efforts, terminals on the board and beyond it, and
+logs of 0, 1 and around the moves; relays that count (tests/lib/counter_boards.py), up to the longest log; damaged files; boards
 handed in that break a rule; boards worked out by hand, some with more chains than any allowance (tests/lib/feed_boards.py). The
 kept sets are the board's own, and must be so afterwards. No answer is compared with a model in Python, which only tells which
 damaged files are read at all; what is around an effort is asked of the second program. Seeded, so each run tries the same cases;
@@ -20,6 +21,7 @@ import sys
 sys.path.insert(0, os.path.join(os.path.dirname(os.path.abspath(__file__)), "lib"))
 import board_files
 import board_model
+import counter_boards
 import dividing
 import feed_boards
 import judging
@@ -36,14 +38,17 @@ LONGEST_LOG = 65_536
 MUCH = 20_000  # the allowance that efforts are asked with, of boards with many chains
 NAMED = program.HANDED_BITS  # a state that a case hands in has relays and buttons below this
 ROUNDS = 6  # so often a run that fills the log that is shown goes on from the state left
+COUNTERS = range(1, 11)  # stages of counters that are run around their end
 OFTEN = 10  # each answer occurs at least so many times
 SHOWING = re.compile(r"judged (live|dead) (\d+)")
 KEPT = re.compile(r"((?:moved|ran) .*) sets (given|changed) own near[ =\d]* bare[ =\d]*")
 SPENT = re.compile(rf"ran spent {SHOWN} (\d+) (\d+) ")
+LED_IN = re.compile(r"ran buzz \d+ \d+ \d+ 255 [1-9]")
 
 SORTS = [boards.feeding, boards.feeding, boards.web, boards.web, boards.buzzing, boards.conflicting, boards.every_kind, boards.crowded]
 SORTS += [boards.largest, lambda dice: boards.counting(dice, dice.randint(2, 8), dice.randint(0, 3)), lambda dice: boards.diamonds(dice, dice.randint(0, 20))]
-SORTS += [lambda dice: boards.dense(dice, dice.randint(4, 9)), boards.shunting, dividing.board, dividing.board]
+SORTS += [lambda dice: boards.dense(dice, dice.randint(4, 9)), boards.shunting, dividing.board, dividing.board, boards.pulsing]
+SORTS += [lambda dice: counter_boards.counter(dice.randint(1, 8), dice.random() < 0.5)]
 
 
 class Asked:
@@ -133,7 +138,7 @@ def moves(dice, own):
 def runs(dice, own, line):
     """Runs from the board's state, given the line of one: logs of 0, 1 and around its moves, and a log that is too long."""
     made = int(line.split()[2]) if "refused" not in line else 0
-    for room in sorted({0, 1, 2, max(made - 1, 0), made, made + 1, SHOWN, dice.choice([3, 100, LONGEST_LOG + 1])}):
+    for room in sorted({0, 1, 2, max(made - 1, 0), made, made + 1, SHOWN, dice.choice([3, 100, 1_000, LONGEST_LOG + 1])}):
         yield own.run(room)
     if made < SHOWN and dice.random() < 0.1:
         yield own.run(LONGEST_LOG)
@@ -149,6 +154,17 @@ def going_on(found):
         cases = [f"{int(form[1]):06x}{int(form[2]):06x}" + case[12:] for case, form in spent if int(form[1]) < 1 << 24]
         every += cases
     return every
+
+
+def long_runs(dice):
+    """Runs of counters with logs that end just before the first state comes again, there, and after; of 15 relays that go through all
+    their states, with a log that is just too short for that and with one that is not; and one that fills the longest log."""
+    for stages in COUNTERS:
+        moves = counter_boards.moves_round(stages)
+        yield from (Asked(*counter_boards.counter(stages), (), ()).run(room) for room in (moves - 1, moves, moves + 1))
+    every = Asked(*boards.counting(dice, 15, 0), (), ())
+    yield from (every.run(room) for room in (2**15 - 2, 2**15 - 1))
+    yield Asked(*counter_boards.counter(14), (), ()).run(LONGEST_LOG)
 
 
 def broken(dice, own):
@@ -190,7 +206,7 @@ def every_case(seed, count):
     judged = [case for own in found for part in (judgements(dice, own), at_once(dice, own)) for case in part]
     judged += hostile_files(dice, 4 * count)
     ran = [case for own, line in zip(found, lines) for part in (moves(dice, own), runs(dice, own, line), broken(dice, own), broken(dice, own)) for case in part]
-    return judged, ran + going_on(found) + list(handed_boards(dice, count))
+    return judged, ran + going_on(found) + list(handed_boards(dice, count)) + list(long_runs(dice))
 
 
 def without_own(line):
@@ -216,11 +232,13 @@ def occurring(lines):
     known += [f"told {word}" for word in ("live", "shunted", "dead", "refused 11", "refused 14")]
     known += [f"checked {word}" for word in ("divides", "does", "refused 11", "refused 14", "refused 19")]
     known += [f"moved {word}" for word in ("drew", "dropped", "rests", "conflict", "refused 11", "refused 14", "refused 15")]
-    known += [f"ran {word}" for word in ("idle", "spent", "conflict", "refused 13", "refused 14", "refused 15")]
+    known += [f"ran {word}" for word in ("idle", "spent", "conflict", "buzz", "refused 13", "refused 14", "refused 15")]
     for word in known:
         yield f"{word} occurs {counts[word]} times, at least {OFTEN}", counts[word] >= OFTEN
     shunted = lines.count("judged dead 0")
     yield f"judged dead 0, which is shunted, occurs {shunted} times, at least {OFTEN}", shunted >= OFTEN
+    led_in = sum(bool(LED_IN.match(line)) for line in lines)
+    yield f"ran buzz with moves before the earlier state occurs {led_in} times, at least {OFTEN}", led_in >= OFTEN
     yield f"no other answer occurs: {set(counts) - set(known)}", set(counts) <= set(known)
 
 

@@ -29,11 +29,12 @@ SESSION_SHOWN = 2_200  # and of a session: those with few events are shown whole
 ALONE = 6  # of each sort, so many sessions are given to the program itself, one to a process
 OFTEN = 10  # each word and refusal occurs at least so many times
 ALLOWANCES = (0, 1, 127, 128, LARGEST)  # of one, two and five bytes
-WORDS = ("idle", "spent", "conflict")
+WORDS = ("idle", "spent", "conflict", "buzz")
+NEVER_SPENT = 12  # with up to so many relays there are not more states than a session's log has room for moves
 FILE_REFUSALS = (*range(1, 10), 17, 10)
 EVENT_REFUSALS = (1, 2, 7)  # 12 has a line of its own form
 PLACES = 4  # each refusal but 10, the last, occurs at so many places
-RUN_LINE = re.compile(rb"(\d+) (idle|spent|conflict) (\d+) (\d+)")
+RUN_LINE = re.compile(rb"(\d+) (idle|spent|conflict|buzz) (\d+) (\d+)")
 DOUBLE_LINE = re.compile(rb"(\d+) refused 12")
 REFUSED_LINE = re.compile(rb"refused (\d+) (\d+)")
 
@@ -95,6 +96,7 @@ class Seen:
             self.words["a move after a run that stopped"] += stopped
             self.words["conflict after a move"] += word == "conflict"
             self.words["idle after 3 moves or more"] += word == "idle" and moves >= 3
+            self.words["buzz after 3 moves or more"] += word == "buzz" and moves >= 3
 
     def refused(self, what, number, place):
         """Counts the line that ends a session."""
@@ -105,7 +107,7 @@ class Seen:
         """That all that must occur does, and nothing else."""
         known = [f"file refused {number}" for number in FILE_REFUSALS] + [f"event refused {number}" for number in EVENT_REFUSALS]
         known += [*WORDS, "event refused 12", "idle after 3 moves or more", "a move after a run that stopped", "conflict after a move"]
-        known += ["drawn from the start, without a move"]
+        known += ["drawn from the start, without a move", "buzz after 3 moves or more"]
         for word in known:
             yield f"{word} occurs {self.words[word]} times, at least {OFTEN}", self.words[word] >= OFTEN
         for number in FILE_REFUSALS[:-1]:
@@ -137,8 +139,10 @@ def compared(sessions):
     first = [place for place, (name, _, _) in enumerate(sessions) if int(name.split()[-1]) < ALONE]
     for place, own in zip(first, by_program([data[place] for place in first])):
         checks.append(same(f"{sessions[place][0]}, alone", data[place], own, second[place], program.session_told))
-    for wanted in second:
+    for (name, _, session), wanted in zip(sessions, second):
         seen.look(wanted)
+        if wanted and b" spent " in wanted:
+            checks.append((f"{name}: {session[1]} relays, more than {NEVER_SPENT}, where some run is spent", session[1] > NEVER_SPENT))
     for word, count in sorted(seen.words.items()):
         print(f"{count:7} {word}")
     return checks + list(seen.checks())

@@ -113,7 +113,7 @@ impl Board {
 }
 
 /// Which relays are drawn and which buttons are pushed.
-#[derive(Clone, Copy, Debug, PartialEq, Eq)]
+#[derive(Clone, Copy, Debug, PartialEq, Eq, Hash)]
 pub struct State {
     drawn: [bool; MOST_RELAYS],
     pushed: [bool; MOST_BUTTONS],

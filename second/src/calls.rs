@@ -45,13 +45,15 @@ pub type Asked = (u32, bool);
 /// What a move answers: the word or the number for no, and the state.
 pub type Moved = (Result<Answer, No>, HandedState);
 
-/// What a run answers.
+/// What a run answers; `before` and `between` are 0 but for buzz.
 #[derive(Clone, Copy, Debug, PartialEq, Eq)]
 pub struct Ran {
     pub word: Result<Word, No>,
     pub moves: usize,
     pub state: HandedState,
     pub relay: u8,
+    pub before: usize,
+    pub between: usize,
 }
 
 impl HandedBoard {
@@ -221,6 +223,8 @@ pub fn run_call(board: &HandedBoard, handed: HandedState, log: &mut [u8]) -> Ran
             moves: 0,
             state: handed,
             relay: NO_RELAY,
+            before: 0,
+            between: 0,
         },
     }
 }
@@ -231,6 +235,8 @@ fn ran(answer: RunAnswer) -> Ran {
         moves: answer.moves,
         state: HandedState::of(&answer.state),
         relay: answer.relay,
+        before: answer.before,
+        between: answer.between,
     }
 }
 
@@ -471,6 +477,8 @@ mod tests {
                 moves: 0,
                 state,
                 relay: 255,
+                before: 0,
+                between: 0,
             };
             assert_eq!(run_call(board, state, &mut log), refused);
             assert_eq!(log, vec![77; length]);
@@ -528,9 +536,41 @@ mod tests {
             moves: 1,
             state: drawn,
             relay: 255,
+            before: 0,
+            between: 0,
         };
         assert_eq!(move_call(&h1(), pushed, 0), (Ok(Answer::Drew), drawn));
         assert_eq!(run_call(&h1(), pushed, &mut log), idle);
         assert_eq!(log[..2], [128, 77]);
+    }
+
+    #[test]
+    fn a_buzzer_run_and_refused() {
+        // H3: the lower contact of relay 0 instead of the button
+        let mut h3 = h1();
+        h3.parts[0].kind = Kind::LowerContact(0);
+        let buzz = Ran {
+            word: Ok(Word::Buzz),
+            moves: 2,
+            state: FRESH,
+            relay: 255,
+            before: 0,
+            between: 2,
+        };
+        for length in [2, 3, 5, 65_536] {
+            let mut log = vec![77; length];
+            assert_eq!(run_call(&h3, FRESH, &mut log), buzz);
+            assert_eq!(log[..2], [128, 0]);
+            assert!(log[2..].iter().all(|&byte| byte == 77));
+        }
+        let mut log = vec![77; 65_537];
+        let refused = Ran {
+            word: Err(13),
+            moves: 0,
+            between: 0,
+            ..buzz
+        };
+        assert_eq!(run_call(&h3, FRESH, &mut log), refused);
+        assert!(log.iter().all(|&byte| byte == 77));
     }
 }

@@ -160,8 +160,8 @@ fn move_case(case: &[u8]) -> String {
     format!("moved {word} {} {}", left.drawn, left.pushed)
 }
 
-/// The answer to a run, with the first moves of its log, and a word for each
-/// byte past them that was touched.
+/// The answer to a run, with both numbers of a buzz whatever its word is, the
+/// first moves of its log, and a word for each byte past them that was touched.
 fn run_case(case: &[u8]) -> String {
     let (state, room, board) = handed(case);
     let mut log = vec![FILLER; room as usize];
@@ -171,7 +171,8 @@ fn run_case(case: &[u8]) -> String {
         Err(number) => format!("refused {number}"),
     };
     let (moves, left, relay) = (ran.moves, ran.state, ran.relay);
-    let mut line = format!("ran {word} {moves} {} {} {relay}:", left.drawn, left.pushed);
+    let mut line = format!("ran {word} {moves} {} {} {relay}", left.drawn, left.pushed);
+    line += &format!(" {} {}:", ran.before, ran.between);
     for byte in &log[..moves.min(MOST_SHOWN)] {
         line += &format!(" {byte}");
     }
@@ -369,17 +370,56 @@ mod tests {
         let text = format!("000000 000001 000000 {H1_HANDED} ^\n000000 000001 000001 {H1_HANDED}^");
         assert_answers(&text, &["moved drew 1 1", "moved refused 11 0 1"]);
         let run = |room: &str, board: &str| format!("000000 000000 {room} {board} =\n");
-        let five = "ran spent 5 1 0 0: 128 0 128 0 128";
-        assert_answers(&run("000005", H3_HANDED), &[five]);
-        assert_answers(&run("000000", H3_HANDED), &["ran spent 0 0 0 0:"]);
-        assert_answers(&run("000002", H1_HANDED), &["ran idle 0 0 0 255:"]);
-        let refused = "ran refused 13 0 0 0 255:";
-        assert_answers(&run("010001", H1_HANDED), &[refused]);
-        let long = answers(&run("000029", H3_HANDED)).unwrap();
-        assert_eq!(
-            long,
-            format!("ran spent 41 1 0 0:{}\n", " 128 0".repeat(20))
-        );
+        let buzz = "ran buzz 2 0 0 255 0 2: 128 0";
+        assert_answers(&run("000005", H3_HANDED), &[buzz]);
+        assert_answers(&run("000002", H3_HANDED), &[buzz]);
+        let spent = "ran spent 1 1 0 0 0 0: 128";
+        assert_answers(&run("000001", H3_HANDED), &[spent]);
+        assert_answers(&run("000000", H3_HANDED), &["ran spent 0 0 0 0 0 0:"]);
+        assert_answers(&run("000002", H1_HANDED), &["ran idle 0 0 0 255 0 0:"]);
+        let pushed = format!("000000 000001 000002 {H1_HANDED} =");
+        assert_answers(&pushed, &["ran idle 1 1 1 255 0 0: 128"]);
+        for board in [H1_HANDED, H3_HANDED] {
+            let refused = "ran refused 13 0 0 0 255 0 0:";
+            assert_answers(&run("010001", board), &[refused]);
+        }
+    }
+
+    #[test]
+    fn a_run_with_a_conflict_after_a_move() {
+        // relay 0 on 0-1; both windings of relay 1 behind its upper contact
+        let windings = "04 00 01 00  05 02 01 01  06 02 01 01";
+        let board = format!("03 02 00 04 00  0000000000  01 00 02 00  {windings}");
+        let case = format!("000000 000000 000005 {board} =");
+        assert_answers(&case, &["ran conflict 1 1 0 1 0 0: 128"]);
+    }
+
+    #[test]
+    fn runs_with_more_moves_than_are_shown() {
+        // 21 relays, each fed by the upper contact of the next, and the last by
+        // the lower contact of the first: they draw from the last down, then drop
+        let fed = |relay| format!(" 01 00 {:02x} {:02x}", 2 + relay, relay + 1);
+        let wound = |relay| format!(" 04 {:02x} 01 {relay:02x}", 2 + relay);
+        let contacts: String = (0..20).map(fed).collect();
+        let windings: String = (0..21).map(wound).collect();
+        let board = format!("17 15 00 2a 00 0000000000 02 00 16 00 {contacts} {windings}");
+        let run = |drawn: &str, room: &str| format!("{drawn} 000000 {room} {board} =");
+        let moves = |bytes: &mut dyn Iterator<Item = u8>| -> String {
+            bytes.map(|byte| format!(" {byte}")).collect()
+        };
+        let draws = moves(&mut (128..149).rev());
+        let shown = draws.clone() + &moves(&mut (2..21).rev());
+        let spent = format!("ran spent 41 1 0 0 0 0:{shown}");
+        assert_answers(&run("000000", "000029"), &[&spent]);
+        let buzz = format!("ran buzz 42 0 0 255 0 42:{shown}");
+        assert_answers(&run("000000", "00002a"), &[&buzz]);
+        assert_answers(&run("000000", "010000"), &[&buzz]);
+        // relay 2 alone drawn: two moves lead in
+        let shown = format!(" 129 128 2 1 0{draws}{}", moves(&mut (7..21).rev()));
+        let spent = format!("ran spent 43 15 0 3 0 0:{shown}");
+        assert_answers(&run("000004", "00002b"), &[&spent]);
+        let buzz = format!("ran buzz 44 7 0 255 2 42:{shown}");
+        assert_answers(&run("000004", "00002c"), &[&buzz]);
     }
 
     #[test]
@@ -392,12 +432,12 @@ mod tests {
         }
         assert_answers(
             &format!("{ZERO} =^"),
-            &["ran refused 15 0 0 0 255:", "moved refused 15 0 0"],
+            &["ran refused 15 0 0 0 255 0 0:", "moved refused 15 0 0"],
         );
-        assert_answers(&format!("{ZERO} 02 ="), &["ran idle 0 0 0 255:"]);
+        assert_answers(&format!("{ZERO} 02 ="), &["ran idle 0 0 0 255 0 0:"]);
         assert_answers(
             &format!("{ZERO} 02 00 00 01 01 ="),
-            &["ran refused 15 0 0 0 255:"],
+            &["ran refused 15 0 0 0 255 0 0:"],
         );
     }
 
@@ -439,7 +479,7 @@ mod tests {
         let board = |start: &str| format!("02 20 00 21 00 {start} {windings} 07 00 00 1f");
         let handed = format!("000001 000000 000000 {}", board("0000008000"));
         assert_answers(&format!("{handed} ^"), &["moved rests 1 0"]);
-        assert_answers(&format!("{handed} ="), &["ran spent 0 1 0 1:"]);
+        assert_answers(&format!("{handed} ="), &["ran spent 0 1 0 1 0 0:"]);
         for start in ["0000000000", "8000000000", "0000000080", "0000000001"] {
             let text = format!("{ZERO} {} ^", board(start));
             assert_answers(&text, &["moved refused 15 0 0"]);

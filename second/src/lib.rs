@@ -1,8 +1,8 @@
 //! An independent second program for Herdspiral, the relay-board simulator.
 //!
-//! Each module renders one part of the rule book, as requests A1, A2, A4, A6 and
-//! A7 changed it, in its order: `number` and `file` are "The board file" with the
-//! refusals of a read, `board` is "Parts of a board", `chains`, `shunts` and
+//! Each module renders one part of the rule book, as requests A1, A2, A4 and A6
+//! to A8 changed it, in its order: `number` and `file` are "The board file" with
+//! the refusals of a read, `board` is "Parts of a board", `chains`, `shunts` and
 //! `judge` are "Chains and current", `ways`, `leaps` and `tell` are the judge of
 //! A6, `moves` and `runs` are "How a relay moves", `calls` is the order of
 //! refusals for what is handed in, `session` is "The session program". Only

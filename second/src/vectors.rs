@@ -1,6 +1,6 @@
-//! Tests over several modules: "Boards to try" as requests A4, A6 and A7 amended
-//! them, "Slips to rule out" and the sessions of the rule book, the figure of
-//! document 000, the marks of request A2, and a few more.
+//! Tests over several modules: "Boards to try" as requests A4 and A6 to A8
+//! amended them, "Slips to rule out" and the sessions of the rule book, the
+//! figure of document 000, the marks of request A2, and a few more.
 
 use crate::board::{Board, Ends, Kind, State, Windings};
 use crate::file::read_board;
@@ -128,6 +128,16 @@ fn answer(word: Word, moves: usize, state: State, relay: u8) -> RunAnswer {
         moves,
         state,
         relay,
+        before: 0,
+        between: 0,
+    }
+}
+
+fn buzz(before: usize, between: usize, state: State) -> RunAnswer {
+    RunAnswer {
+        before,
+        between,
+        ..answer(Word::Buzz, before + between, state, 255)
     }
 }
 
@@ -158,17 +168,25 @@ fn h2_prints_exactly_these_lines() {
 }
 
 #[test]
-fn h3_is_spent() {
-    let spent = answer(Word::Spent, 5, fresh().draw(0), 0);
-    let log = vec![128, 0, 128, 0, 128];
-    assert_eq!(run_logged(H3, fresh(), 5), (spent, log));
+fn h3_is_a_buzzer() {
+    let met = buzz(0, 2, fresh());
+    let log = vec![128, 0, 77, 77, 77];
+    assert_eq!(run_logged(H3, fresh(), 5), (met, log));
+    assert_eq!(run_logged(H3, fresh(), 2), (met, vec![128, 0]));
+    let spent = answer(Word::Spent, 1, fresh().draw(0), 0);
+    assert_eq!(run_logged(H3, fresh(), 1), (spent, vec![128]));
     let unmoved = answer(Word::Spent, 0, fresh(), 0);
     assert_eq!(run_logged(H3, fresh(), 0), (unmoved, vec![]));
-    let from_drawn = answer(Word::Spent, 2, fresh().draw(0), 0);
+    let from_drawn = buzz(0, 2, fresh().draw(0));
     assert_eq!(
         run_logged(H3, fresh().draw(0), 2),
         (from_drawn, vec![0, 128])
     );
+}
+
+#[test]
+fn h3_as_a_session() {
+    assert_eq!(session(&[H3, &[100]].concat()), "0 buzz 2 0\n");
 }
 
 #[test]
@@ -297,11 +315,11 @@ fn a_run_looks_again_from_the_first_relay() {
 }
 
 #[test]
-fn a_session_has_a_log_of_4096_and_goes_on_after_spent() {
-    // H3 with one button that has no part: 4096 moves leave the relay as it
-    // was, and so the next event does the same
-    let bytes = [3, 1, 1, 2, 2, 0, 2, 0, 4, 2, 1, 0, 100, 1, 1];
-    let lines = "0 spent 4096 0\n1 spent 4096 0\n2 refused 12\n";
+fn a_session_goes_on_after_buzz() {
+    // H3 with one button that has no part: two moves leave the relay as it was,
+    // and so the next events do the same, as what came before is another run
+    let bytes = [3, 1, 1, 2, 2, 0, 2, 0, 4, 2, 1, 0, 100, 1, 1, 0];
+    let lines = "0 buzz 2 0\n1 buzz 2 0\n2 refused 12\n3 buzz 2 0\n";
     assert_eq!(session(&bytes), lines);
 }
 

@@ -68,7 +68,7 @@ fn a_mark_of_a_steel_relay() {
 #[test]
 fn runs_that_stop_leave_the_start_they_found() {
     let h3 = [LOWER_CONTACT, WINDING, MARK];
-    assert_eq!(lines(&h3, &[]), "0 spent 4096 1\n");
+    assert_eq!(lines(&h3, &[]), "0 buzz 2 1\n");
     // both windings of a steel relay are live
     let conflict = [3, 1, 0, 3, 5, 0, 2, 0, 6, 2, 1, 0, 7, 0, 0];
     assert_eq!(session(&conflict), "0 conflict 0 1\n");

@@ -56,7 +56,7 @@ fn sessions_and_cases_with_a_mark() {
                  04 00 01 00  07 ff ff 00 =\n";
     let output = play(&["--cases"], text);
     assert_eq!(output.status.code(), Some(0));
-    assert_eq!(lines(&output), "ran idle 0 1 0 255:\n");
+    assert_eq!(lines(&output), "ran idle 0 1 0 255 0 0:\n");
 }
 
 #[test]
@@ -98,6 +98,21 @@ fn typed_cases_of_request_a6() {
     let output = play(&["--cases"], malformed.as_bytes());
     assert_eq!(output.status.code(), Some(1));
     assert!(output.stdout.is_empty());
+}
+
+#[test]
+fn sessions_and_cases_of_request_a8() {
+    // H3 with a push of a button that has no part
+    let session = [3, 1, 1, 2, 2, 0, 2, 0, 4, 2, 1, 0, 100, 1];
+    let output = play(&[], &session);
+    assert_eq!(output.status.code(), Some(0));
+    assert_eq!(lines(&output), "0 buzz 2 0\n1 buzz 2 0\n");
+    let h3 = "03 01 00 02 00  00 00 00 00 00  02 00 02 00  04 02 01 00";
+    let text = format!("000000 000000 000005 {h3} = 000000 000000 000001 {h3} =\n");
+    let output = play(&["--cases"], text.as_bytes());
+    assert_eq!(output.status.code(), Some(0));
+    let answers = "ran buzz 2 0 0 255 0 2: 128 0\nran spent 1 1 0 0 0 0: 128\n";
+    assert_eq!(lines(&output), answers);
 }
 
 #[test]

@@ -297,8 +297,8 @@ fn sessions_of_h6() {
 fn a_relay_that_shunts_itself_never_rests() {
     // its upper contact beside its winding; by button 0 it is shunted for good
     let parts: &[&[u8]] = &[&[0, 0, 2], &[4, 2, 1, 0], &[1, 2, 1, 0], &[3, 1, 2, 0]];
-    let spent = "0 spent 4096 0\n1 idle 0 0\n2 spent 4096 0\n";
-    assert_eq!(lines(3, 1, parts, &[1, 0]), spent);
+    let buzzes = "0 buzz 2 0\n1 idle 0 0\n2 buzz 2 0\n";
+    assert_eq!(lines(3, 1, parts, &[1, 0]), buzzes);
 }
 
 #[test]
@@ -334,7 +334,7 @@ fn typed_moves_and_runs_of_h6() {
     );
     assert_eq!(
         told(format!("{drawn} 03 {handed} =")),
-        "ran spent 0 1 0 0:\n"
+        "ran spent 0 1 0 0 0 0:\n"
     );
     assert_eq!(
         told(format!("{drawn} 02 {handed} ^")),

@@ -1,5 +1,5 @@
-"""The rule book's "Boards to try" as sessions, and sessions with shunts (request A4), each with the lines that it must
-print: worked out by hand from docs/RULES.md. W is read and ignored (request A7)."""
+"""The rule book's "Boards to try" as sessions, and sessions with shunts (request A4) and buzzers (request A8), each with the
+lines that it must print: worked out by hand from docs/RULES.md. W is read and ignored (request A7)."""
 
 H1 = "03 01 01 02  03 00 02 00  04 02 01 00"
 H2 = "03 01 01 03  03 00 02 00  01 00 02 00  04 02 01 00"
@@ -27,6 +27,15 @@ H5_SHORT = "04 01 02 06  03 00 02 00  03 00 03 01  05 02 01 00  06 03 01 00  00 
 SHUNTS_ITSELF = "03 01 00 03  00 00 02  04 02 01 00  01 02 01 00"
 SHUNTED_DROPPED = "03 01 00 03  00 00 02  04 02 01 00  02 02 01 00"
 SHUNTED_DROPPED_DRAWN = "03 01 00 04  00 00 02  04 02 01 00  02 02 01 00  07 00"
+# A button, relay 0's lower contact and its winding in a row; and the same with a second button on 0 and the winding.
+BELL = "04 01 01 03  03 00 02 00  02 02 03 00  04 03 01 00"
+BELL_HELD = "04 01 02 04  03 00 02 00  02 02 03 00  04 03 01 00  03 00 03 01"
+# Relay 0 is fed by the upper contact of relay 1, relay 1 by the lower contact of relay 0: they draw and drop in turn.
+RING = "04 02 00 04  01 00 02 01  04 02 01 00  02 00 03 00  04 03 01 01"
+RING_DRAWN = "04 02 00 05  01 00 02 01  04 02 01 00  02 00 03 00  04 03 01 01  07 00"
+# Relay 0 on 0-1, or behind a button; its upper contact feeds relay 1 through the lower contact of that.
+LED_IN = "04 02 00 04  04 00 01 00  01 00 02 00  02 02 03 01  04 03 01 01"
+LED_IN_BUTTON = "05 02 01 05  03 00 04 00  04 04 01 00  01 00 02 00  02 02 03 01  04 03 01 01"
 
 TYPED = [
     ("H0", "02 00 00 00  00", ["0 idle 0 0"]),
@@ -42,7 +51,7 @@ TYPED = [
     ("H1, a cut event", H1 + "64  01 80", ["0 idle 0 0", "1 idle 1 1", "refused 1 15"]),
     ("H1, an event that is not shortest", H1 + "64  01 80 00", ["0 idle 0 0", "1 idle 1 1", "refused 2 14"]),
     ("H2", H2 + "64  01 00", ["0 idle 0 0", "1 idle 1 1", "2 idle 0 1"]),
-    ("H3", H3 + "64", ["0 spent 4096 0"]),
+    ("H3", H3 + "64", ["0 buzz 2 0"]),
     ("H4", H4 + "64", ["0 idle 0 0"]),
     ("H4 with a wire 2-1 more", H4_AND_WIRE + "64", ["0 idle 0 0"]),
     ("H4 with a second winding", H4_WINDING + "64", ["0 idle 0 0"]),
@@ -64,9 +73,16 @@ TYPED = [
      ["0 idle 0 0", "1 idle 2 3", "2 conflict 0 3", "3 idle 1 2"]),
     ("steel, drawn, then shunted", STEEL_SHUNT + "64  01 05 04", ["0 idle 0 0", "1 idle 2 3", "2 idle 0 3", "3 idle 0 3"]),
     ("steel, both windings shunted", H5_SHORT + "64  01 03 00", ["0 idle 0 1", "1 idle 0 1", "2 idle 0 1", "3 idle 1 0"]),
-    ("a relay that shunts itself", SHUNTS_ITSELF + "64", ["0 spent 4096 0"]),
+    ("a relay that shunts itself", SHUNTS_ITSELF + "64", ["0 buzz 2 0"]),
     ("a relay that shunts itself while dropped", SHUNTED_DROPPED + "64", ["0 idle 0 0"]),
     ("the same, drawn from the start", SHUNTED_DROPPED_DRAWN + "64", ["0 idle 0 1"]),
+    ("a bell", BELL + "64  01 00 01", ["0 idle 0 0", "1 buzz 2 0", "2 idle 0 0", "3 buzz 2 0"]),
+    ("a bell, its relay drawn by another button", BELL_HELD + "64  03 01 02 00",
+     ["0 idle 0 0", "1 idle 1 1", "2 idle 0 1", "3 buzz 2 1", "4 idle 1 0"]),
+    ("two relays that go round", RING + "64", ["0 buzz 4 0"]),
+    ("the same, the first drawn from the start", RING_DRAWN + "64", ["0 buzz 4 1"]),
+    ("a buzzer behind a relay that draws first", LED_IN + "64", ["0 buzz 3 1"]),
+    ("the same with a button for that relay", LED_IN_BUTTON + "64  01 00 01", ["0 idle 0 0", "1 buzz 3 1", "2 idle 1 0", "3 buzz 3 1"]),
     ("80 00", "80 00", ["refused 2 0"]),
     ("80 80", "80 80", ["refused 1 2"]),
     ("80 80 80", "80 80 80", ["refused 1 3"]),
@@ -97,7 +113,7 @@ TYPED = [
     ("H1 and a mark before the winding", "03 01 01 03  03 00 02 00  07 00  04 02 01 00" + "64  01", ["0 idle 1 0", "1 idle 1 1"]),
     ("H2 and a mark", H2_DRAWN + "64  01 00", ["0 idle 0 1", "1 idle 0 1", "2 idle 0 1"]),
     ("H2 and a mark before all else", "03 01 01 04  07 00  03 00 02 00  01 00 02 00  04 02 01 00" + "64", ["0 idle 0 1"]),
-    ("H3 and a mark", "03 01 00 03  02 00 02 00  04 02 01 00  07 00" + "64", ["0 spent 4096 1"]),
+    ("H3 and a mark", "03 01 00 03  02 00 02 00  04 02 01 00  07 00" + "64", ["0 buzz 2 1"]),
     ("H5 and a mark: steel", H5_DRAWN + "64  03 02 01", ["0 idle 0 1", "1 idle 1 0", "2 idle 0 0", "3 idle 1 1"]),
     ("marks of two relays of three", "02 03 00 05  07 02  04 00 01 00  07 00  04 00 01 01  04 00 01 02" + "01", ["0 idle 1 7"]),
     ("a mark and no other part", "02 01 00 01  07 00" + "64", ["refused 9 6"]),

@@ -1,6 +1,7 @@
 """Sessions for tests/sessions.py that are long, or whose boards are large, as bytes: runs that fill the log, the largest and the
 densest boards, boards worked out by hand, some with more chains than any allowance, and inputs around the longest. A function
 that makes a session takes the dice and what its variant is; tests/lib/session_sorts.py has the variants."""
+import counter_boards
 import session_boards as boards
 from damaged_sessions import damaged_session
 from session_files import presses, session, some_allowance, typed
@@ -11,6 +12,11 @@ LONGEST = 65_536
 def full_log_session(dice, variant):
     """Runs that end just before the log is full, where it is full, and after; the next events act on the state left."""
     return session(boards.counting(dice, *variant), some_allowance(dice), [3, 1, 0])
+
+
+def counter_session(dice, stages):
+    """Runs of a counter while its button is pushed, each going on from where the one before was left."""
+    return session(counter_boards.counter(stages, button=True), some_allowance(dice), [1, 0, 1, 0])
 
 
 def largest_board_session(dice, events):

@@ -59,8 +59,9 @@ def lines(data):
                 found.append(f"{len(found)} refused 12")
             else:
                 pushed = pushed if event is None else pushed ^ {event // 2}
-                word, log, drawn, _ = run_model.run(H2, drawn, pushed, LOG)
-                found.append(f"{len(found)} {word} {len(log)} {total(drawn)}")
+                ran = run_model.run(H2, drawn, pushed, LOG)
+                drawn = ran.drawn
+                found.append(f"{len(found)} {ran.word} {len(ran.log)} {total(drawn)}")
             if at == len(data):
                 return found
             event, after = model.number_at(data, at)

@@ -1,7 +1,9 @@
 """Pushing a button, moving a relay and running a board once more, in plain Python, after the rule book (docs/RULES.md), "How a
 relay moves" and "Numbers for no", on top of judge_model, from which it has requests A4 and A5, and of divide_model, from which it
-has A6: moves and runs judge without an allowance. Its author had read the crates, so it is not the independent second program.
-Refusal 15 is left out: every board here is fine."""
+has A6: moves and runs judge without an allowance. For request A8 a run keeps every state that it comes through. Its author had read
+the crates, so it is not the independent second program. Refusal 15 is left out: every board here is fine."""
+import typing
+
 import divide_model as divide
 import judge_model as judge
 import kept_model as kept
@@ -81,14 +83,29 @@ def look(board, drawn, pushed):
     return "idle", NO_RELAY
 
 
+class Ran(typing.NamedTuple):
+    """How a run ends: its word, its log, the drawn relays, the relay that stopped it, and where it buzzes the moves made up to the
+    earlier state and those between."""
+
+    word: str
+    log: list
+    drawn: set
+    relay: int = NO_RELAY
+    earlier: int = 0
+    between: int = 0
+
+
 def run(board, drawn, pushed, room):
-    """The word of a run with so much room in its log, the log, the drawn relays after it, and the relay that stopped it."""
-    log = []
+    """A run with so much room in its log. Where a state comes again it buzzes; that is asked before whether the log is full."""
+    log, states = [], {frozenset(drawn): 0}
     while True:
         word, relay = look(board, drawn, pushed)
         if word not in ("drew", "dropped"):
-            return word, log, drawn, relay
+            return Ran(word, log, drawn, relay)
         if len(log) == room:
-            return "spent", log, drawn, relay
+            return Ran("spent", log, drawn, relay)
         log.append(relay + (DRAW if word == "drew" else 0))
         drawn = after(drawn, relay, word)
+        earlier = states.setdefault(frozenset(drawn), len(log))
+        if earlier < len(log):
+            return Ran("buzz", log, drawn, NO_RELAY, earlier, len(log) - earlier)

@@ -1,7 +1,7 @@
 """Fine boards for the comparison of whole sessions in tests/sessions.py, each as its counts T, R, B and its parts: relays that
-feed each other, relays that are shunted, relays that buzz, relays that count, steel relays in conflict, every kind of part,
-many parallel parts, the most of everything, and boards with many chains; most of them with marks in half of the cases. Built
-with the generators of tests/running.py and tests/judging.py."""
+feed each other, relays that are shunted, relays that buzz, at once or after others have drawn, relays that count, steel relays in
+conflict, every kind of part, many parallel parts, the most of everything, and boards with many chains; most of them with marks in
+half of the cases. Built with the generators of tests/running.py and tests/judging.py."""
 import judging
 import running
 from judge_model import BUTTON, DRAWING, DROPPING, LOWER, MARK, MINUS, PLUS, REGULAR, UPPER
@@ -42,6 +42,11 @@ def buzzing(dice):
     if dice.random() < 0.6:
         dice.choice(ways).append([BUTTON, 0])
     return running.wired(dice, relays, 1, [(REGULAR, relay, [way]) for relay, way in enumerate(ways)])
+
+
+def pulsing(dice):
+    """Relays that draw one after the other, and then others that buzz."""
+    return running.wired(dice, *running.pulsing_rows(dice))
 
 
 def conflicting(dice):

@@ -55,6 +55,11 @@ def buzzing_session(dice):
     return session(board, some_allowance(dice), some_presses(dice, board, 3))
 
 
+def pulsing_session(dice):
+    board = boards.pulsing(dice)
+    return session(board, some_allowance(dice), some_presses(dice, board, 3))
+
+
 def counting_session(dice):
     board = boards.marked(dice, boards.counting(dice, dice.randint(2, 7), dice.randint(0, 3)))
     return session(board, some_allowance(dice), some_presses(dice, board))

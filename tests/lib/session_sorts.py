@@ -16,6 +16,7 @@ SORTS = {
     "relays that feed each other": (1_350, fine.feeding_session),
     "relays that are shunted": (300, fine.shunting_session),
     "relays that buzz": (120, fine.buzzing_session),
+    "relays that buzz after others have drawn": (120, fine.pulsing_session),
     "relays that count": (100, fine.counting_session),
     "steel relays in conflict": (300, fine.conflicting_session),
     "every kind of part": (200, fine.every_kind_session),
@@ -43,6 +44,7 @@ BAD_ENDS = [b"\x80" * count for count in range(1, LONGEST_NUMBER + 1)] + [b"\x80
 # Sorts of which a few are enough, or all there is time for: what makes a session, and the variants, each tried once.
 FEW = {
     "runs of about 4,096 moves": (long_sessions.full_log_session, [(bits, followers) for bits in (12, 13) for followers in (0, 1, 2)]),
+    "counters that come round within 4,096 moves, and that do not": (long_sessions.counter_session, range(6, 15)),
     "the largest boards": (long_sessions.largest_board_session, range(1, 41)),
     "dense boards": (long_sessions.dense_session, [9, 12, 12, 22, 22]),
     "all shunted, with very many chains": (long_sessions.short_session, [16, 16, 22, 22]),

@@ -15,7 +15,7 @@ use lib.Pow.{pow-pos, pow-mono, split, shr-shr, shl-exact}
 use lib.Bits.{bitAnd, bitOr, bitXor, and-block, and-mask, and-zero-r, and-zero-l, or-add-and, xor-add-and, and-shr}
 use lib.Bits.{or-shr, xor-shr, and-mod, or-mod, xor-mod}
 use Rattle.bits.proofs.BoolLaws.{by-test, by-less}
-use Rattle.bits.specs.Sets.{room, member, including, excluding, remaining, together, within}
+use Rattle.bits.specs.Sets.{room, member, including, excluding, flipped, remaining, together, within}
 
 -- ---- a member by its bit, lowest first
 
@@ -160,6 +160,20 @@ member-excluding-other s n m other =
     by-test (member s n)
     (λ set. ap (λ (x : ℕ). member x m) (excluding-member s n set) ∙ taken-other s n m set other)
     (λ clear. ap (λ (x : ℕ). member x m) (excluding-absent s n clear))
+
+-- to flip a member takes back that it was included, and the other way round
+pub flipped-included : (s n : ℕ) → n < room → member s n ≡ false → flipped (including s n) n ≡ s
+unfolding flipped
+flipped-included s n fits clear =
+    rw (member-including-same s n fits)
+    (excluding-member (including s n) n (member-including-same s n fits) ∙ omega (arith, including-new s n fits clear))
+
+pub flipped-excluded : (s n : ℕ) → n < room → member s n ≡ true → flipped (excluding s n) n ≡ s
+unfolding flipped
+flipped-excluded s n fits set =
+    rw (member-excluding-same s n)
+    (including-new (excluding s n) n fits (member-excluding-same s n)
+    ∙ omega (arith, excluding-member s n set, member-worth s n set))
 
 -- ---- the set without members
 
@@ -317,6 +331,22 @@ or-including s n fits =
 xor-excluding : (s n : ℕ) → member s n ≡ true → bitXor s (2 ^ n) ≡ excluding s n
 xor-excluding s n set =
     omega (arith, xor-add-and s (2 ^ n), and-member s n set, excluding-member s n set, member-worth s n set)
+
+xor-including : (s n : ℕ) → n < room → member s n ≡ false → bitXor s (2 ^ n) ≡ including s n
+xor-including s n fits clear =
+    omega (arith, xor-add-and s (2 ^ n), and-absent s n clear, including-new s n fits clear)
+
+pub flip-shifted : (s n : ℕ) → n < room → bitXor s (1 * 2 ^ n % 2 ^ room) ≡ flipped s n
+unfolding flipped
+flip-shifted s n fits =
+    ap (bitXor s) (shifted-one n fits)
+    ∙ by-test (member s n)
+    (λ set. xor-excluding s n set ∙ rw set refl) (λ clear. xor-including s n fits clear ∙ rw clear refl)
+
+pub flipped-beyond : (s n : ℕ) → s < 2 ^ room → room ≤ n → flipped s n ≡ s
+unfolding flipped
+flipped-beyond s n small beyond =
+    rw (member-beyond s room n small beyond) (including-beyond s n beyond)
 
 pub with-shifted : (s n : ℕ) → n < room → bitOr s (1 * 2 ^ n % 2 ^ room) ≡ including s n
 with-shifted s n fits = ap (bitOr s) (shifted-one n fits) ∙ or-including s n fits

@@ -3,6 +3,7 @@
 --     room                   how many numbers a word has room for: 0 to 63
 --     including s n          s with n as a member besides, where a word has room for n
 --     excluding s n          s without n
+--     flipped s n            s without n if it is a member, and else with it, where a word has room for n
 --     remaining s t          the members of s that are not in t: those of s and not of both
 --     together s t           the members of either set
 --     firstFrom ok k n       the first of n, n + 1, … (k numbers) that passes the test `ok`; else the number after them
@@ -12,6 +13,7 @@
 --     SetHas s n r           promise: `has` of s and n answers r
 --     SetWith s n r          promise: `with` of s and n answers r
 --     SetWithout s n r       promise: `without` of s and n answers r
+--     SetFlipped s n r       promise: `flip` of s and n answers r
 --     SetRemaining s t r     promise: `remaining` of s and t answers r
 --     SetTogether s t r      promise: `together` of s and t answers r
 --     SetLowestFrom s n r    promise: `lowest_from` of s and n answers r
@@ -37,6 +39,9 @@ including s n = cond (ltb n room) (cond (member s n) s (s + 2 ^ n)) s
 unfoldable pub excluding : ℕ → ℕ → ℕ
 excluding s n = cond (member s n) (s - 2 ^ n) s
 
+unfoldable pub flipped : ℕ → ℕ → ℕ
+flipped s n = cond (member s n) (excluding s n) (including s n)
+
 unfoldable pub remaining : ℕ → ℕ → ℕ
 remaining s t = bitXor s (bitAnd s t)
 
@@ -61,6 +66,9 @@ SetWith s n r = r ≡ including s n
 
 abbrev pub SetWithout : ℕ → ℕ → ℕ → Type 0
 SetWithout s n r = r ≡ excluding s n
+
+abbrev pub SetFlipped : ℕ → ℕ → ℕ → Type 0
+SetFlipped s n r = r ≡ flipped s n
 
 abbrev pub SetRemaining : ℕ → ℕ → ℕ → Type 0
 SetRemaining s t r = r ≡ remaining s t

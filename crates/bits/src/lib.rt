@@ -1,6 +1,6 @@
 // Sets of the numbers 0 to 63, a bit of a word each: n is a member exactly if bit n is set.
 ghost use Rattle.bits.specs.Sets.{SetHas, SetWith, SetWithout, SetRemaining, SetTogether, SetLowestFrom};
-ghost use Rattle.bits.specs.Sets.{SetAllBelow, WideByte};
+ghost use Rattle.bits.specs.Sets.{SetAllBelow, SetFlipped, WideByte};
 
 // How many numbers a word has room for.
 pub const ROOM: u32 = 64;
@@ -30,6 +30,13 @@ pub fn without(set: u64, n: u32) -> u64
     ensures { λ r. ⌜ SetWithout set n r ⌝ }
 {
     if has(set, n) { set ^ (1 << n) } else { set }
+}
+
+// The set with n as a member if it is none, and else without it; as it is where a word has no room for n.
+pub fn flip(set: u64, n: u32) -> u64
+    ensures { λ r. ⌜ SetFlipped set n r ⌝ }
+{
+    if n < ROOM { set ^ (1 << n) } else { set }
 }
 
 // The members of a set that are not in another.

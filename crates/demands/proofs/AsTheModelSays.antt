@@ -17,13 +17,14 @@ use Rattle.moves_means.proofs.SingleMoves.{move-exactly}
 use Rattle.moves_means.proofs.ByChains.{every-relay-moves}
 use Rattle.moves_means.proofs.OneRelay.{changes-one-relay}
 use Rattle.moves_means.proofs.AsTold.{taken-as-told, regular-as-told, steel-as-told}
-use Rattle.runs_means.proofs.Courses.{run-exactly}
+use Rattle.runs_means.proofs.Courses.{run-exactly, meeting-is-unique, meeting-found, never-spent}
 use Rattle.runs_means.proofs.KeptSets.{only-at-ends, belong-always}
 use Rattle.kept.proofs.OnlyEnds.{only-ends}
 use Rattle.session_means.proofs.HandedLines.{lines-handed-out, all-handed-out}
 use Rattle.session_means.proofs.FilledBuffers.{buffers-filled, all-filled}
 use Rattle.session_means.proofs.EventRefusals.{events-refused, events-closed}
 use Rattle.session_means.proofs.LinesDrawn.{lines-drawn}
+use Rattle.session_means.proofs.UnspentSessions.{sessions-unspent}
 use Rattle.session_means.proofs.SessionsKept.{sessions-kept, first-sessions-kept, lines-stand}
 use Rattle.demands.specs.AsTheModelSays.{AsTheModelSays}
 
@@ -49,6 +50,10 @@ as-the-model-says = record {
   steel-told = steel-as-told;
   changes = changes-one-relay;
   runs = run-exactly;
+  meetings = meeting-is-unique;
+  found = meeting-found;
+  never-spent = never-spent;
+  unspent = sessions-unspent;
   fresh = fresh-follows;
   belong = belong-always;
   only-at-ends = only-at-ends;

@@ -15,7 +15,7 @@ use Rattle.kept.proofs.Eighteen.{eighteen-exactly}
 use Rattle.board_reader.proofs.ReadLaws.{reading-refused}
 use Rattle.search.specs.Verdicts.{Finding, Verdict}
 use Rattle.moves.specs.Steps.{Move}
-use Rattle.runs.specs.Looks.{Ending}
+use Rattle.runs.specs.Runs.{Ending}
 use Rattle.runs.specs.Running.{Ran}
 use Rattle.file_means.proofs.FileRefusals.{file-refused}
 use Rattle.judge_means.proofs.Eleven.{eleven-exactly}

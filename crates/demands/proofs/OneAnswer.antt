@@ -60,6 +60,7 @@ one-answer = record {
   bits-has = λ s n. one-itself _;
   bits-with = λ s n. one-itself _;
   bits-without = λ s n. one-itself _;
+  bits-flip = λ s n. one-itself _;
   bits-remaining = λ s t. one-itself _;
   bits-together = λ s t. one-itself _;
   bits-lowest-from = λ s n. one-itself _;

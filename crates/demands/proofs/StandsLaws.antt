@@ -172,15 +172,18 @@ check-stands b h r k x =
 
 -- ---- running
 
--- a refused run leaves the state, the sets and the log as they were, with no moves and no relay
+-- a refused run leaves the state, the sets and the log as they were, with no moves, no relay and no meeting
 abbrev pub NotRun : Kept → List ℕ → Ran → Type 0
-NotRun h log x = (x .kept ≡ h) × ((x .moves ≡ 0) × ((x .relay ≡ noRelay) × (x .log ≡ log)))
+NotRun h log x =
+    (x .kept ≡ h)
+    × ((x .moves ≡ 0) × ((x .relay ≡ noRelay) × ((x .earlier ≡ 0) × ((x .between ≡ 0) × (x .log ≡ log)))))
 
 pub run-stands : (b : Board) (h : Kept) (log : List ℕ)
     → StandsAgainst (λ (x : Ran). x .word) (NotRun h log) (firstNo (runLines b h log)) (running b h log)
 unfolding running runnable ran
 run-stands b h log =
-    answering-stands _ _ _ _ (λ n p. (refl, (refl, (refl, (refl, refl))))) refl (firstNo (runLines b h log))
+    answering-stands _ _ _ _ (λ n p. (refl, (refl, (refl, (refl, (refl, (refl, refl))))))) refl
+    (firstNo (runLines b h log))
 
 -- ---- the next line, and the next lines
 

@@ -29,7 +29,7 @@ use Rattle.divide.specs.AtOnce.{divides, lowestDividing, judgedAtOnce, judgingA
 use Rattle.moves.specs.Steps.{regularMove, steelMove, takenLive, stepBy, stepOf}
 use Rattle.moves.specs.Moving.{movable, moving}
 use Rattle.runs.specs.Looks.{lookFrom}
-use Rattle.runs.specs.Runs.{runOf}
+use Rattle.runs.specs.Runs.{sameState, metFrom, runFrom}
 use Rattle.runs.specs.Running.{runnable, ran, running}
 use Rattle.lines.specs.Texts.{digitsOf, decimal}
 use Rattle.lines.specs.Lines.{lineText}
@@ -52,8 +52,9 @@ unfolding firstNo kindOf below form placed numberAt encode numberBytes member in
     flooded isIn canFollow tries beyond chains crosses someCrosses beside shows firstShown effort places weighed
     verdictBy inSets windingOf windingsAt shunted judgedBy windingFor judging reachedWithout servedOn served linkedTo
     linked shuntedBy liveBy divides lowestDividing judgedAtOnce judgingAtOnce checking regularMove steelMove takenLive
-    stepBy stepOf movable moving lookFrom runOf runnable ran running digitsOf decimal lineText eventAt pressing ranLine
-    pressedLine eventLine pastAllowance headAt linesFrom headLines sessionLines lineTexts printed sessionText
+    stepBy stepOf movable moving lookFrom sameState metFrom runFrom runnable ran running digitsOf decimal lineText
+    eventAt pressing ranLine pressedLine eventLine pastAllowance headAt linesFrom headLines sessionLines lineTexts
+    printed sessionText
 starred-boards =
     (λ x told. told) & (λ a k told. told) & (λ v told. told) & (λ v told. told) & (λ v told. told)
     & (λ a k told. told) & (λ a k told. told) & (λ v told. told) & (λ v told. told) & (λ v told. told)
@@ -76,4 +77,5 @@ starred-boards =
     & (λ a told. told) & (λ a told. told) & (λ a told. told) & (λ a told. told) & (λ a told. told)
     & (λ a told. told) & (λ a told. told) & (λ a told. told) & (λ a told. told) & (λ a told. told)
     & (λ a told. told) & (λ a told. told) & (λ a told. told)
-    & (λ w most. any-text h5File (1 ∷ 3 ∷ []) h5 w refl most (omega arith) (tt & tt & tt & tt)) & tt
+    & (λ w most. any-text h5File (1 ∷ 3 ∷ []) h5 w refl most (omega arith) (tt & tt & tt & tt))
+    & (λ a k told. told) & (λ a k told. told) & (λ a k told. told) & (λ a k told. told) & (λ a k told. told) & refl & tt

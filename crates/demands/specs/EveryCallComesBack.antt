@@ -25,7 +25,8 @@
 --                                 call returns the number, place 0 and the state it was given, if it takes one; a
 --                                 refused run also 0 moves and relay 255, a refused judgement no verdict, effort 0 and
 --                                 length 0, a refused write 0 bytes written. Log and output buffer stay as lent." And
---                                 with the state its kept sets (request A5)
+--                                 with the state its kept sets (request A5); and of a refused run 0 moves up to an
+--                                 earlier state and 0 between (request A8)
 --     EveryCallComesBack          the demand
 use Prim.Native.Nat.{ℕ}
 use mathlib.Core.Path.{_≡_}
@@ -62,9 +63,8 @@ use Rattle.moves.specs.declared.Moved.{Moved}
 use Rattle.moves.specs.Moving.{moveLines, toldMoveAnswer, Moves}
 use Rattle.moves_means.specs.SingleMoves.{MoveElevenExactly}
 use Rattle.runs.specs.declared.Ran.{Ran}
-use Rattle.runs.specs.Runs.{noRelay}
+use Rattle.runs.specs.Runs.{noRelay, Ending}
 use Rattle.runs.specs.Running.{runLines, toldEnding, Runs}
-use Rattle.runs.specs.Looks.{Ending}
 use Rattle.lines.specs.declared.Line.{Line}
 use Rattle.lines.specs.declared.LineWritten.{LineWritten}
 use Rattle.lines.specs.Lines as told
@@ -171,7 +171,8 @@ pub record AsLent : Type 0 where
   pub runs : (b : Board) (h : Kept) (log log′ : List ℕ) (a : Ran) (n p : ℕ)
       → Runs b h log a log′
       → toldEnding (a .word) ≡ refused n p
-      → (a .kept ≡ h) × ((a .moves ≡ 0) × ((a .relay ≡ noRelay) × (log′ ≡ log)))
+      → (a .kept ≡ h)
+      × ((a .moves ≡ 0) × ((a .relay ≡ noRelay) × ((a .earlier ≡ 0) × ((a .between ≡ 0) × (log′ ≡ log)))))
   pub tells-run : (b : Board) (e : ℕ) (h : Kept) (x : Shown) (n p : ℕ)
       → RunLine b e h x
       → wordOf (toldLine (x .line)) ≡ refused n p

@@ -15,8 +15,8 @@
 --     "So of two accepted runs from one board and state, the one with no shorter log and no less allowance per winding
 --     starts with every move of the other, and where the other ended idle or in conflict it ends with that word in that
 --     same state."
---         `runs`: request A7, "for runs demand 3 now speaks of the log alone". A session's allowance "is still read,
---         then ignored": `sessions`
+--         `runs`: request A7, "for runs demand 3 now speaks of the log alone"; request A8 "lists buzz with idle and
+--         conflict as endings that stand". A session's allowance "is still read, then ignored": `sessions`
 -- The words:
 --     JudgedExactly J       what the demand asks of a judge J
 --     AlwaysSays f          the judge that answers f, whatever it is asked

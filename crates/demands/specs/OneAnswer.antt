@@ -9,8 +9,8 @@ use Prim.Native.Nat.{ℕ, _<_}
 use mathlib.Core.Path.{_≡_}
 use mathlib.Core.Bool.{Bool}
 use mathlib.Core.List.{List}
-use Rattle.bits.specs.Sets.{SetHas, SetWith, SetWithout, SetRemaining, SetTogether, SetLowestFrom, SetAllBelow}
-use Rattle.bits.specs.Sets.{WideByte}
+use Rattle.bits.specs.Sets.{SetHas, SetWith, SetWithout, SetFlipped, SetRemaining, SetTogether, SetLowestFrom}
+use Rattle.bits.specs.Sets.{SetAllBelow, WideByte}
 use Rattle.refusals.specs.declared.Against.{Against}
 use Rattle.refusals.specs.Order.{AsksNext}
 use Rattle.number.specs.Numbers.{ReadsNumber, NumberLength, WritesNumber}
@@ -73,6 +73,7 @@ pub record OneAnswer : Type 0 where
   pub bits-has : (s n : ℕ) → One (SetHas s n)
   pub bits-with : (s n : ℕ) → One (SetWith s n)
   pub bits-without : (s n : ℕ) → One (SetWithout s n)
+  pub bits-flip : (s n : ℕ) → One (SetFlipped s n)
   pub bits-remaining : (s t : ℕ) → One (SetRemaining s t)
   pub bits-together : (s t : ℕ) → One (SetTogether s t)
   pub bits-lowest-from : (s n : ℕ) → One (SetLowestFrom s n)

@@ -39,7 +39,9 @@
 --     dividing b s k x t            `checked` likewise: terminal x divides the winding if t
 --     moves b s t m                 `moved` from state s with its sets: the word m, and the state t with its sets
 --     runs b s log e m t r l        `ran` likewise: the word e, m moves, the state t with its sets, the relay r, and
---                                   the log l afterwards
+--                                   the log l afterwards; it met no state
+--     buzzed b s log i d t l        `ran` likewise: buzz, i moves up to the earlier state and d between, the state t
+--                                   with its sets, and the log l afterwards
 --     RowHolds x                    whatever the row's call answers under its promise, it is the row's answer; what a
 --                                   session prints is computed (`lines` and `all-lines` of `AsTheModelSays` say that
 --                                   the calls hand out just these lines)
@@ -56,8 +58,11 @@
 --                                   pole, poles that divide, the lowest of several, a shunted winding that is divided;
 --                                   the refusals in their order, 19 the last
 --     ignored                       the amended case of request A7: "H5 with both pushed is in conflict at every W"
---     Starred                       every row of the seven holds
-use Prim.Native.Nat.{ℕ, _-_, _≤_}
+--     pulsing, pulsingFile          a pulse generator, and as a file: relay 0 draws, then relay 1 buzzes
+--     met                           rows on the meetings of request A8: a log that is just long enough, one too short,
+--                                   a lead-in, and a session's line
+--     Starred                       every row of the eight holds
+use Prim.Native.Nat.{ℕ, _+_, _-_, _≤_}
 use mathlib.Core.Path.{_≡_}
 use mathlib.Core.List.{List, [], _∷_, _++_}
 use mathlib.Core.Bool.{Bool, true, false}
@@ -97,8 +102,7 @@ use Rattle.divide.specs.AtOnce.{ChecksTerminal}
 use Rattle.moves.specs.Steps as step
 use Rattle.moves.specs.declared.Moved.{Moved}
 use Rattle.moves.specs.Moving.{toldMoved, Moves}
-use Rattle.runs.specs.Looks.{Ending, idle, spent, conflict}
-use Rattle.runs.specs.Runs.{noRelay}
+use Rattle.runs.specs.Runs.{Ending, idle, spent, conflict, buzz, noRelay}
 use Rattle.runs.specs.declared.Ran.{Ran}
 use Rattle.runs.specs.Running as told
 use Rattle.runs.specs.Running.{unrun, toldRan, Runs}
@@ -282,7 +286,13 @@ moves b s t m = moved b (keptAt b s) (keptAt b t) (given m)
 
 abbrev pub runs : Board → State → List ℕ → Ending → ℕ → State → ℕ → List ℕ → Row
 runs b s log e m t r l =
-    ran b (keptAt b s) log (record { word = given e; moves = m; kept = keptAt b t; relay = r; log = l })
+    ran b (keptAt b s) log
+    (record { word = given e; moves = m; kept = keptAt b t; relay = r; earlier = 0; between = 0; log = l })
+
+abbrev pub buzzed : Board → State → List ℕ → ℕ → ℕ → State → List ℕ → Row
+buzzed b s log i d t l =
+    ran b (keptAt b s) log
+    (record { word = given buzz; moves = i + d; kept = keptAt b t; relay = noRelay; earlier = i; between = d; log = l })
 
 abbrev pub RowHolds : Row → Type 0
 RowHolds (reads s b o) = (x : BoardRead) → Reads s x → toldBoardRead x ≡ (b, o)
@@ -305,7 +315,7 @@ starred =
     ∷ judges h1 emptyState First 100 (deadWith 1)
     ∷ judges h1 pushed0 First 100 (liveWith 3 (0 ∷ 2 ∷ 1 ∷ []))
     ∷ judges h1 pushed0 First 2 (unsettled 2)
-    ∷ runs h3 emptyState (lent 5) spent 5 (drawn0 emptyState) 0 (128 ∷ 0 ∷ 128 ∷ 0 ∷ 128 ∷ [])
+    ∷ buzzed h3 emptyState (lent 5) 0 2 emptyState (128 ∷ 0 ∷ 7 ∷ 7 ∷ 7 ∷ [])
     ∷ runs h3 emptyState [] spent 0 emptyState 0 []
     ∷ judges h4 emptyState First 100 (deadWith 0)
     ∷ judges h4 emptyState First 5 (deadWith 0)
@@ -438,5 +448,27 @@ ignored =
     printsAtEveryW h5File (1 ∷ 3 ∷ []) h5Lines
     ∷ []
 
+-- T 5, relay 0's winding on 2-1 fed by a wire 0-2, relay 1's on 4-1 by an upper contact of relay 0 on 0-3 and its own
+-- lower contact on 3-4
+abbrev pub pulsing : Board
+pulsing =
+    board 5 2 0
+    (part Wire 0 2 ∷ part (Regular 0) 2 1 ∷ part (Upper 0) 0 3 ∷ part (Lower 1) 3 4 ∷ part (Regular 1) 4 1 ∷ [])
+
+abbrev pub pulsingFile : List ℕ
+pulsingFile =
+    5 ∷ 2 ∷ 0 ∷ 5 ∷ 0 ∷ 0 ∷ 2 ∷ 4 ∷ 2 ∷ 1 ∷ 0 ∷ 1 ∷ 0 ∷ 3 ∷ 0 ∷ 2 ∷ 3 ∷ 4 ∷ 1 ∷ 4 ∷ 4 ∷ 1 ∷ 1 ∷ []
+
+-- the last prints "0 buzz 3 1": all moves made
+abbrev pub met : List Row
+met =
+    buzzed h3 emptyState (lent 2) 0 2 emptyState (128 ∷ 0 ∷ [])
+    ∷ runs h3 emptyState (lent 1) spent 1 (drawn0 emptyState) 0 (128 ∷ [])
+    ∷ buzzed pulsing emptyState (lent 4) 1 2 (drawn0 emptyState) (128 ∷ 129 ∷ 1 ∷ 7 ∷ [])
+    ∷ buzzed pulsing emptyState (lent 3) 1 2 (drawn0 emptyState) (128 ∷ 129 ∷ 1 ∷ [])
+    ∷ runs pulsing emptyState (lent 2) spent 2 (withDrawn (drawn0 emptyState) 1) 1 (128 ∷ 129 ∷ [])
+    ∷ prints (pulsingFile ++ (100 ∷ [])) (48 ∷ 32 ∷ 98 ∷ 117 ∷ 122 ∷ 122 ∷ 32 ∷ 51 ∷ 32 ∷ 49 ∷ 10 ∷ [])
+    ∷ []
+
 abbrev pub Starred : Type 0
-Starred = All RowHolds (starred ++ besides ++ marks ++ shunts ++ kept ++ divided ++ ignored)
+Starred = All RowHolds (starred ++ besides ++ marks ++ shunts ++ kept ++ divided ++ ignored ++ met)

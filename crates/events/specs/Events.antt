@@ -1,6 +1,6 @@
 -- One event of a session. Rule book: "then events to the end: 2 x button + 1 pushes, 2 x button releases"; "One line
 -- for the first run (event 0), then one for each event"; "An event refused by 12 prints its number, `refused` and 12;
--- nothing is run"; "After spent, .. or conflict the next event acts on the state left."
+-- nothing is run"; "After spent, .. or conflict the next event acts on the state left", and after buzz (request A8).
 --     eventOf v                the event of the number v: its button, and whether it pushes or releases it
 --     eventAt ed n s at        the event at a place of the input, by the edition ed: a number (1, 2) that names one of
 --                              n buttons (7)

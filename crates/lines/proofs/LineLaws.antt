@@ -17,8 +17,8 @@ use Rattle.refusals.specs.Refusals.{bufferTooShort}
 use Rattle.refusals.specs.Order.{firstNo}
 use Rattle.number.proofs.Buffers.{sets-at-zero}
 use Rattle.runs.specs.declared.Ending as code-ending
-use Rattle.runs.specs.declared.Ending.the-variants.{Idle, Spent, Conflict, Refused}
-use Rattle.runs.specs.Looks.{Ending, idle, spent, conflict}
+use Rattle.runs.specs.declared.Ending.the-variants.{Idle, Spent, Conflict, Buzz, Refused}
+use Rattle.runs.specs.Runs.{Ending, idle, spent, conflict, buzz}
 use Rattle.runs.specs.Running.{toldEnding}
 use Rattle.runs.proofs.Ending.{the-type}
 use Rattle.lines.specs.Texts.{space, decimal, spaced, ended, refusedText, wordText, mostDigits}
@@ -33,6 +33,7 @@ word-few : (w : Outcome Ending) → length (wordText w) ≤ 8
 word-few (given idle) = omega arith
 word-few (given spent) = omega arith
 word-few (given conflict) = omega arith
+word-few (given buzz) = omega arith
 word-few (refused n p) = omega arith
 
 pub line-length-most : (l : Line) → length (lineText l) ≤ longestLine
@@ -85,20 +86,22 @@ line-put l out room put =
 number-few : (n c : ℕ) → length (endedBy (decimal n) c) ≤ 21
 number-few n c = simp length-append (omega (arith, decimal-few n))
 
-below-three : (t : ℕ) → OneOf (0 ∷ 1 ∷ 2 ∷ []) t → t < 3
-below-three t (inl e) = omega arith
-below-three t (inr (inl e)) = omega arith
-below-three t (inr (inr e)) = omega arith
+below-four : (t : ℕ) → OneOf (0 ∷ 1 ∷ 2 ∷ 3 ∷ []) t → t < 4
+below-four t (inl e) = omega arith
+below-four t (inr (inl e)) = omega arith
+below-four t (inr (inr (inl e))) = omega arith
+below-four t (inr (inr (inr e))) = omega arith
 
 -- a run that was not refused, by the tag of its word
-event-text : (e m d : ℕ) (w : code-ending.Ending) → OneOf (0 ∷ 1 ∷ 2 ∷ []) (tagOf the-type w)
+event-text : (e m d : ℕ) (w : code-ending.Ending) → OneOf (0 ∷ 1 ∷ 2 ∷ 3 ∷ []) (tagOf the-type w)
     → spaced (decimal e) ++ spaced (wordText (toldEnding w)) ++ spaced (decimal m) ++ ended (decimal d)
     ≡ lineText (event e (toldEnding w) m d)
 unfolding lineText
 event-text e m d Idle ran = refl
 event-text e m d Spent ran = refl
 event-text e m d Conflict ran = refl
-event-text e m d (Refused r) ran = absurd (omega (arith, below-three 3 ran))
+event-text e m d Buzz ran = refl
+event-text e m d (Refused r) ran = absurd (omega (arith, below-four 4 ran))
 
 module _ (e m d : ℕ) (w : code-ending.Ending) (out : List ℕ) (room : longestLine ≤ length out) {at₁ : ℕ}
     {out₁ : List ℕ} (first : Put out 0 (spaced (decimal e)) at₁ out₁) where
@@ -131,7 +134,7 @@ module _ (e m d : ℕ) (w : code-ending.Ending) (out : List ℕ) (room : longest
       pub drawn-room : at₃ + mostDigits < length out₃
       drawn-room = omega (arith, put-room out₂ at₂ (spaced (decimal m)) third 21 21 (number-few m space) both-room)
 
-      pub event-ran : {at₄ : ℕ} {out₄ : List ℕ} → OneOf (0 ∷ 1 ∷ 2 ∷ []) (tagOf the-type w)
+      pub event-ran : {at₄ : ℕ} {out₄ : List ℕ} → OneOf (0 ∷ 1 ∷ 2 ∷ 3 ∷ []) (tagOf the-type w)
           → Put out₃ at₃ (ended (decimal d)) at₄ out₄
           → Put out 0 (lineText (event e (toldEnding w) m d)) at₄ out₄
       event-ran {at₄} {out₄} ran fourth =

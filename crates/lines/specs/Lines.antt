@@ -22,7 +22,7 @@ use lib.ListN.{length, drop}
 use Rattle.refusals.specs.Outcomes.{Outcome, given, refused}
 use Rattle.refusals.specs.Refusals.{bufferTooShort}
 use Rattle.refusals.specs.Order.{Order, firstNo, answering}
-use Rattle.runs.specs.Looks.{Ending}
+use Rattle.runs.specs.Runs.{Ending}
 use Rattle.runs.specs.Running.{toldEnding}
 use Rattle.lines.specs.declared.Line as code
 use Rattle.lines.specs.declared.Line.the-variants.{Event, Closing}

@@ -13,7 +13,7 @@ use mathlib.Core.Bool.{cond}
 use mathlib.Core.List.{List, [], _∷_, _++_}
 use lib.Dec.{ltb}
 use Rattle.refusals.specs.Outcomes.{Outcome, given, refused}
-use Rattle.runs.specs.Looks.{Ending, idle, spent, conflict}
+use Rattle.runs.specs.Runs.{Ending, idle, spent, conflict, buzz}
 
 abbrev pub space : ℕ
 space = 32
@@ -50,5 +50,6 @@ refusedText = 114 ∷ 101 ∷ 102 ∷ 117 ∷ 115 ∷ 101 ∷ 100 ∷ []
 abbrev pub wordText : Outcome Ending → List ℕ
 wordText (given idle) = 105 ∷ 100 ∷ 108 ∷ 101 ∷ []
 wordText (given spent) = 115 ∷ 112 ∷ 101 ∷ 110 ∷ 116 ∷ []
+wordText (given buzz) = 98 ∷ 117 ∷ 122 ∷ 122 ∷ []
 wordText (given conflict) = 99 ∷ 111 ∷ 110 ∷ 102 ∷ 108 ∷ 105 ∷ 99 ∷ 116 ∷ []
 wordText (refused n p) = refusedText

@@ -60,6 +60,7 @@ fn put_word(word: Ending, out: &mut [u8], at: usize) -> usize
         Ending::Idle => put(b"idle ", out, at),
         Ending::Spent => put(b"spent ", out, at),
         Ending::Conflict => put(b"conflict ", out, at),
+        Ending::Buzz => put(b"buzz ", out, at),
         Ending::Refused(_) => put(b"refused ", out, at),
     }
 }

@@ -1,11 +1,11 @@
 -- Laws of what a relay does by plain tests, one for each way out of `regular` and `steel`; and by its windings, one for
--- each way out of `step`.
+-- each way out of `step`; and that a move turns its relay.
 use mathlib.Core.Path.{_≡_, refl, sym, ap, _∙_}
 use mathlib.Core.Bool.{Bool, true, false, cond}
 use Rattle.search.specs.declared.Winding.{Winding}
 use Rattle.judge.specs.declared.Windings.{Windings}
 use Rattle.judge.specs.declared.Windings.the-variants as found
-use Rattle.judge.specs.RelayWindings.{toldWindings}
+use Rattle.judge.specs.RelayWindings.{OfRelay, regular, steel, absent, toldWindings}
 use Rattle.moves.specs.Steps.{Move, drew, dropped, rests, conflict, regularMove, steelMove, moveBy}
 
 -- ---- a regular relay, drawn if d, its winding live if l
@@ -54,3 +54,33 @@ module _ (live : Winding → Bool) (d : Bool) (x : Windings) where
   pub moves-steel : (v u : Winding) (l k : Bool) (m : Move) → x ≡ found.Steel v u → l ≡ live v → k ≡ live u
       → m ≡ steelMove d l k → m ≡ moveBy live d (toldWindings x)
   moves-steel v u l k m is on also moves = moves ∙ rw (on, also) refl ∙ told-by (found.Steel v u) is
+
+-- ---- a relay that draws was dropped, and one that drops was drawn
+
+abbrev pub Turns : Bool → Move → Type 0
+Turns d drew = d ≡ false
+Turns d dropped = d ≡ true
+Turns d rests = Unit {0}
+Turns d conflict = Unit {0}
+
+regular-turns : (d l : Bool) → Turns d (regularMove d l)
+unfolding regularMove
+regular-turns true true = tt
+regular-turns true false = refl
+regular-turns false true = refl
+regular-turns false false = tt
+
+steel-turns : (d x y : Bool) → Turns d (steelMove d x y)
+unfolding steelMove
+steel-turns d true true = tt
+steel-turns true true false = tt
+steel-turns false true false = refl
+steel-turns true false true = refl
+steel-turns false false true = tt
+steel-turns true false false = tt
+steel-turns false false false = tt
+
+pub moves-turn : (live : Winding → Bool) (d : Bool) (x : OfRelay Winding) → Turns d (moveBy live d x)
+moves-turn live d (regular v) = regular-turns d (live v)
+moves-turn live d (steel v u) = steel-turns d (live v) (live u)
+moves-turn live d absent = tt

@@ -24,6 +24,7 @@ use Rattle.moves.specs.declared.Move as code-move
 use Rattle.moves.specs.declared.Move.the-variants.{Drew, Dropped}
 use Rattle.moves.specs.Steps.{Move, drew, dropped, rests, conflict, moveBy, takenLive, stepBy, stepOf}
 use Rattle.moves.specs.Steps.{made, keptMade, toldMove}
+use Rattle.moves.proofs.MoveLaws.{Turns, moves-turn}
 
 -- ---- the step
 
@@ -46,6 +47,10 @@ pub step-windings : (b : Board) (s : State) (r : ℕ) (x : OfRelay Winding) → 
 unfolding stepOf stepBy
 step-windings b s r x is = ap (moveBy (takenLive (setsOf b s) (b .counts .terminals)) (isDrawn s r)) is
 
+pub step-turns : (b : Board) (s : State) (r : ℕ) → Turns (isDrawn s r) (stepOf b s r)
+unfolding stepOf stepBy
+step-turns b s r = moves-turn _ (isDrawn s r) (windingsAt r (partsOf b))
+
 -- ---- "A move changes that relay and nothing else"
 
 -- what holds of the state with the relay drawn, with it dropped and as it was, holds after every move
@@ -62,6 +67,9 @@ made-other s r m q other =
 
 pub made-pushed : (s : State) (r : ℕ) (m : Move) (q : ℕ) → isPushed (made s r m) q ≡ isPushed s q
 made-pushed s r m q = made-holds (λ t. isPushed t q ≡ isPushed s q) s r m refl refl refl
+
+pub made-buttons : (s : State) (r : ℕ) (m : Move) → made s r m .pushed ≡ s .pushed
+made-buttons s r m = made-holds (λ t. t .pushed ≡ s .pushed) s r m refl refl refl
 
 -- a state that fits a board still fits it
 pub made-fits : (c : Counts) (s : State) (r : ℕ) (m : Move) → stateFine c s ≡ true → r < c .relays

@@ -21,6 +21,7 @@ fn print_word(word: Ending) {
         Ending::Idle => print::words(b"ran idle"),
         Ending::Spent => print::words(b"ran spent"),
         Ending::Conflict => print::words(b"ran conflict"),
+        Ending::Buzz => print::words(b"ran buzz"),
         Ending::Refused(refused) => print::call_refusal(b"ran refused ", refused),
     }
 }
@@ -54,6 +55,8 @@ fn print_ran(ran: Ran) {
     let left = ran.kept;
     print::state(left.state);
     print::counted(b" ", ran.relay as u64);
+    print::counted(b" ", ran.earlier as u64);
+    print::counted(b" ", ran.between as u64);
     print::words(b":");
 }
 

@@ -2,6 +2,8 @@
 pub mod LookLaws
 pub mod RunLaws
 pub mod RunFits
+pub mod BackLaws
+pub mod NotchLaws
 pub mod CourseLaws
 pub mod SeenLaws
 pub mod RunningLaws

@@ -4,6 +4,7 @@ use Prim.Native.Nat.{ℕ, zero, suc, _+_, _<_, _≤_}
 use native.Mathlib.Omega.{arith}
 use mathlib.Core.Path.{_≡_, subst}
 use mathlib.Core.Bool.{true}
+use mathlib.Core.List.{List, []}
 use Rattle.board.specs.declared.Counts.{Counts}
 use Rattle.state.specs.declared.State.{State}
 use Rattle.state.specs.States.{stateFine}
@@ -11,7 +12,7 @@ use Rattle.moves.specs.Steps as step
 use Rattle.moves.proofs.StepLaws.{made-fits}
 use Rattle.runs.specs.Looks.{Stepper, Look, quiet, halts, makes, decides, lookFrom}
 use Rattle.runs.specs.Runs.{Run, runOf}
-use Rattle.runs.proofs.RunLaws.{RunGoes, stops, moved, run-goes}
+use Rattle.runs.proofs.RunLaws.{RunGoes, stops, moved, run-goes, stops-still}
 
 -- ---- the relay that moves is one of the k that were looked at
 
@@ -33,17 +34,17 @@ look-below f s k zero r most = tt
 look-below f s k (suc n) r most =
     decides-below k (f s r) r (lookFrom f s n (suc r)) (omega arith) (look-below f s k n (suc r) (omega arith))
 
-look-makes-below : (f : Stepper) (s : State) (k : ℕ) (m : step.Move) (r : ℕ) → lookFrom f s k 0 ≡ makes m r → r < k
+pub look-makes-below : (f : Stepper) (s : State) (k : ℕ) (m : step.Move) (r : ℕ) → lookFrom f s k 0 ≡ makes m r → r < k
 look-makes-below f s k m r is = subst (MovesBelow k) is (look-below f s k k 0 (omega arith))
 
 -- ---- the run
 
 module _ (c : Counts) (f : Stepper) where
-  goes-fits : {n : ℕ} {s : State} {x : Run} → RunGoes f (c .relays) n s x → stateFine c s ≡ true
-      → stateFine c (x .state) ≡ true
-  goes-fits (stops why) fits = fits
-  goes-fits (moved {s = s} m r e on) fits =
+  goes-fits : {ss : List State} {n : ℕ} {s : State} {x : Run} → RunGoes f (c .relays) ss n s x
+      → stateFine c s ≡ true → stateFine c (x .state) ≡ true
+  goes-fits (stops why) fits = rw (stops-still why .1) fits
+  goes-fits (moved {s = s} m r new e on) fits =
       goes-fits on (made-fits c s r m fits (look-makes-below f s (c .relays) m r e))
 
   pub run-fits : (n : ℕ) (s : State) → stateFine c s ≡ true → stateFine c (runOf f (c .relays) n s .state) ≡ true
-  run-fits n s fits = goes-fits (run-goes f (c .relays) n s) fits
+  run-fits n s fits = goes-fits (run-goes f (c .relays) [] n s) fits

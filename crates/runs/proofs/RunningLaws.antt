@@ -16,9 +16,9 @@ use Rattle.kept.specs.declared.Kept.{Kept}
 use Rattle.kept.specs.Kept.{keptAt, usableLines, usable}
 use Rattle.kept.proofs.KeptLaws.{usable-lines}
 use Rattle.runs.specs.declared.Ending as code-ending
-use Rattle.runs.specs.declared.Ending.the-variants.{Idle, Spent, Conflict, Refused}
+use Rattle.runs.specs.declared.Ending.the-variants.{Idle, Spent, Conflict, Buzz, Refused}
 use Rattle.runs.specs.declared.Ran.{Ran}
-use Rattle.runs.specs.Looks.{Ending, idle, spent, conflict}
+use Rattle.runs.specs.Runs.{Ending, idle, spent, conflict, buzz}
 use Rattle.runs.specs.Running as told
 use Rattle.runs.specs.Running.{longestLog, runnable, ran, unrun, ranOver, running, toldEnding, toldRan}
 
@@ -63,7 +63,15 @@ module _ (b : Board) (h : Kept) (log : List ℕ) where
   pub running-refused : (r : Ran) (n p : ℕ) → toldRan r [] ≡ unrun n p h [] → runnable b h log ≡ refused n p
       → toldRan r log ≡ running b h log
   running-refused r n p e refuses =
-      (λ i. record { word = e i .word; moves = e i .moves; kept = e i .kept; relay = e i .relay; log = log })
+      (λ i. record {
+        word = e i .word;
+        moves = e i .moves;
+        kept = e i .kept;
+        relay = e i .relay;
+        earlier = e i .earlier;
+        between = e i .between;
+        log = log;
+      })
       ∙ running-by (refused n p) refuses
 
   pub running-ran : (x : told.Ran) → x ≡ ranOver b h log → runnable b h log ≡ given tt → x ≡ running b h log
@@ -78,18 +86,21 @@ ending-told = record { untold = untold; back = back; onto = onto }
     untold (given idle) = Idle
     untold (given spent) = Spent
     untold (given conflict) = Conflict
+    untold (given buzz) = Buzz
     untold (refused n p) = Refused (record { number = n; place = p })
 
     back : (x : code-ending.Ending) → untold (toldEnding x) ≡ x
     back Idle = refl
     back Spent = refl
     back Conflict = refl
+    back Buzz = refl
     back (Refused r) = refl
 
     onto : (y : Outcome Ending) → toldEnding (untold y) ≡ y
     onto (given idle) = refl
     onto (given spent) = refl
     onto (given conflict) = refl
+    onto (given buzz) = refl
     onto (refused n p) = refl
 
 -- the answer and the log afterwards
@@ -103,6 +114,8 @@ ran-told = record { untold = untold; back = back; onto = onto }
         moves = a .moves;
         kept = a .kept;
         relay = a .relay;
+        earlier = a .earlier;
+        between = a .between;
       },
       a .log,
     )
@@ -114,6 +127,8 @@ ran-told = record { untold = untold; back = back; onto = onto }
         moves = a .moves;
         kept = a .kept;
         relay = a .relay;
+        earlier = a .earlier;
+        between = a .between;
       },
       l,
     )
@@ -125,5 +140,7 @@ ran-told = record { untold = untold; back = back; onto = onto }
           moves = y .moves;
           kept = y .kept;
           relay = y .relay;
+          earlier = y .earlier;
+          between = y .between;
           log = y .log;
         }

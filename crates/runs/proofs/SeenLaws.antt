@@ -26,7 +26,7 @@ use Rattle.moves.specs.declared.Move.the-variants.{Drew, Dropped, Rests, Confli
 use Rattle.moves.specs.Steps as step
 use Rattle.moves.specs.Steps.{moveBy, stepOf, toldMove}
 use Rattle.moves.proofs.StepLaws.{step-by, step-worked}
-use Rattle.runs.proofs.CourseLaws.{Moving}
+use Rattle.runs.proofs.BackLaws.{Moving}
 
 first-two : (n : ℕ) → (n ≡ 0) ⊎ (n ≡ 1) → n < 2
 first-two n (inl e) = omega arith
@@ -52,7 +52,7 @@ step-seen b h f all own worked found most q below =
 
 -- the arm of `match` for the relays that move
 pub told-moving : (m : code-move.Move) → (tagOf the-type m ≡ 0) ⊎ (tagOf the-type m ≡ 1) → Moving (toldMove m)
-told-moving Drew e = λ r next. refl
-told-moving Dropped e = λ r next. refl
+told-moving Drew e = tt
+told-moving Dropped e = tt
 told-moving Rests e = absurd (omega (arith, first-two 2 e))
 told-moving Conflict e = absurd (omega (arith, first-two 3 e))

@@ -1,7 +1,6 @@
 -- A look at the relays. Rule book: "A run looks at the relays from 0 up; the first that doesn't rest decides. None: the
 -- run is idle. .. conflict: it stops with that word. A move: .."; none is undecided (request A7).
 --     Stepper             what each relay comes to in each state. A run goes by this alone, whatever is below it
---     Ending              the words that a run ends with
 --     Look                what a look comes to: quiet, every relay rests; halts r, relay r is in conflict; makes m r,
 --                         relay r makes the move m
 --     drawMark            128
@@ -14,9 +13,6 @@ use Rattle.moves.specs.Steps as step
 
 abbrev pub Stepper : Type 0
 Stepper = State → ℕ → step.Move
-
-pub data Ending : Type 0 where
-  idle spent conflict : Ending
 
 pub data Look : Type 0 where
   quiet : Look

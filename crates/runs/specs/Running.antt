@@ -1,7 +1,8 @@
 -- A run, as a call over a lent log. Calls, since request A6: 15, 14, 18, 13, 11, 19, 7, 12, 16, those that apply; "A
 -- refused call returns the number, place 0 and the state it was given, if it takes one; a refused run also 0 moves and
 -- relay 255", and the kept sets; "Log and output buffer stay as lent"; "The answer has the word, the moves made, the
--- state, and the relay that stopped it (255 for idle). Log bytes beyond the moves made stay unwritten."
+-- state, and the relay that stopped it (255 for idle). Log bytes beyond the moves made stay unwritten." Since request
+-- A8 it has the moves made up to the earlier state and the moves between too, 0 and 0 unless it is buzz.
 --     longestLog             the longest log that a run takes (13)
 --     runLines b h log       the lines of a run of board b from h over the lent log: 15, 14, 18, 13
 --     runnable b h log       what stands against it by these
@@ -30,8 +31,7 @@ use Rattle.moves.specs.Steps.{stepOf}
 use Rattle.runs.specs.declared.Ending as code-ending
 use Rattle.runs.specs.declared.Ending.the-variants as said
 use Rattle.runs.specs.declared.Ran as code-ran
-use Rattle.runs.specs.Looks.{Ending, idle, spent, conflict}
-use Rattle.runs.specs.Runs.{Run, noRelay, runOf}
+use Rattle.runs.specs.Runs.{Ending, idle, spent, conflict, buzz, Run, noRelay, runOf}
 
 abbrev pub longestLog : ℕ
 longestLog = 65536
@@ -47,6 +47,8 @@ pub record Ran : Type 0 where
   pub moves : ℕ
   pub kept : Kept
   pub relay : ℕ
+  pub earlier : ℕ
+  pub between : ℕ
   pub log : List ℕ
 
 unfoldable pub ran : (State → Kept) → Run → List ℕ → Ran
@@ -56,11 +58,14 @@ ran keep x log =
       moves = length (x .bytes);
       kept = keep (x .state);
       relay = x .relay;
+      earlier = x .earlier;
+      between = x .between;
       log = x .bytes ++ drop (length (x .bytes)) log;
     }
 
 abbrev pub unrun : ℕ → ℕ → Kept → List ℕ → Ran
-unrun n p h log = record { word = refused n p; moves = 0; kept = h; relay = noRelay; log = log }
+unrun n p h log =
+    record { word = refused n p; moves = 0; kept = h; relay = noRelay; earlier = 0; between = 0; log = log }
 
 abbrev pub runOn : Board → ℕ → State → Run
 runOn b n s = runOf (stepOf b) (b .counts .relays) n s
@@ -75,11 +80,21 @@ abbrev pub toldEnding : code-ending.Ending → Outcome Ending
 toldEnding said.Idle = given idle
 toldEnding said.Spent = given spent
 toldEnding said.Conflict = given conflict
+toldEnding said.Buzz = given buzz
 toldEnding (said.Refused r) = refused (r .number) (r .place)
 
 -- the answer r, with the log l afterwards
 abbrev pub toldRan : code-ran.Ran → List ℕ → Ran
-toldRan r l = record { word = toldEnding (r .word); moves = r .moves; kept = r .kept; relay = r .relay; log = l }
+toldRan r l =
+    record {
+      word = toldEnding (r .word);
+      moves = r .moves;
+      kept = r .kept;
+      relay = r .relay;
+      earlier = r .earlier;
+      between = r .between;
+      log = l;
+    }
 
 abbrev pub Runs : Board → Kept → List ℕ → code-ran.Ran → List ℕ → Type 0
 Runs b h log a l = toldRan a l ≡ running b h log

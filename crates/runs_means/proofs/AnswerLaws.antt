@@ -39,6 +39,14 @@ module _ (keep : State → Kept) (a : Ran) (l : List ℕ) (x : Run) (log : List 
   unfolding ran
   answer-relay = λ i. told i .relay
 
+  pub answer-earlier : a .earlier ≡ x .earlier
+  unfolding ran
+  answer-earlier = λ i. told i .earlier
+
+  pub answer-between : a .between ≡ x .between
+  unfolding ran
+  answer-between = λ i. told i .between
+
   pub answer-log : l ≡ x .bytes ++ drop (length (x .bytes)) log
   unfolding ran
   answer-log = λ i. told i .log
@@ -58,5 +66,7 @@ answer-unique keep a c l k x log long told also =
       moves = (answer-moves keep a l x log told ∙ sym (answer-moves keep c k x long also)) i;
       kept = (answer-kept keep a l x log told ∙ sym (answer-kept keep c k x long also)) i;
       relay = (answer-relay keep a l x log told ∙ sym (answer-relay keep c k x long also)) i;
+      earlier = (answer-earlier keep a l x log told ∙ sym (answer-earlier keep c k x long also)) i;
+      between = (answer-between keep a l x log told ∙ sym (answer-between keep c k x long also)) i;
       log = [];
     }) .0

@@ -3,6 +3,11 @@ pub mod ExtendLaws
 pub mod AnswerLaws
 pub mod LongerRuns
 pub mod LookMeans
+pub mod FollowLaws
+pub mod CameLaws
+pub mod MeetingLaws
+pub mod LowestLaws
 pub mod RunMeans
+pub mod SpentLaws
 pub mod Courses
 pub mod KeptSets

@@ -2,7 +2,7 @@
 use Prim.Native.Nat.{ℕ}
 use mathlib.Core.Path.{_≡_, sym, ap, _∙_}
 use mathlib.Core.Logic.{inl, inr}
-use mathlib.Core.List.{List}
+use mathlib.Core.List.{List, []}
 use lib.ListN.{length}
 use Rattle.refusals.specs.Outcomes.{given}
 use Rattle.refusals.proofs.OutcomeLaws.{given-injective}
@@ -19,7 +19,8 @@ use Rattle.runs_means.proofs.AnswerLaws.{accepted-ran, answer-word, ans
 
 stands-final : (a : Ran) (x : Run) → toldEnding (a .word) ≡ given (x .word) → Stands a → Final (x .word)
 stands-final a x told (inl e) = rw (given-injective (x .word) _ (sym told ∙ ap toldEnding e)) tt
-stands-final a x told (inr e) = rw (given-injective (x .word) _ (sym told ∙ ap toldEnding e)) tt
+stands-final a x told (inr (inl e)) = rw (given-injective (x .word) _ (sym told ∙ ap toldEnding e)) tt
+stands-final a x told (inr (inr e)) = rw (given-injective (x .word) _ (sym told ∙ ap toldEnding e)) tt
 
 -- the answers tell what holds of the runs
 answer-extends : (keep : State → Kept) (a c : Ran) (l k : List ℕ) (x y : Run) (log long : List ℕ)
@@ -42,4 +43,4 @@ longer-run b h log long a c l k told also taken accepted room =
     answer-extends (keptAt b) a c l k _ _ log long
     (accepted-ran b h log a l told taken)
     (accepted-ran b h long c k also accepted)
-    (run-goes-on (stepOf b) (b .counts .relays) (length log) (length long) (h .state) room)
+    (run-goes-on (stepOf b) (b .counts .relays) [] (length log) (length long) (h .state) room)

@@ -1,10 +1,12 @@
 -- What a run says, in the words of the published model: its moves follow one another, and each word says what it should
 -- and nothing else can be said.
-use Prim.Native.Nat.{ℕ, suc, _<_}
+use Prim.Native.Nat.{ℕ, suc, _+_, _<_}
+use native.Mathlib.Omega.{arith}
 use mathlib.Core.Path.{_≡_, refl, sym, ap, subst, _∙_}
 use mathlib.Core.Logic.{_⊎_, inl, inr, ⊎-elim}
 use mathlib.Core.Bool.{true}
-use lib.ListN.{length}
+use mathlib.Core.List.{List, [], _∷_, _++_, append-nil, append-assoc}
+use lib.ListN.{length, length-append}
 use Rattle.board.specs.declared.Board.{Board}
 use Rattle.board.specs.Rules.{boardFine}
 use Rattle.state.specs.declared.State.{State}
@@ -12,10 +14,14 @@ use Rattle.moves.specs.Steps as step
 use Rattle.moves_means.specs.SingleMoves.{Comes}
 use Rattle.moves_means.proofs.ComesLaws.{comes-exclusive}
 use Rattle.moves_means.proofs.OneRelay.{made-else}
-use Rattle.runs.specs.Looks.{Ending, idle, spent, conflict, Look, quiet, halts, makes, byteOf, lookFrom}
-use Rattle.runs.specs.Runs.{Run, ends, logged, runOf}
-use Rattle.runs.proofs.RunLaws.{RunStops, rested, halted, filled, RunGoes, stops, moved, run-goes}
-use Rattle.runs_means.specs.Courses.{AllowedMove, LowestMove, Follows, Resting, StoppedBy, Ended}
+use Rattle.runs.specs.Looks.{Look, quiet, halts, makes, byteOf, lookFrom}
+use Rattle.runs.specs.Runs.{Ending, idle, spent, conflict, buzz, Run, metAgo, logged, runOf}
+use Rattle.runs.proofs.RunLaws.{RunStops, met, rested, halted, filled, RunGoes, stops, moved, run-goes, stops-still}
+use Rattle.runs_means.specs.Following.{Follows, SomeTwice}
+use Rattle.runs_means.specs.Courses.{AllowedMove, LowestMove, Resting, StoppedBy, Ended}
+use Rattle.runs_means.proofs.CameLaws.{Came, begun, on, came-follows, came-none, came-met}
+use Rattle.runs_means.proofs.MeetingLaws.{meeting-twice}
+use Rattle.runs_means.proofs.LowestLaws.{lowest-leads}
 use Rattle.runs_means.proofs.LookMeans.{LookMeans, look-means}
 
 module _ (b : Board) where
@@ -50,51 +56,78 @@ module _ (b : Board) where
 
   -- ---- the whole run
 
-  -- what the run x from state s says, with room for n moves
-  pub record Says (n : ℕ) (s : State) (x : Run) : Type 0 where
-    pub follows : Follows b s (x .bytes) (x .state)
-    pub ended : Ended b n (length (x .bytes)) (x .state) (x .relay) (x .word)
+  -- whether some state comes twice, by the word
+  abbrev pub TwiceBy : Ending → Type 0 → Type 0
+  TwiceBy idle some = ¬ some
+  TwiceBy spent some = ¬ some
+  TwiceBy conflict some = ¬ some
+  TwiceBy buzz some = some
 
-  says-ends : (n : ℕ) (s : State) (e : Ending) (r : ℕ) → Ended b n 0 s r e → Says n s (ends e s r)
-  unfolding Follows
-  says-ends n s e r h = record { follows = refl; ended = h }
+  -- what the run x says that began in state s with room for n moves and made the moves cs
+  pub record Says (s : State) (n : ℕ) (cs : List ℕ) (x : Run) : Type 0 where
+    pub follows : Follows (LowestMove b) s cs (x .state)
+    pub ended : Ended b s n cs (x .state) (x .relay) (x .earlier) (x .between) (x .word)
+    pub twice : TwiceBy (x .word) (SomeTwice (LowestMove b) s cs)
 
-  full-ended : (s : State) (m : step.Move) (r : ℕ) → LookMeans b s (makes m r) → Ended b 0 0 s r spent
-  full-ended s m r (inl (is, stopped)) = (refl, inl stopped)
-  full-ended s m r (inr (is, stopped)) = (refl, inr stopped)
+  logged-says : {s : State} {n c : ℕ} {cs : List ℕ} {x : Run} → Says s n cs x → Says s n cs (logged c x)
+  logged-says says = record { follows = says .follows; ended = says .ended; twice = says .twice }
 
-  -- one move more, and room for one more
-  ended-more : (n k : ℕ) (s : State) (r : ℕ) (e : Ending) → Ended b n k s r e → Ended b (suc n) (suc k) s r e
-  ended-more n k s r idle h = h
-  ended-more n k s r spent h = (ap suc (h .0), h .1)
-  ended-more n k s r conflict h = h
-
-  says-logged : (n : ℕ) (s : State) (c : ℕ) (t : State) (x : Run) → LowestMove b s c t → Says n t x
-      → Says (suc n) s (logged c x)
-  unfolding Follows
-  says-logged n s c t x move on =
-      record {
-        follows = (t, move, on .follows);
-        ended = ended-more n (length (x .bytes)) (x .state) (x .relay) (x .word) (on .ended);
-      }
-
-  module _ (fine : boardFine b ≡ true) where
+  module _ (fine : boardFine b ≡ true) (s₀ : State) where
     means : (s : State) (l : Look) → lookFrom (step.stepOf b) s (b .counts .relays) 0 ≡ l → LookMeans b s l
     means s l e = subst (LookMeans b s) e (look-means b s fine)
 
-    stops-ended : {n : ℕ} {s : State} {h : Ending} {r : ℕ} → RunStops (step.stepOf b) (b .counts .relays) n s h r
-        → Ended b n 0 s r h
-    stops-ended (rested {s = s} e) = (refl, means s quiet e)
-    stops-ended (halted {s = s} {r = r} e) = means s (halts r) e
-    stops-ended (filled {s = s} {r = r} m e) = full-ended s m r (means s (makes m r) e)
+    full-ended : {s : State} {m : step.Move} {r : ℕ} → LookMeans b s (makes m r)
+        → StoppedBy b s r step.drew ⊎ StoppedBy b s r step.dropped
+    full-ended (inl (is, stopped)) = inl stopped
+    full-ended (inr (is, stopped)) = inr stopped
 
-    goes-says : {n : ℕ} {s : State} {x : Run} → RunGoes (step.stepOf b) (b .counts .relays) n s x → Says n s x
-    goes-says (stops {n = n} {s = s} {e = h} {r = r} why) = says-ends n s h r (stops-ended why)
-    goes-says (moved {n = n} {s = s} {x = x} m r e on) =
-        says-logged n s (byteOf r m) (step.made s r m) x (look-lowest s m r (means s (makes m r) e)) (goes-says on)
+    none-twice : {cs : List ℕ} {s : State} {ss : List State} → Came (LowestMove b) s₀ cs s ss → metAgo s ss ≡ 0
+        → ¬ (SomeTwice (LowestMove b) s₀ cs)
+    none-twice = came-none (LowestMove b) (lowest-leads b fine) s₀
 
-    pub run-says : (n : ℕ) (s : State) → Says n s (runOf (step.stepOf b) (b .counts .relays) n s)
-    run-says n s = goes-says (run-goes (step.stepOf b) (b .counts .relays) n s)
+    stops-says : {ss : List State} {n : ℕ} {s : State} {x : Run} {cs : List ℕ}
+        → RunStops (step.stepOf b) (b .counts .relays) ss n s x → Came (LowestMove b) s₀ cs s ss
+        → Says s₀ (length cs + n) cs x
+    stops-says {cs = cs} (met {ss = ss} {s = s} d was) came =
+        let first = came-met (LowestMove b) (lowest-leads b fine) s₀ d came was in
+        record { follows = came-follows (LowestMove b) s₀ came; ended = (refl, first); twice = meeting-twice first }
+    stops-says (rested {s = s} new e) came =
+        record {
+          follows = came-follows (LowestMove b) s₀ came;
+          ended = ((refl, refl), refl, means s quiet e);
+          twice = none-twice came new;
+        }
+    stops-says (halted {s = s} {r = r} new e) came =
+        record {
+          follows = came-follows (LowestMove b) s₀ came;
+          ended = ((refl, refl), means s (halts r) e);
+          twice = none-twice came new;
+        }
+    stops-says (filled {s = s} {r = r} m new e) came =
+        record {
+          follows = came-follows (LowestMove b) s₀ came;
+          ended = ((refl, refl), omega arith, none-twice came new, full-ended (means s (makes m r) e));
+          twice = none-twice came new;
+        }
+
+    goes-says : {ss : List State} {n : ℕ} {s : State} {x : Run} {cs : List ℕ}
+        → RunGoes (step.stepOf b) (b .counts .relays) ss n s x → Came (LowestMove b) s₀ cs s ss
+        → Says s₀ (length cs + n) (cs ++ x .bytes) x
+    goes-says {n = n} {x = x} {cs = cs} (stops why) came =
+        subst (λ (l : List ℕ). Says s₀ (length cs + n) l x)
+        (sym (ap (λ (l : List ℕ). cs ++ l) (stops-still why .0) ∙ append-nil cs)) (stops-says why came)
+    goes-says {cs = cs} (moved {n = n} {s = s} {x = x} m r new e go) came =
+        let c = byteOf r m in
+        let more : length (cs ++ (c ∷ [])) + n ≡ length cs + suc n = omega (arith, length-append cs (c ∷ [])) in
+        let all : (cs ++ (c ∷ [])) ++ x .bytes ≡ cs ++ (c ∷ x .bytes) = append-assoc cs (c ∷ []) (x .bytes) in
+        let on-says = goes-says go (on came new (look-lowest s m r (means s (makes m r) e))) in
+        logged-says (rw (more, all) at on-says)
+
+    pub run-says : (n : ℕ) → Says s₀ n (runOf (step.stepOf b) (b .counts .relays) n s₀ .bytes)
+        (runOf (step.stepOf b) (b .counts .relays) n s₀)
+    run-says n =
+        let none : 0 + n ≡ n = omega arith in
+        rw none at (goes-says (run-goes (step.stepOf b) (b .counts .relays) [] n s₀) begun)
 
   -- ---- of one run only one word can be said
 
@@ -110,27 +143,39 @@ module _ (b : Board) where
     by : StoppedBy b s r move
     says : wordBy move ≡ e
 
-  ended-by : (n k : ℕ) (s : State) (r : ℕ) (e : Ending) → Ended b n k s r e
-      → ((idle ≡ e) × Resting b s (b .counts .relays)) ⊎ Stopped s r e
-  ended-by n k s r idle h = inl (refl, h .1)
-  ended-by n k s r spent h =
-      inr (⊎-elim (λ x. record { move = step.drew; by = x; says = refl })
-      (λ x. record { move = step.dropped; by = x; says = refl }) (h .1))
-  ended-by n k s r conflict h = inr (record { move = step.conflict; by = h; says = refl })
+  -- why a run ended in state t at relay r with the word e: it told the moves d between, all rest, or a relay stopped it
+  data Because (t : State) (r d : ℕ) (e : Ending) : Type 0 where
+    meeting : buzz ≡ e → 0 < d → Because t r d e
+    all-rest : idle ≡ e → d ≡ 0 → Resting b t (b .counts .relays) → Because t r d e
+    one-stops : d ≡ 0 → Stopped t r e → Because t r d e
+
+  ended-by : (s : State) (n : ℕ) (cs : List ℕ) (t : State) (r i d : ℕ) (e : Ending) → Ended b s n cs t r i d e
+      → Because t r d e
+  ended-by s n cs t r i d idle h = all-rest refl (h .0 .1) (h .2)
+  ended-by s n cs t r i d spent h =
+      one-stops (h .0 .1) (⊎-elim (λ x. record { move = step.drew; by = x; says = refl })
+      (λ x. record { move = step.dropped; by = x; says = refl }) (h .3))
+  ended-by s n cs t r i d conflict h = one-stops (h .0 .1) (record { move = step.conflict; by = h .1; says = refl })
+  ended-by s n cs t r i d buzz h = meeting refl (h .1 .apart)
 
   -- where all rest, what a relay came to is that it rests
   rests-stopped : (s : State) (r : ℕ) (e : Ending) → Resting b s (b .counts .relays) → Stopped s r e → idle ≡ e
   rests-stopped s r e rest x =
       ap wordBy (comes-exclusive b s r step.rests (x .move) (rest r (x .by .0)) (x .by .2)) ∙ x .says
 
-  causes-exclusive : (s : State) (r : ℕ) (d e : Ending) → ((idle ≡ d) × Resting b s (b .counts .relays))
-      ⊎ Stopped s r d → ((idle ≡ e) × Resting b s (b .counts .relays)) ⊎ Stopped s r e → d ≡ e
-  causes-exclusive s r d e (inl x) (inl y) = sym (x .0) ∙ y .0
-  causes-exclusive s r d e (inl x) (inr y) = sym (x .0) ∙ rests-stopped s r e (x .1) y
-  causes-exclusive s r d e (inr x) (inl y) = sym (rests-stopped s r d (y .1) x) ∙ y .0
-  causes-exclusive s r d e (inr x) (inr y) =
-      sym (x .says) ∙ ap wordBy (comes-exclusive b s r (x .move) (y .move) (x .by .2) (y .by .2))
-      ∙ y .says
+  causes-exclusive : (t : State) (r k : ℕ) (d e : Ending) → Because t r k d → Because t r k e → d ≡ e
+  causes-exclusive t r k d e (meeting x some) (meeting y also) = sym x ∙ y
+  causes-exclusive t r k d e (meeting x some) (all-rest y none rest) = absurd (omega (arith, some, none))
+  causes-exclusive t r k d e (meeting x some) (one-stops none y) = absurd (omega (arith, some, none))
+  causes-exclusive t r k d e (all-rest x none rest) (meeting y some) = absurd (omega (arith, some, none))
+  causes-exclusive t r k d e (one-stops none x) (meeting y some) = absurd (omega (arith, some, none))
+  causes-exclusive t r k d e (all-rest x none rest) (all-rest y also again) = sym x ∙ y
+  causes-exclusive t r k d e (all-rest x none rest) (one-stops also y) = sym x ∙ rests-stopped t r e rest y
+  causes-exclusive t r k d e (one-stops none x) (all-rest y also rest) = sym (rests-stopped t r d rest x) ∙ y
+  causes-exclusive t r k d e (one-stops none x) (one-stops also y) =
+      sym (x .says) ∙ ap wordBy (comes-exclusive b t r (x .move) (y .move) (x .by .2) (y .by .2)) ∙ y .says
 
-  pub ended-exclusive : (n k : ℕ) (s : State) (r : ℕ) (d e : Ending) → Ended b n k s r d → Ended b n k s r e → d ≡ e
-  ended-exclusive n k s r d e x y = causes-exclusive s r d e (ended-by n k s r d x) (ended-by n k s r e y)
+  pub ended-exclusive : (s : State) (n : ℕ) (cs : List ℕ) (t : State) (r i k : ℕ) (d e : Ending)
+      → Ended b s n cs t r i k d → Ended b s n cs t r i k e → d ≡ e
+  ended-exclusive s n cs t r i k d e x y =
+      causes-exclusive t r k d e (ended-by s n cs t r i k d x) (ended-by s n cs t r i k e y)

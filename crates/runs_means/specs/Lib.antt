@@ -1,4 +1,5 @@
 -- The statements, in reading order.
 pub mod LongerRuns
+pub mod Following
 pub mod Courses
 pub mod KeptSets

@@ -10,3 +10,4 @@ pub mod EventRefusals
 pub mod LinesDrawn
 pub mod SessionsKept
 pub mod AnyAllowance
+pub mod UnspentSessions

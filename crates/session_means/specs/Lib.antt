@@ -5,3 +5,4 @@ pub mod EventRefusals
 pub mod LinesDrawn
 pub mod SessionsKept
 pub mod AnyAllowance
+pub mod UnspentSessions
