@@ -17,7 +17,7 @@ use Rattle.moves_means.proofs.SingleMoves.{move-exactly}
 use Rattle.moves_means.proofs.ByChains.{every-relay-moves}
 use Rattle.moves_means.proofs.OneRelay.{changes-one-relay}
 use Rattle.moves_means.proofs.AsTold.{taken-as-told, regular-as-told, steel-as-told}
-use Rattle.runs_means.proofs.Courses.{run-exactly, meeting-is-unique, meeting-found, never-spent}
+use Rattle.runs_means.proofs.Courses.{run-exactly, meeting-is-unique, buzz-exactly, meeting-found, never-spent}
 use Rattle.runs_means.proofs.KeptSets.{only-at-ends, belong-always}
 use Rattle.kept.proofs.OnlyEnds.{only-ends}
 use Rattle.session_means.proofs.HandedLines.{lines-handed-out, all-handed-out}
@@ -51,6 +51,7 @@ as-the-model-says = record {
   changes = changes-one-relay;
   runs = run-exactly;
   meetings = meeting-is-unique;
+  buzzes = buzz-exactly;
   found = meeting-found;
   never-spent = never-spent;
   unspent = sessions-unspent;

@@ -28,14 +28,14 @@
 --         `mark-turned-away`: its reader takes a file of today's without marks, and turns one with a mark away by 4
 --         (request A2); `lines-stand`: what became of any session's lines by either request
 --     "A run moves the lowest relay that can move until it is idle or must stop."
---         `runs`; `meetings`: from one state there is one first meeting, `found`: where the log has room for the moves
---         to it the run tells it, and `never-spent`: with room for 2 to the R moves it is never spent, `unspent`: nor
---         in a session with up to 12 relays (request A8); `fresh`: in the fresh state of a board exactly the relays are
---         drawn that it marks (request A2); and what a session prints of its runs, from that state on: `lines`,
---         `all-lines`, in buffers `filled`, `all-filled`; `events`, `closed`, `drawn`. All these go by sets that are
---         kept beside the state (request A5): `belong`, after any calls they are those worked out from board and state;
---         `only-at-ends`, `only-ends`: a move or a button changes only the sets at the ends of that relay's contacts or
---         that button's parts
+--         `runs`; `meetings`: from one state there is one first meeting, `buzzes`: a run is buzz exactly if some state
+--         comes twice within the log, `found`: and it tells the first meeting, and `never-spent`: with room for 2 to
+--         the R moves it is never spent, `unspent`: nor in a session with up to 12 relays (request A8); `fresh`: in the
+--         fresh state of a board exactly the relays are drawn that it marks (request A2); and what a session prints of
+--         its runs, from that state on: `lines`, `all-lines`, in buffers `filled`, `all-filled`; `events`, `closed`,
+--         `drawn`. All these go by sets that are kept beside the state (request A5): `belong`, after any calls they are
+--         those worked out from board and state; `only-at-ends`, `only-ends`: a move or a button changes only the sets
+--         at the ends of that relay's contacts or that button's parts
 -- Each field is put into words in the file that defines it. `paths`, `carrying`, `winding`, `sorts`, `wound`,
 -- `undivided`, `served`, `serves` and `links` are of boards and states, `events`, `closed` and `drawn` of the session's
 -- lines; those of requests A1 and A2 from `files-kept` to `lines-stand` are of the definitions at two editions; the
@@ -61,7 +61,7 @@ use Rattle.moves_means.specs.SingleMoves.{MoveExactly}
 use Rattle.moves_means.specs.ByChains.{EveryRelayMoves}
 use Rattle.moves_means.specs.OneRelay.{ChangesOneRelay}
 use Rattle.moves_means.specs.AsTold.{TakenAsTold, RegularAsTold, SteelAsTold}
-use Rattle.runs_means.specs.Courses.{RunExactly, MeetingUnique, MeetingFound, NeverSpent}
+use Rattle.runs_means.specs.Courses.{RunExactly, MeetingUnique, BuzzExactly, MeetingFound, NeverSpent}
 use Rattle.runs_means.specs.KeptSets.{OnlyAtEnds, BelongAlways}
 use Rattle.session_means.specs.HandedLines.{LinesHandedOut, AllHandedOut}
 use Rattle.session_means.specs.FilledBuffers.{BuffersFilled, AllFilled}
@@ -103,10 +103,11 @@ pub record AsTheModelSays : Type 0 where
   -- a move changes that relay and nothing else
   pub changes : ChangesOneRelay
   -- a run makes the lowest relay's move, again and again, until it is idle or must stop; from one state there is one
-  -- first meeting, and a run with room for the moves to it tells it; with room for 2 to the R moves a run is never
-  -- spent, nor is one of a session with up to 12 relays
+  -- first meeting; a run is buzz exactly if some state comes twice within the log, and tells that meeting; with room
+  -- for 2 to the R moves a run is never spent, nor is one of a session with up to 12 relays
   pub runs : RunExactly
   pub meetings : MeetingUnique
+  pub buzzes : BuzzExactly
   pub found : MeetingFound
   pub never-spent : NeverSpent
   pub unspent : SessionsUnspent

@@ -5,8 +5,8 @@ use mathlib.Core.Path.{_≡_, sym, ap, subst, _∙_}
 use mathlib.Core.Logic.{_↔_}
 use mathlib.Core.Bool.{true}
 use mathlib.Core.List.{List, []}
-use lib.ListN.{length, drop}
-use lib.Seq.{drop-append-seam}
+use lib.ListN.{length, take, drop}
+use lib.Seq.{drop-append-seam, length-take-le}
 use Rattle.refusals.specs.Outcomes.{Outcome, given}
 use Rattle.refusals.proofs.OutcomeLaws.{given-injective}
 use Rattle.bits.proofs.BoolLaws.{by-less}
@@ -25,13 +25,13 @@ use Rattle.runs.proofs.RunLaws.{run-goes, goes-room}
 use Rattle.runs.proofs.RunningLaws.{runnable-given}
 use Rattle.runs_means.proofs.AnswerLaws.{accepted-ran, answer-word, answer-moves, answer-kept, answer-relay}
 use Rattle.runs_means.proofs.AnswerLaws.{answer-earlier, answer-between, answer-bytes, answer-log}
-use Rattle.runs_means.specs.Following.{SomeTwice, FirstMeeting}
-use Rattle.runs_means.specs.Courses.{LowestMove, Ended, RunMeans, RunExactly, MeetingUnique, MeetingFound}
-use Rattle.runs_means.specs.Courses.{NeverSpent}
+use Rattle.runs_means.specs.Following.{Follows, SomeTwice}
+use Rattle.runs_means.specs.Courses.{LowestMove, Ended, RunMeans, RunExactly, MeetingUnique, BuzzExactly}
+use Rattle.runs_means.specs.Courses.{MeetingFound, NeverSpent}
 use Rattle.runs_means.specs.LongerRuns.{movesOf}
 use Rattle.runs_means.proofs.RunMeans.{TwiceBy, Says, run-says, ended-exclusive}
 use Rattle.runs_means.proofs.FollowLaws.{follows-first, follows-onward}
-use Rattle.runs_means.proofs.MeetingLaws.{meeting-twice, twice-longer, meeting-unique}
+use Rattle.runs_means.proofs.MeetingLaws.{meeting-twice, twice-longer, twice-first, meeting-unique}
 use Rattle.runs_means.proofs.LowestLaws.{lowest-leads, lowest-logs, resting-none-moves, conflict-none-moves}
 use Rattle.runs_means.proofs.SpentLaws.{running-unspent}
 
@@ -117,10 +117,10 @@ pub meeting-is-unique : MeetingUnique
 meeting-is-unique b s cs ds t u i d j e fine x y =
     meeting-unique (LowestMove b) (lowest-leads b fine) (lowest-logs b) s cs ds t u i d j e x y
 
--- where a first meeting lies within the log, the run is buzz
+-- where some state comes twice within the log, the run is buzz: cs are the moves up to where it comes again
 module _ (b : Board) (s : State) (log : List ℕ) (a : Ran) (l : List ℕ) (means : RunMeans b s log a l)
-    (fine : boardFine b ≡ true) (cs : List ℕ) (t : State) (i d : ℕ) (first : FirstMeeting (LowestMove b) s cs t i d)
-    (fits : length cs ≤ length log) where
+    (fine : boardFine b ≡ true) (cs : List ℕ) (t : State) (again : Follows (LowestMove b) s cs t)
+    (twice : SomeTwice (LowestMove b) s cs) (fits : length cs ≤ length log) where
   -- a run that made fewer moves could make one more, and had room for it
   onward : (e : Ending) → toldEnding (a .word) ≡ given e → (c : ℕ) × (v : State) × LowestMove b (a .kept .state) c v
       → length (movesOf a l) < length cs → toldEnding (a .word) ≡ given buzz
@@ -134,7 +134,7 @@ module _ (b : Board) (s : State) (log : List ℕ) (a : Ran) (l : List ℕ) (mean
   fewer-found e is fewer =
       onward e is
       (follows-onward (LowestMove b) (lowest-leads b fine) (lowest-logs b) s (movesOf a l) cs (a .kept .state) t
-      (means .moved) (first .again) fewer)
+      (means .moved) again fewer)
       fewer
 
   -- and one that made as many came to that state twice
@@ -143,21 +143,31 @@ module _ (b : Board) (s : State) (log : List ℕ) (a : Ran) (l : List ℕ) (mean
       means .twice .1
       (twice-longer (LowestMove b) s cs (movesOf a l)
       (follows-first (LowestMove b) (lowest-leads b fine) (lowest-logs b) s cs (movesOf a l) t (a .kept .state)
-      (first .again) (means .moved) least)
-      least (meeting-twice first))
+      again (means .moved) least)
+      least twice)
 
   found : (e : Ending) → toldEnding (a .word) ≡ given e → toldEnding (a .word) ≡ given buzz
   found e is = by-less (length (movesOf a l)) (length cs) (fewer-found e is) more-found
 
--- a run that made fewer moves would have gone on; so it made as many, and some state came twice
+pub buzz-exactly : BuzzExactly
+buzz-exactly b h log a l told taken = (
+  λ is. (movesOf a l, means .twice .0 is, omega (arith, means .counted, means .room)),
+  λ (cs, x, fits).
+      found b (h .state) log a l means (usable-given b h (runnable-given b h log taken) .0) (take (x .more) cs)
+      (x .state) (x .again) (twice-first (LowestMove b) (h .state) cs x)
+      (omega (arith, length-take-le (x .more) cs (x .within), x .within, fits)) _
+      (answer-word (keptAt b) a l _ log (accepted-ran b h log a l told taken)),
+)
+  where
+    means : RunMeans b (h .state) log a l
+    means = run-exactly b h log a l told taken
+
 pub meeting-found : MeetingFound
 meeting-found b h log a l cs t i d told taken first fits =
-    let means = run-exactly b h log a l told taken in
     let fine = usable-given b h (runnable-given b h log taken) .0 in
-    let is = found b (h .state) log a l means fine cs t i d first fits _
-    (answer-word (keptAt b) a l _ log (accepted-ran b h log a l told taken)) in
+    let is = buzz-exactly b h log a l told taken .1 (cs, meeting-twice first, fits) in
     let same = meeting-unique (LowestMove b) (lowest-leads b fine) (lowest-logs b) (h .state) (movesOf a l) cs
-    (a .kept .state) t (a .earlier) (a .between) i d (means .ended buzz .0 is .1) first in
+    (a .kept .state) t (a .earlier) (a .between) i d (run-exactly b h log a l told taken .ended buzz .0 is .1) first in
     (is, same .0, same .1, same .2, same .3)
 
 pub never-spent : NeverSpent

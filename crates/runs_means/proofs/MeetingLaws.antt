@@ -41,6 +41,19 @@ twice-longer M s cs ds front least x =
     first : (n : ℕ) → n ≤ length cs → take n cs ≡ take n ds
     first n few = ap (take n) front ∙ take-take n (length cs) ds few
 
+-- and within the moves up to where it comes again
+pub twice-first : (M : Movement) (s : State) (cs : List ℕ) (x : SomeTwice M s cs) → SomeTwice M s (take (x .more) cs)
+twice-first M s cs x =
+    record {
+      some = x .some;
+      more = x .more;
+      less = x .less;
+      within = omega (arith, length-take-le (x .more) cs (x .within));
+      state = x .state;
+      comes = rw (take-take (x .some) (x .more) cs (omega (arith, x .less))) (x .comes);
+      again = rw (take-take (x .more) (x .more) cs (omega arith)) (x .again);
+    }
+
 module _ (M : Movement) (leads : OneEnd M) where
   -- the state at the end did not come after i moves and again after j, more than i: before the end no state came twice
   not-before : (s : State) (cs : List ℕ) (i j : ℕ) (u v : State) → Follows M s (take i cs) u → Follows M s cs u

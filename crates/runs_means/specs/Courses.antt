@@ -22,6 +22,8 @@
 --                             (request A5)
 --     MeetingUnique           from one state there is one first meeting: the moves to it, the state and both numbers
 --                             are no others
+--     BuzzExactly             a run that is not refused is buzz exactly if some state comes twice within the log, that
+--                             is, within moves that it has room for
 --     MeetingFound            where a first meeting lies within the log, the run is buzz, and that meeting is what it
 --                             tells
 --     NeverSpent              a run whose log has room for 2 to the R moves never ends spent
@@ -105,6 +107,14 @@ MeetingUnique =
     → FirstMeeting (LowestMove b) s cs t i d
     → FirstMeeting (LowestMove b) s ds u j e
     → (cs ≡ ds) × (t ≡ u) × (i ≡ j) × (d ≡ e)
+
+abbrev pub BuzzExactly : Type 0
+BuzzExactly =
+    (b : Board) (h : Kept) (log : List ℕ) (a : Ran) (l : List ℕ)
+    → Runs b h log a l
+    → AcceptedRun b h log
+    → toldEnding (a .word) ≡ given buzz
+    ↔ ((cs : List ℕ) × SomeTwice (LowestMove b) (h .state) cs × (length cs ≤ length log))
 
 abbrev pub MeetingFound : Type 0
 MeetingFound =
