@@ -1,6 +1,6 @@
 """The front page quotes the user: the head of each demand's statement (crates/demands/specs/) has the demand word for word, as
-docs/RULES.md has it, sentence by sentence; under each sentence it names the fields that state it, and it names every field. And
-what any definition's file quotes of a demand ("Demand 3: ..") stands there word for word."""
+docs/RULES.md has it, sentence by sentence; under each sentence it names the fields that state it, and it names every field. So
+has the statement of request A9. And what any definition's file quotes of a demand ("Demand 3: ..") stands there word for word."""
 import os
 import re
 import sys
@@ -9,12 +9,19 @@ sys.path.insert(0, os.path.join(os.path.dirname(os.path.abspath(__file__)), "lib
 import repository
 
 STATEMENTS = ["EveryCallComesBack", "AsTheModelSays", "LargerNeverChanges"]
+ORDER = "InAnyOrder"  # the statement of request A9
 
 
 def asked(rules):
     """The three demands as the rules quote them."""
     section = rules.partition("## The three demands\n")[2].partition("\n## ")[0]
     return [" ".join(said.split()) for said in re.findall(r'^\d\. "([^"]*)"$', section, re.M)]
+
+
+def asked_of_order(rules):
+    """Request A9 as the rules quote it."""
+    section = rules.partition("## The order of moves\n")[2].partition("\n## ")[0]
+    return " ".join(" ".join(re.findall(r"^> (.*)$", section, re.M)).split()).strip('"')
 
 
 def sentences(page):
@@ -57,14 +64,16 @@ def quoted_of(page):
 
 
 checks = []
-demands = asked(repository.text("docs", "RULES.md"))
+RULES = repository.text("docs", "RULES.md")
+demands = asked(RULES)
 checks.append(("docs/RULES.md quotes three demands", len(demands) == 3))
-for number, (demand, name) in enumerate(zip(demands, STATEMENTS), 1):
+words = [*((f"demand {number}", demand) for number, demand in enumerate(demands, 1)), ("request A9", asked_of_order(RULES))]
+for (what, demand), name in zip(words, [*STATEMENTS, ORDER]):
     page = repository.text("crates", "demands", "specs", f"{name}.antt")
     quoted = sentences(page)
     named = {field for _, names in quoted for field in names}
     there = fields(page, name)
-    checks.append((f"{name} quotes demand {number} word for word", " ".join(said for said, _ in quoted) == demand))
+    checks.append((f"{name} quotes {what} word for word", " ".join(said for said, _ in quoted) == demand))
     for said, names in quoted:
         checks.append((f'{name} has a field for "{said}"', bool(names)))
     for field in sorted(named):

@@ -1,7 +1,8 @@
-"""Fine boards for the comparison of whole sessions in tests/sessions.py, each as its counts T, R, B and its parts: relays that
-feed each other, relays that are shunted, relays that buzz, at once or after others have drawn, relays that count, steel relays in
-conflict, every kind of part, many parallel parts, the most of everything, and boards with many chains; most of them with marks in
-half of the cases. Built with the generators of tests/running.py and tests/judging.py."""
+"""Fine boards for the comparison of whole sessions in tests/sessions.py, some of them also for that of the orders of moves in
+tests/orders.py, each as its counts T, R, B and its parts: relays that feed each other, relays that are shunted, relays that buzz,
+at once or after others have drawn, relays that count, steel relays in conflict, every kind of part, many parallel parts, the most
+of everything, and boards with many chains; most of them with marks in half of the cases. Built with the generators of
+tests/running.py and tests/judging.py."""
 import judging
 import running
 from judge_model import BUTTON, DRAWING, DROPPING, LOWER, MARK, MINUS, PLUS, REGULAR, UPPER

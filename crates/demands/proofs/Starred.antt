@@ -78,4 +78,6 @@ starred-boards =
     & (λ a told. told) & (λ a told. told) & (λ a told. told) & (λ a told. told) & (λ a told. told)
     & (λ a told. told) & (λ a told. told) & (λ a told. told)
     & (λ w most. any-text h5File (1 ∷ 3 ∷ []) h5 w refl most (omega arith) (tt & tt & tt & tt))
-    & (λ a k told. told) & (λ a k told. told) & (λ a k told. told) & (λ a k told. told) & (λ a k told. told) & refl & tt
+    & (λ a k told. told) & (λ a k told. told) & (λ a k told. told) & (λ a k told. told) & (λ a k told. told) & refl
+    & (λ a told. told) & (λ a told. told) & (λ a told. told) & (λ a told. told) & (λ a told. told) & (λ a told. told)
+    & (λ a told. told) & (λ a told. told) & (λ a k told. told) & tt

@@ -3,4 +3,5 @@ pub mod EveryCallComesBack
 pub mod AsTheModelSays
 pub mod LargerNeverChanges
 pub mod Starred
+pub mod InAnyOrder
 pub mod OneAnswer

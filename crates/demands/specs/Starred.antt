@@ -10,7 +10,7 @@
 --     onPoles                       a winding right on the poles
 --     takenOver                     a hut that was taken over in service: both relays were up, and one holds itself
 --     pushed0, pushedBoth           the states with button 0 pushed, and with buttons 0 and 1
---     drawn0 s                      the state s with relay 0 drawn
+--     drawn0 s, drawn1 s            the state s with relay 0 drawn, with relay 1 drawn
 --     liveWith e c, deadWith e      live with effort e and the chain c shown; dead with effort e
 --     lent n                        a lent log of n bytes, each 7
 --     h0File, h2Session             H0 as a file, H2 as a session, byte by byte as the rule book prints them
@@ -29,7 +29,7 @@
 --       tells b h k j               `divide::judge` of that winding
 --       checked b h k x o           `divide::check` of terminal x against that winding: whether it divides, or the
 --                                   refusal
---       moved b h t o               `move_relay` of relay 0: what it came to, o, and what it leaves, t
+--       moved b h r t o             `move_relay` of relay r: what it came to, o, and what it leaves, t
 --       ran b h log x               `run` over the lent log: all that it tells
 --       pressed p b h n t o         `push` of button n, `release` if not p: what it came to, o, and what it leaves, t
 --       prints s x                  a session and all that it prints
@@ -37,7 +37,7 @@
 --     judges b s k w j              `judged` in state s, with its sets
 --     says b s k j                  `tells` in state s, with its sets: the judgement j
 --     dividing b s k x t            `checked` likewise: terminal x divides the winding if t
---     moves b s t m                 `moved` from state s with its sets: the word m, and the state t with its sets
+--     moves b s r t m               `moved` from state s with its sets: the word m, and the state t with its sets
 --     runs b s log e m t r l        `ran` likewise: the word e, m moves, the state t with its sets, the relay r, and
 --                                   the log l afterwards; it met no state
 --     buzzed b s log i d t l        `ran` likewise: buzz, i moves up to the earlier state and d between, the state t
@@ -61,7 +61,10 @@
 --     pulsing, pulsingFile          a pulse generator, and as a file: relay 0 draws, then relay 1 buzzes
 --     met                           rows on the meetings of request A8: a log that is just long enough, one too short,
 --                                   a lead-in, and a session's line
---     Starred                       every row of the eight holds
+--     crossed                       two relays, each fed through the other's lower contact
+--     ordered                       rows on request A9: two relays that can move at once, on `pair`, where the order of
+--                                   moves does not matter, and on `crossed`, where it does
+--     Starred                       every row of the nine holds
 use Prim.Native.Nat.{ℕ, _+_, _-_, _≤_}
 use mathlib.Core.Path.{_≡_}
 use mathlib.Core.List.{List, [], _∷_, _++_}
@@ -239,6 +242,9 @@ pushedBoth = withPushed pushed0 1
 abbrev pub drawn0 : State → State
 drawn0 s = withDrawn s 0
 
+abbrev pub drawn1 : State → State
+drawn1 s = withDrawn s 1
+
 abbrev pub liveWith : ℕ → List ℕ → Verdict
 liveWith e c = settled e (some c)
 
@@ -266,7 +272,7 @@ pub data Row : Type 0 where
   judged : Board → Kept → Which → ℕ → Verdict → Row
   tells : Board → Kept → Which → Outcome Judgement → Row
   checked : Board → Kept → Which → ℕ → Outcome Bool → Row
-  moved : Board → Kept → Kept → Outcome step.Move → Row
+  moved : Board → Kept → ℕ → Kept → Outcome step.Move → Row
   ran : Board → Kept → List ℕ → told.Ran → Row
   pressed : Bool → Board → Kept → ℕ → Kept → Outcome (Unit {0}) → Row
   prints : List ℕ → List ℕ → Row
@@ -281,8 +287,8 @@ says b s k j = tells b (keptAt b s) k (given j)
 abbrev pub dividing : Board → State → Which → ℕ → Bool → Row
 dividing b s k x t = checked b (keptAt b s) k x (given t)
 
-abbrev pub moves : Board → State → State → step.Move → Row
-moves b s t m = moved b (keptAt b s) (keptAt b t) (given m)
+abbrev pub moves : Board → State → ℕ → State → step.Move → Row
+moves b s r t m = moved b (keptAt b s) r (keptAt b t) (given m)
 
 abbrev pub runs : Board → State → List ℕ → Ending → ℕ → State → ℕ → List ℕ → Row
 runs b s log e m t r l =
@@ -299,7 +305,7 @@ RowHolds (reads s b o) = (x : BoardRead) → Reads s x → toldBoardRead x ≡ (
 RowHolds (judged b h k w j) = (v : code-verdict.Verdict) → Judges b h 0 k w v → toldVerdict v ≡ j
 RowHolds (tells b h k j) = (a : code-judgement.Judgement) → JudgesAtOnce b h 0 k a → toldJudgement a ≡ j
 RowHolds (checked b h k x o) = (a : Checked) → ChecksTerminal b h 0 k x a → toldChecked a ≡ o
-RowHolds (moved b h t o) = (a : Moved) → Moves b h 0 a → toldMoved a ≡ (t, o)
+RowHolds (moved b h r t o) = (a : Moved) → Moves b h r a → toldMoved a ≡ (t, o)
 RowHolds (ran b h log x) = (a : Ran) (k : List ℕ) → Runs b h log a k → toldRan a k ≡ x
 RowHolds (pressed true b h n t o) = (x : Pressed) → Pushes b h n x → toldPressed x ≡ (t, o)
 RowHolds (pressed false b h n t o) = (x : Pressed) → Releases b h n x → toldPressed x ≡ (t, o)
@@ -322,9 +328,9 @@ starred =
     ∷ judges h4wired emptyState First 100 (deadWith 0)
     ∷ judges h5 pushedBoth First 100 (liveWith 3 (0 ∷ 2 ∷ 1 ∷ []))
     ∷ judges h5 pushedBoth Second 100 (liveWith 5 (0 ∷ 3 ∷ 1 ∷ []))
-    ∷ moves h5 pushedBoth pushedBoth step.conflict
-    ∷ moves h5 pushed0 (drawn0 pushed0) step.drew
-    ∷ moves h5 (drawn0 emptyState) (drawn0 emptyState) step.rests
+    ∷ moves h5 pushedBoth 0 pushedBoth step.conflict
+    ∷ moves h5 pushed0 0 (drawn0 pushed0) step.drew
+    ∷ moves h5 (drawn0 emptyState) 0 (drawn0 emptyState) step.rests
     ∷ judges h6 emptyState First 100 (deadWith 0)
     ∷ reads (128 ∷ 0 ∷ []) emptyBoard (refused badForm 0)
     ∷ []
@@ -342,7 +348,7 @@ besides =
     ∷ runs h5 pushed0 (lent 2) idle 1 (drawn0 pushed0) noRelay (128 ∷ 7 ∷ [])
     ∷ runs h5 pushed0 (lent 1) idle 1 (drawn0 pushed0) noRelay (128 ∷ [])
     ∷ runs h5 (withReleased (drawn0 pushed0) 0) (lent 2) idle 0 (drawn0 emptyState) noRelay (lent 2)
-    ∷ runs pair emptyState (lent 3) idle 2 (withDrawn (drawn0 emptyState) 1) noRelay (128 ∷ 129 ∷ 7 ∷ [])
+    ∷ runs pair emptyState (lent 3) idle 2 (drawn1 (drawn0 emptyState)) noRelay (128 ∷ 129 ∷ 7 ∷ [])
     ∷ reads (128 ∷ 128 ∷ []) emptyBoard (refused inputEnds 2)
     ∷ reads (128 ∷ 128 ∷ 128 ∷ []) emptyBoard (refused inputEnds 3)
     ∷ reads (128 ∷ 128 ∷ 128 ∷ 128 ∷ []) emptyBoard (refused inputEnds 4)
@@ -382,15 +388,15 @@ shunts =
     judges h4 emptyState First 0 (deadWith 0)
     ∷ judges h4wired emptyState First 0 (deadWith 0)
     ∷ judges h6 emptyState First 0 (deadWith 0)
-    ∷ moves h6 (drawn0 emptyState) emptyState step.dropped
+    ∷ moves h6 (drawn0 emptyState) 0 emptyState step.dropped
     ∷ judges h4wound emptyState First 100 (deadWith 6)
     ∷ judges h4wound emptyState First 5 (unsettled 5)
     ∷ judges h4woundWired emptyState First 100 (deadWith 7)
     ∷ judges byButton emptyState First 100 (liveWith 3 (0 ∷ 2 ∷ 1 ∷ []))
-    ∷ runs byButton (withDrawn (drawn0 pushed0) 1) (lent 2) idle 1 (withDrawn pushed0 1) noRelay (0 ∷ 7 ∷ [])
+    ∷ runs byButton (drawn1 (drawn0 pushed0)) (lent 2) idle 1 (drawn1 pushed0) noRelay (0 ∷ 7 ∷ [])
     ∷ judges overPlus emptyState First 100 (liveWith 4 (0 ∷ 2 ∷ 3 ∷ 1 ∷ []))
     ∷ judges bridged pushedBoth First 100 (deadWith 0)
-    ∷ moves bridged (drawn0 pushedBoth) pushedBoth step.dropped
+    ∷ moves bridged (drawn0 pushedBoth) 0 pushedBoth step.dropped
     ∷ []
 
 abbrev pub kept : List Row
@@ -400,9 +406,9 @@ kept =
     (given tt)
     ∷ pressed false doubled (keptAt doubled (drawn0 pushed0)) 0
     (withSets (drawn0 emptyState) (4 ∷ 4 ∷ 3 ∷ []) (4 ∷ 0 ∷ 1 ∷ [])) (given tt)
-    ∷ moved h3 (withSets emptyState (4 ∷ 4 ∷ 3 ∷ []) (4 ∷ 0 ∷ 1 ∷ []))
+    ∷ moved h3 (withSets emptyState (4 ∷ 4 ∷ 3 ∷ []) (4 ∷ 0 ∷ 1 ∷ [])) 0
     (withSets (drawn0 emptyState) (0 ∷ 4 ∷ 2 ∷ []) []) (given step.drew)
-    ∷ moved h3 (withSets (drawn0 emptyState) (0 ∷ 4 ∷ 2 ∷ []) [])
+    ∷ moved h3 (withSets (drawn0 emptyState) (0 ∷ 4 ∷ 2 ∷ []) []) 0
     (withSets emptyState (4 ∷ 4 ∷ 3 ∷ []) (4 ∷ 0 ∷ 1 ∷ [])) (given step.dropped)
     ∷ pressed true h1 (keptAt h1 pushed0) 0 (keptAt h1 pushed0) (refused alreadySo 0)
     ∷ pressed true h1 (astray h1 pushed0 emptyState) 0 (astray h1 pushed0 emptyState) (refused foreignSets 0)
@@ -410,7 +416,7 @@ kept =
     ∷ judged h1 (astray h1 pushed0 emptyState) Second 100 (unanswered foreignSets 0)
     ∷ judged h1 (withSets pushed0 (4 ∷ 4 ∷ 3 ∷ []) (0 ∷ 0 ∷ 1 ∷ [])) First 100 (unanswered foreignSets 0)
     ∷ judged h1 (astray h1 pushedBoth emptyState) First 100 (unanswered stateBeyondBoard 0)
-    ∷ moved h1 (astray h1 pushed0 emptyState) (astray h1 pushed0 emptyState) (refused foreignSets 0)
+    ∷ moved h1 (astray h1 pushed0 emptyState) 0 (astray h1 pushed0 emptyState) (refused foreignSets 0)
     ∷ ran h1 (astray h1 pushed0 emptyState) (lent 2) (unrun foreignSets 0 (astray h1 pushed0 emptyState) (lent 2))
     ∷ judged h0 (astray h0 emptyState pushed0) First 100 (unanswered noSuchWinding 0)
     ∷ []
@@ -466,9 +472,28 @@ met =
     ∷ runs h3 emptyState (lent 1) spent 1 (drawn0 emptyState) 0 (128 ∷ [])
     ∷ buzzed pulsing emptyState (lent 4) 1 2 (drawn0 emptyState) (128 ∷ 129 ∷ 1 ∷ 7 ∷ [])
     ∷ buzzed pulsing emptyState (lent 3) 1 2 (drawn0 emptyState) (128 ∷ 129 ∷ 1 ∷ [])
-    ∷ runs pulsing emptyState (lent 2) spent 2 (withDrawn (drawn0 emptyState) 1) 1 (128 ∷ 129 ∷ [])
+    ∷ runs pulsing emptyState (lent 2) spent 2 (drawn1 (drawn0 emptyState)) 1 (128 ∷ 129 ∷ [])
     ∷ prints (pulsingFile ++ (100 ∷ [])) (48 ∷ 32 ∷ 98 ∷ 117 ∷ 122 ∷ 122 ∷ 32 ∷ 51 ∷ 32 ∷ 49 ∷ 10 ∷ [])
     ∷ []
 
+-- T 4, lower contact of relay 1 on 0-2, relay 0's winding on 2-1, lower contact of relay 0 on 0-3, relay 1's on 3-1
+abbrev pub crossed : Board
+crossed = board 4 2 0 (part (Lower 1) 0 2 ∷ part (Regular 0) 2 1 ∷ part (Lower 0) 0 3 ∷ part (Regular 1) 3 1 ∷ [])
+
+-- on both boards either relay can draw at the start; on the second, after either both rest, and a run shows the end at
+-- which the lower relay moved first
+abbrev pub ordered : List Row
+ordered =
+    moves pair emptyState 0 (drawn0 emptyState) step.drew
+    ∷ moves pair emptyState 1 (drawn1 emptyState) step.drew
+    ∷ moves crossed emptyState 0 (drawn0 emptyState) step.drew
+    ∷ moves crossed emptyState 1 (drawn1 emptyState) step.drew
+    ∷ moves crossed (drawn0 emptyState) 0 (drawn0 emptyState) step.rests
+    ∷ moves crossed (drawn0 emptyState) 1 (drawn0 emptyState) step.rests
+    ∷ moves crossed (drawn1 emptyState) 0 (drawn1 emptyState) step.rests
+    ∷ moves crossed (drawn1 emptyState) 1 (drawn1 emptyState) step.rests
+    ∷ runs crossed emptyState (lent 2) idle 1 (drawn0 emptyState) noRelay (128 ∷ 7 ∷ [])
+    ∷ []
+
 abbrev pub Starred : Type 0
-Starred = All RowHolds (starred ++ besides ++ marks ++ shunts ++ kept ++ divided ++ ignored ++ met)
+Starred = All RowHolds (starred ++ besides ++ marks ++ shunts ++ kept ++ divided ++ ignored ++ met ++ ordered)

@@ -46,6 +46,17 @@ member-met d s (t ∷ ts) (inr there) none = by (sameState t s) none (member-met
     by true e later = omega (arith, e)
     by false e later = later e
 
+-- and a state that is met is among them
+pub met-among : (d e : ℕ) (s : State) (ts : List State) → metFrom d s ts ≡ suc e → s ∈ ts
+unfolding metFrom
+met-among d e s [] none = absurd (omega (arith, none))
+met-among d e s (t ∷ ts) was = by (sameState t s) refl was (met-among (suc d) e s ts)
+  where
+    by : (same : Bool) → sameState t s ≡ same → cond same d (metFrom (suc d) s ts) ≡ suc e
+        → (metFrom (suc d) s ts ≡ suc e → s ∈ ts) → s ∈ (t ∷ ts)
+    by true same here later = inl (sym (same-state s t same))
+    by false other there later = inr (later there)
+
 -- ---- the moves cs from s₀ lead through the states ss, the last first, to s, and none but s may have been met
 
 module _ (M : Movement) (s₀ : State) where

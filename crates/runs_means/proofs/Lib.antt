@@ -10,4 +10,9 @@ pub mod LowestLaws
 pub mod RunMeans
 pub mod SpentLaws
 pub mod Courses
+pub mod TurnLaws
+pub mod OrderLaws
+pub mod RunOrderLaws
+pub mod SingleLaws
+pub mod Orders
 pub mod KeptSets

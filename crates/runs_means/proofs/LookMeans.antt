@@ -62,8 +62,11 @@ module _ (b : Board) (s : State) where
         (decides-means (step.stepOf b s r) r _ below rest (step-means b s r fine below)
         (look-from-means n (r + 1) (omega arith)))
 
-    pub look-means : LookMeans b s (lookFrom (step.stepOf b) s (b .counts .relays) 0)
+    look-means : LookMeans b s (lookFrom (step.stepOf b) s (b .counts .relays) 0)
     look-means =
         let whole : b .counts .relays - 0 ≡ b .counts .relays = omega arith in
         subst (λ (n : ℕ). LookMeans b s (lookFrom (step.stepOf b) s n 0)) whole
         (look-from-means (b .counts .relays) 0 whole resting-none)
+
+    pub look-means-so : (l : Look) → lookFrom (step.stepOf b) s (b .counts .relays) 0 ≡ l → LookMeans b s l
+    look-means-so l e = subst (LookMeans b s) e look-means

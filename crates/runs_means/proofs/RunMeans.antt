@@ -14,7 +14,7 @@ use Rattle.moves.specs.Steps as step
 use Rattle.moves_means.specs.SingleMoves.{Comes}
 use Rattle.moves_means.proofs.ComesLaws.{comes-exclusive}
 use Rattle.moves_means.proofs.OneRelay.{made-else}
-use Rattle.runs.specs.Looks.{Look, quiet, halts, makes, byteOf, lookFrom}
+use Rattle.runs.specs.Looks.{quiet, halts, makes, byteOf}
 use Rattle.runs.specs.Runs.{Ending, idle, spent, conflict, buzz, Run, metAgo, logged, runOf}
 use Rattle.runs.proofs.RunLaws.{RunStops, met, rested, halted, filled, RunGoes, stops, moved, run-goes, stops-still}
 use Rattle.runs_means.specs.Following.{Follows, SomeTwice}
@@ -22,7 +22,7 @@ use Rattle.runs_means.specs.Courses.{AllowedMove, LowestMove, Resting, S
 use Rattle.runs_means.proofs.CameLaws.{Came, begun, on, came-follows, came-none, came-met}
 use Rattle.runs_means.proofs.MeetingLaws.{meeting-twice}
 use Rattle.runs_means.proofs.LowestLaws.{lowest-leads}
-use Rattle.runs_means.proofs.LookMeans.{LookMeans, look-means}
+use Rattle.runs_means.proofs.LookMeans.{LookMeans, look-means-so}
 
 module _ (b : Board) where
   -- ---- one move
@@ -73,9 +73,6 @@ module _ (b : Board) where
   logged-says says = record { follows = says .follows; ended = says .ended; twice = says .twice }
 
   module _ (fine : boardFine b ≡ true) (s₀ : State) where
-    means : (s : State) (l : Look) → lookFrom (step.stepOf b) s (b .counts .relays) 0 ≡ l → LookMeans b s l
-    means s l e = subst (LookMeans b s) e (look-means b s fine)
-
     full-ended : {s : State} {m : step.Move} {r : ℕ} → LookMeans b s (makes m r)
         → StoppedBy b s r step.drew ⊎ StoppedBy b s r step.dropped
     full-ended (inl (is, stopped)) = inl stopped
@@ -94,19 +91,19 @@ module _ (b : Board) where
     stops-says (rested {s = s} new e) came =
         record {
           follows = came-follows (LowestMove b) s₀ came;
-          ended = ((refl, refl), refl, means s quiet e);
+          ended = ((refl, refl), refl, look-means-so b s fine quiet e);
           twice = none-twice came new;
         }
     stops-says (halted {s = s} {r = r} new e) came =
         record {
           follows = came-follows (LowestMove b) s₀ came;
-          ended = ((refl, refl), means s (halts r) e);
+          ended = ((refl, refl), look-means-so b s fine (halts r) e);
           twice = none-twice came new;
         }
     stops-says (filled {s = s} {r = r} m new e) came =
         record {
           follows = came-follows (LowestMove b) s₀ came;
-          ended = ((refl, refl), omega arith, none-twice came new, full-ended (means s (makes m r) e));
+          ended = ((refl, refl), omega arith, none-twice came new, full-ended (look-means-so b s fine (makes m r) e));
           twice = none-twice came new;
         }
 
@@ -120,7 +117,7 @@ module _ (b : Board) where
         let c = byteOf r m in
         let more : length (cs ++ (c ∷ [])) + n ≡ length cs + suc n = omega (arith, length-append cs (c ∷ [])) in
         let all : (cs ++ (c ∷ [])) ++ x .bytes ≡ cs ++ (c ∷ x .bytes) = append-assoc cs (c ∷ []) (x .bytes) in
-        let on-says = goes-says go (on came new (look-lowest s m r (means s (makes m r) e))) in
+        let on-says = goes-says go (on came new (look-lowest s m r (look-means-so b s fine (makes m r) e))) in
         logged-says (rw (more, all) at on-says)
 
     pub run-says : (n : ℕ) → Says s₀ n (runOf (step.stepOf b) (b .counts .relays) n s₀ .bytes)

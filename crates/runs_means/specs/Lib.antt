@@ -2,4 +2,5 @@
 pub mod LongerRuns
 pub mod Following
 pub mod Courses
+pub mod Orders
 pub mod KeptSets
