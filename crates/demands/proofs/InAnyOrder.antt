@@ -29,12 +29,19 @@ use Rattle.runs_means.proofs.Orders.{any-order, run-in-any-order, run-shows-all
 use Rattle.demands.specs.Starred.{pair, crossed, drawn0, drawn1}
 use Rattle.demands.specs.InAnyOrder.{SuppositionHolds, SuppositionFails, InAnyOrder}
 
--- what the relays of that board come to
+-- two relays, each fed through the other's lower contact: either draws, and then both rest
 record Crossed : Type 0 where
   first : Stepped crossed emptyState 0 drew (drawn0 emptyState)
   second : Stepped crossed emptyState 1 drew (drawn1 emptyState)
   first-rests : (r : ℕ) → r < 2 → stepOf crossed (drawn0 emptyState) r ≡ rests
   second-rests : (r : ℕ) → r < 2 → stepOf crossed (drawn1 emptyState) r ≡ rests
+
+-- two relays beside each other, fed by a wire: each draws if it is dropped, whatever the other does
+record Pair : Type 0 where
+  either : (s : State) (r : ℕ) → r < 2 → stepOf pair s r ≡ regularMove (isDrawn s r) true
+  first : Stepped pair emptyState 0 drew (drawn0 emptyState)
+  second : Stepped pair (drawn0 emptyState) 1 drew (drawn1 (drawn0 emptyState))
+  both-rest : (r : ℕ) → r < 2 → stepOf pair (drawn1 (drawn0 emptyState)) r ≡ rests
 
 -- what holds of relays 0 and 1
 both-relays : (P : ℕ → Type 0) → P 0 → P 1 → (r : ℕ) → r < 2 → P r
@@ -42,17 +49,34 @@ both-relays P here there zero below = here
 both-relays P here there (suc zero) below = there
 both-relays P here there (suc (suc r)) below = absurd (omega arith)
 
-crossed-steps : Crossed
+-- what the relays of both boards come to, computed
+computed : Crossed × Pair
 unfolding member including excluding remaining together firstFrom lowestFrom within every complete padded inRange
     countsFine nameFine endsFit partFits partFine gainedAll partsFine boardFine carries stateFine setFrom setAt
     tableFrom setsAt neighbours bareNeighbours nextSeen floodOn flooded reachedWithout servedOn served linkedTo linked
     shuntedBy liveBy inSets windingOf windingsAt regularMove takenLive stepBy stepOf
-crossed-steps = record {
-  first = record { fine = refl; fits = refl; below = omega arith; steps = refl; leads = refl };
-  second = record { fine = refl; fits = refl; below = omega arith; steps = refl; leads = refl };
-  first-rests = both-relays (λ r. stepOf crossed (drawn0 emptyState) r ≡ rests) refl refl;
-  second-rests = both-relays (λ r. stepOf crossed (drawn1 emptyState) r ≡ rests) refl refl;
-}
+computed = (
+  record {
+    first = record { fine = refl; fits = refl; below = omega arith; steps = refl; leads = refl };
+    second = record { fine = refl; fits = refl; below = omega arith; steps = refl; leads = refl };
+    first-rests = both-relays (λ r. stepOf crossed (drawn0 emptyState) r ≡ rests) refl refl;
+    second-rests = both-relays (λ r. stepOf crossed (drawn1 emptyState) r ≡ rests) refl refl;
+  },
+  record {
+    either = λ s. both-relays (λ r. stepOf pair s r ≡ regularMove (isDrawn s r) true) refl refl;
+    first = record { fine = refl; fits = refl; below = omega arith; steps = refl; leads = refl };
+    second = record { fine = refl; fits = refl; below = omega arith; steps = refl; leads = refl };
+    both-rest = both-relays (λ r. stepOf pair (drawn1 (drawn0 emptyState)) r ≡ rests) refl refl;
+  },
+)
+
+crossed-steps : Crossed
+crossed-steps = computed .0
+
+pair-steps : Pair
+pair-steps = computed .1
+
+-- ---- each fed through the other's lower contact
 
 -- the states with one of two relays drawn are different
 drawn-differ : ¬ (drawn0 emptyState ≡ drawn1 emptyState)
@@ -81,25 +105,7 @@ supposition-fails stays =
     let only = any-order crossed emptyState rs (two-endings .one) stays to (two-endings .idle-there) in
     two-endings .different (sym (only .ends-so qs (two-endings .other) on (two-endings .also-idle) .1))
 
--- ---- two relays beside each other, fed by a wire: each draws if it is dropped, whatever the other does
-
-record Pair : Type 0 where
-  either : (s : State) (r : ℕ) → r < 2 → stepOf pair s r ≡ regularMove (isDrawn s r) true
-  first : Stepped pair emptyState 0 drew (drawn0 emptyState)
-  second : Stepped pair (drawn0 emptyState) 1 drew (drawn1 (drawn0 emptyState))
-  both-rest : (r : ℕ) → r < 2 → stepOf pair (drawn1 (drawn0 emptyState)) r ≡ rests
-
-pair-steps : Pair
-unfolding member including excluding remaining together firstFrom lowestFrom within every complete padded inRange
-    countsFine nameFine endsFit partFits partFine gainedAll partsFine boardFine carries stateFine setFrom setAt
-    tableFrom setsAt neighbours bareNeighbours nextSeen floodOn flooded reachedWithout servedOn served linkedTo linked
-    shuntedBy liveBy inSets windingOf windingsAt regularMove takenLive stepBy stepOf
-pair-steps = record {
-  either = λ s. both-relays (λ r. stepOf pair s r ≡ regularMove (isDrawn s r) true) refl refl;
-  first = record { fine = refl; fits = refl; below = omega arith; steps = refl; leads = refl };
-  second = record { fine = refl; fits = refl; below = omega arith; steps = refl; leads = refl };
-  both-rest = both-relays (λ r. stepOf pair (drawn1 (drawn0 emptyState)) r ≡ rests) refl refl;
-}
+-- ---- beside each other
 
 live-peaceful : (d : Bool) → ¬ (regularMove d true ≡ conflict)
 unfolding regularMove
