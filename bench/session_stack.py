@@ -1,8 +1,9 @@
-"""The memory and the stack of the session program, x86-64 only; bench/sessions.py imports this, and is what to run. The memory is
-what the kernel says of the process (`/proc/PID/status`) where it is about to end, at which `ptrace` stops it. The stack is the
-least that `ulimit -s` may give with all lines still right: by halving, in pages, and then to 16 bytes by an environment string
-that takes up the rest of the last page. The environment is empty else, and the start of the stack is not random; both would add
-to it, the latter up to 8 KiB. Arguments and what the kernel puts above the program's own stack (some 700 bytes) are counted."""
+"""The memory and the stack of the session program, started with some words, x86-64 only; bench/sessions.py and bench/settings.py
+import this, and are what to run. The memory is what the kernel says of the process (`/proc/PID/status`) where it is about to end,
+at which `ptrace` stops it. The stack is the least that `ulimit -s` may give with all lines still right: by halving, in pages, and
+then to 16 bytes by an environment string that takes up the rest of the last page. The environment is empty else, and the start of
+the stack is not random; both would add to it, the latter up to 8 KiB. Arguments and what the kernel puts above the program's own
+stack (some 700 bytes) are counted."""
 import ctypes
 import os
 import resource
@@ -33,10 +34,10 @@ def stopped(pid):
     return status >> 8
 
 
-def memory(session):
+def memory(session, words=()):
     """The most memory that the program has had, in KiB, where it is about to end."""
     with open(session, "rb") as file:
-        process = subprocess.Popen(program.command("herdspiral"), stdin=file, stdout=subprocess.DEVNULL, env={}, preexec_fn=lambda: ptrace(TRACE_ME))
+        process = subprocess.Popen([*program.command("herdspiral"), *words], stdin=file, stdout=subprocess.DEVNULL, stderr=subprocess.DEVNULL, env={}, preexec_fn=lambda: ptrace(TRACE_ME))
     stopped(process.pid)
     ptrace(SET_OPTIONS, process.pid, STOP_AT_EXIT)
     ptrace(GO_ON, process.pid)
@@ -49,7 +50,7 @@ def memory(session):
     return int(told["VmHWM"].split()[0])
 
 
-def lines(session, stack, filler=0):
+def lines(session, stack, filler=0, words=()):
     """What the program prints with so many bytes of stack, some of them taken up by an environment string."""
 
     def limit():
@@ -58,7 +59,7 @@ def lines(session, stack, filler=0):
 
     environment = {"F": "-" * (filler - len("F=") - 1)} if filler else {}
     with open(session, "rb") as file:
-        return subprocess.run(program.command("herdspiral"), stdin=file, capture_output=True, env=environment, preexec_fn=limit).stdout
+        return subprocess.run([*program.command("herdspiral"), *words], stdin=file, capture_output=True, env=environment, preexec_fn=limit).stdout
 
 
 def last(fits, count):
@@ -70,11 +71,11 @@ def last(fits, count):
     return least
 
 
-def peak_stack(session):
+def peak_stack(session, words=()):
     """The least stack in bytes, and in whole pages as `ulimit -s` gives it, with which the program prints what it prints
     with 2 MiB."""
-    wanted, pages = lines(session, MOST_STACK), MOST_STACK // PAGE
-    spare = last(lambda less: lines(session, (pages - less) * PAGE) == wanted, pages)
+    wanted, pages = lines(session, MOST_STACK, words=words), MOST_STACK // PAGE
+    spare = last(lambda less: lines(session, (pages - less) * PAGE, words=words) == wanted, pages)
     stack = (pages - spare) * PAGE
-    filler = GRAIN * last(lambda grains: lines(session, stack, grains * GRAIN) == wanted, PAGE // GRAIN + 1)
+    filler = GRAIN * last(lambda grains: lines(session, stack, grains * GRAIN, words) == wanted, PAGE // GRAIN + 1)
     return stack - filler, stack

@@ -1,18 +1,20 @@
 # Says in words what a session was refused for, and where: a line for each event refused by 12, one for the refusal that
-# ended the session. For the script `herdspiral`, together with typed.awk. Number and place are the proved program's; this
-# goes once more through the numbers of the session, to say what is wanted at that place and what the board has. Where it
-# comes to no such place, it says number and place alone.
+# ended the session; or what a page of all settings was refused for. For the script `herdspiral`, together with typed.awk.
+# Number and place are the proved program's; this goes once more through the numbers of the session, to say what is wanted at
+# that place and what the board has. Where it comes to no such place, it says number and place alone.
 #
-# In the environment: NAME is what the input is called, LONGEST_INPUT how many bytes a session may have. Input: what the
-# program said on standard error; a line `typed` or `bytes`; then what the session was read from, as od prints it in octal:
-# the typed text, or the bytes themselves.
+# In the environment: NAME is what the input is called, LONGEST_INPUT how many bytes a session may have, LONGEST_LOG how many
+# moves a log may be for. Input: what the program said on standard error; a line `typed` or `bytes`; then what the session was
+# read from, as od prints it in octal: the typed text, or the bytes themselves.
 
 BEGIN {
     name = ENVIRON["NAME"]
     LONGEST_INPUT = ENVIRON["LONGEST_INPUT"] + 0
+    LONGEST_LOG = ENVIRON["LONGEST_LOG"] + 0
     LONGEST_NUMBER = 5 # bytes
     LARGEST_NUMBER = 4294967295
     MARK = LAST_KIND = 7
+    MOST_SET = 12 # buttons of a board whose settings are all run
     GOES_ON = "a byte of 80 or more says that another comes"
     WINDING[4] = "regular winding"; WINDING[5] = "drawing winding"; WINDING[6] = "dropping winding"
     NAMED[1] = NAMED[2] = NAMED[4] = NAMED[5] = NAMED[6] = NAMED[MARK] = "relay"; NAMED[3] = "button"
@@ -180,6 +182,8 @@ function whole_board(    i) {
     relays = value
     if (!go_past("the number of buttons (B)", 0, 32)) return 0
     buttons = value
+    buttons_at = start
+    buttons_meant = meant(0, MOST_SET)
     if (!go_past("the number of parts (C)", 0, 256)) return 0
     parts = value
     for (i = 1; i <= parts; i++) {
@@ -203,6 +207,19 @@ function too_long() {
     if (size > LONGEST_INPUT) tell_end(0, 1, "the session is longer than " grouped(LONGEST_INPUT) " bytes: the first byte too many is at " where(LONGEST_INPUT))
 }
 
+# 13, of a page of all settings: it is of no file.
+function log_too_long() {
+    told = 1
+    print "herdspiral: LOG is above " grouped(LONGEST_LOG) ", the most moves that a log is for (refusal 13)"
+}
+
+# 20, of a page of all settings, at the number of buttons.
+function too_many_buttons() {
+    if (!whole_board() || buttons <= MOST_SET) return
+    told = 1
+    tell(20, buttons_at, 1, "the board has " buttons " buttons, and a page of all settings is for " MOST_SET " at most" buttons_meant)
+}
+
 # Whether bytes look like typed text: two hex digits at least, and no control byte but white space. No board with a part in
 # it does, since kinds are control bytes.
 function looks_typed(    digits, i) {
@@ -216,6 +233,8 @@ function looks_typed(    digits, i) {
 END {
     if (!refusal && !doubles) exit
     if (refusal == 10) too_long()
+    else if (refusal == 13) log_too_long()
+    else if (refusal == 20) too_many_buttons()
     else if (whole_board() && go_past("the allowance (W)")) events()
     if (refusal && !told) tell(refusal, refused_at, 0, "this is refused")
     if (refusal && sort == "bytes" && looks_typed()) print name ": this looks like typed text, and was taken as bytes: a typed file's name ends in .hex, and it is given by that name, as in ./herdspiral board.hex"

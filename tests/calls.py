@@ -15,7 +15,6 @@ import concurrent.futures
 import os
 import random
 import re
-import shutil
 import sys
 
 sys.path.insert(0, os.path.join(os.path.dirname(os.path.abspath(__file__)), "lib"))
@@ -243,11 +242,9 @@ def occurring(lines):
 
 
 def compare(seed, count):
-    if not shutil.which("cargo"):
-        return [("cargo is there, to build the second program", False)]
-    built = second_program.cargo("build")
-    if built.returncode:
-        return [(f"the second program builds: {built.stderr}", False)]
+    unbuilt = second_program.unbuilt()
+    if unbuilt:
+        return unbuilt
     with concurrent.futures.ThreadPoolExecutor() as workers:
         (checks, lines), (more, others) = workers.map(compared, ("current_cases", "run_cases"), every_case(seed, count))
     return checks + more + list(occurring(lines + others))

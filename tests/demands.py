@@ -1,6 +1,7 @@
 """The front page quotes the user: the head of each demand's statement (crates/demands/specs/) has the demand word for word, as
 docs/RULES.md has it, sentence by sentence; under each sentence it names the fields that state it, and it names every field. So
-has the statement of request A9. And what any definition's file quotes of a demand ("Demand 3: ..") stands there word for word."""
+have the statements of requests A9 and A10. And what any definition's file quotes of a demand ("Demand 3: ..") stands there word
+for word."""
 import os
 import re
 import sys
@@ -9,7 +10,7 @@ sys.path.insert(0, os.path.join(os.path.dirname(os.path.abspath(__file__)), "lib
 import repository
 
 STATEMENTS = ["EveryCallComesBack", "AsTheModelSays", "LargerNeverChanges"]
-ORDER = "InAnyOrder"  # the statement of request A9
+REQUESTS = {"A9": ("InAnyOrder", "The order of moves"), "A10": ("WhateverIsPushed", "All button settings")}  # and the rules' section
 
 
 def asked(rules):
@@ -18,9 +19,9 @@ def asked(rules):
     return [" ".join(said.split()) for said in re.findall(r'^\d\. "([^"]*)"$', section, re.M)]
 
 
-def asked_of_order(rules):
-    """Request A9 as the rules quote it."""
-    section = rules.partition("## The order of moves\n")[2].partition("\n## ")[0]
+def requested(rules, heading):
+    """A request as the rules quote it in this section."""
+    section = rules.partition(f"## {heading}\n")[2].partition("\n## ")[0]
     return " ".join(" ".join(re.findall(r"^> (.*)$", section, re.M)).split()).strip('"')
 
 
@@ -67,8 +68,9 @@ checks = []
 RULES = repository.text("docs", "RULES.md")
 demands = asked(RULES)
 checks.append(("docs/RULES.md quotes three demands", len(demands) == 3))
-words = [*((f"demand {number}", demand) for number, demand in enumerate(demands, 1)), ("request A9", asked_of_order(RULES))]
-for (what, demand), name in zip(words, [*STATEMENTS, ORDER]):
+words = [(f"demand {number}", demand, name) for number, (demand, name) in enumerate(zip(demands, STATEMENTS), 1)]
+words += [(f"request {request}", requested(RULES, heading), name) for request, (name, heading) in REQUESTS.items()]
+for what, demand, name in words:
     page = repository.text("crates", "demands", "specs", f"{name}.antt")
     quoted = sentences(page)
     named = {field for _, names in quoted for field in names}

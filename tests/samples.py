@@ -1,9 +1,9 @@
 """Runs the script `herdspiral` with the real program: on each session of samples/, typed and as bytes, and compares what it
-prints with the lines beside it and what it says of refusals with the words beside it; on long sessions; on output that cannot
-be written. What a start comes to is compared whole: its output, its exact words on standard error, its status. Holds README.md
-to the samples that it shows. Nothing in the repository is changed but built/, where the script keeps the program. Needs the
-Rattle kit; the script builds the program if it is missing. tests/script.py tries the script by itself, tests/words.py its
-words."""
+prints with the lines beside it and what it says of refusals with the words beside it; for the pages of all button settings that
+samples/ has, and for those of the refused samples; on long sessions; on output that cannot be written. What a start comes to is
+compared whole: its output, its exact words on standard error, its status. Holds README.md to the samples that it shows. Nothing in
+the repository is changed but built/, where the script keeps the program. Needs the Rattle kit; the script builds the program if it
+is missing. tests/script.py tries the script by itself, tests/words.py its words."""
 import os
 import re
 import shutil
@@ -11,7 +11,9 @@ import sys
 import tempfile
 
 sys.path.insert(0, os.path.join(os.path.dirname(os.path.abspath(__file__)), "lib"))
+import board_model
 import program
+import report_model
 import repository
 import stand_in
 from long_sessions import LONGEST
@@ -68,9 +70,50 @@ def samples():
     return checks
 
 
+def pages():
+    """Each page of samples/, of its session, of the board alone, and with the length of the log given; typed and as bytes."""
+    names = sorted(name[: -len(".page")] for name in os.listdir(repository.path("samples")) if name.endswith(".page"))
+    checks = [(f"there are pages: {names}", len(names) >= 2)]
+    with tempfile.TemporaryDirectory() as folder:
+        raw, board = (os.path.join(folder, name) for name in ("session", "board"))
+        for name in names:
+            checks.append((f"samples/{name}.page has its session", bool(sample(name, ".hex"))))
+            data = typed_bytes(sample(name, ".hex") or sample("h0", ".hex"))
+            stand_in.put(raw, data)
+            stand_in.put(board, data[: board_model.read(data)[0]])
+            for words in ([f"samples/{name}.hex"], [f"samples/{name}.hex", "4096"], [raw], [raw, "4096"], [board]):
+                checks.append(same(f"the page of {name}, {words}", run("--settings", *words), well(sample(name, ".page").encode())))
+    return checks
+
+
+def page_lengths():
+    """The page of long-run, whose 13 relays move 8,191 times whether its button is pushed or not, with logs of each sort; the log
+    is for 4,096 moves where no length is given."""
+    spent, idle = (report_model.page(told) for told in ((2, 0, 0, 0, 2, 8_192, 4_096, 0), (2, 2, 0, 0, 0, 16_382, 8_191, 0)))
+    for words, page in (([], spent), (["4096"], spent), (["8191"], idle), (["65536"], idle), (["0008191"], idle)):
+        yield same(f"the page of long-run, {words}", run("--settings", "samples/long-run.hex", *words), well(page))
+
+
+def refused_pages():
+    """The page of each sample that meets a refusal, typed and as bytes. Where its board is refused, the page is refused in the same
+    words as the session, also with too long a log; what stands behind the board is not looked at."""
+    checks, names = [], sorted(name[: -len(".words")] for name in os.listdir(repository.path("samples")) if name.endswith(".words"))
+    with tempfile.TemporaryDirectory() as folder:
+        raw = os.path.join(folder, "session")
+        for name in names:
+            text, out, said = (sample(name, ending) for ending in (".hex", ".lines", ".words"))
+            stand_in.put(raw, typed_bytes(text))
+            page = report_model.page_of(typed_bytes(text), 4_096)
+            for file, words in ((f"samples/{name}.hex", said), (raw, as_bytes(said, text, raw))):
+                wanted = Told(out.encode(), words.encode(), REFUSED) if page.startswith(b"refused ") else well(page)
+                for log in [[], ["65537"]] if wanted.status == REFUSED else [[]]:
+                    checks.append(same(f"the page of {name}, {[file] + log}", run("--settings", file, *log), wanted))
+    return checks
+
+
 def readme():
     """README.md shows commands that run a sample, each with the lines that it prints, what is said of one that is refused, and
-    the typed bytes of some of them."""
+    the typed bytes of some of them; and a command that prints a page of a sample, with the page after it."""
     blocks = re.findall(r"(?:^    .*\n)+", repository.text("README.md"), re.M)
     blocks = [[line[4:] for line in block.split("\n")[:-1]] for block in blocks]
     shown = [re.fullmatch(r"\./herdspiral samples/(.+)\.hex", line) for block in blocks for line in block]
@@ -82,7 +125,12 @@ def readme():
     said = ["\n".join(block) + "\n" for block in blocks if block[0].startswith("samples/")]
     checks.append(same("what README.md shows of the refusal", said, [sample("refused-terminal", ".words")]))
     typed = [typed_bytes("\n".join(block)) for block in blocks if re.match(r"[0-9a-f]{2} [0-9a-f]{2} ", block[0])]
-    return checks + [same("the typed sessions of README.md", typed, [typed_bytes(sample("h1", ".hex"))])]
+    checks.append(same("the typed sessions of README.md", typed, [typed_bytes(sample("h1", ".hex"))]))
+    command = ["./herdspiral --settings samples/muted-bell.hex"]
+    page = sample("muted-bell", ".page").split("\n")[:-1]
+    checks.append(same("README.md prints this page", [block for block in blocks if "--settings" in block[0]], [command]))
+    checks.append(same("README.md has this page", [block for block in blocks if block[0].startswith("settings: ")], [page]))
+    return checks + [("README.md has the page after its command", (command, page) in zip(blocks, blocks[1:]))]
 
 
 def long_sessions():
@@ -113,11 +161,17 @@ def long_sessions():
 
 def unwritten():
     """Output that is full, closed, or left by its reader."""
-    checks = []
+    checks, page = [], ["--settings", "samples/muted-bell.hex"]
+    every = (["samples/h2.hex"], ["samples/refused-t65.hex"], page, page + ["65537"], ["--settings", "samples/refused-t65.hex"])
     for name, redirection in (("full", ">/dev/full"), ("closed", ">&-")):
-        for words in ("samples/h2.hex", "samples/refused-t65.hex"):
-            told = program.run(["sh", "-c", f'exec "$@" {redirection}', "sh", SCRIPT, words], cwd=repository.ROOT)
+        for words in every:
+            told = program.run(["sh", "-c", f'exec "$@" {redirection}', "sh", SCRIPT, *words], cwd=repository.ROOT)
             checks.append(same(f"output that is {name}, {words}", told, Told(b"", b"herdspiral: standard output cannot be written\n", UNDONE)))
+    for words in every:
+        reading, writing = os.pipe()
+        os.close(reading)
+        checks.append(same(f"output whose reader has left, {words}", run(*words, stdout=writing), Told(b"", b"", UNDONE)))
+        os.close(writing)
     told = program.run(["sh", "-c", '{ "$@"; echo "status $?" >&2; } | head -n 1', "sh", SCRIPT, "samples/refused-longest.hex"], cwd=repository.ROOT)
     checks.append(same("output whose reader leaves after the last line", (told.out, told.errors.splitlines()[-1]), (b"refused 10 0\n", b"status 3")))
     with tempfile.TemporaryDirectory() as folder:
@@ -146,7 +200,7 @@ def main():
     told = run("samples/h0.hex", timeout=None)
     if told.status:
         return [(f"the program starts; status {told.status}: {told.errors.decode()[-600:]}", False)]
-    return samples() + readme() + long_sessions() + unwritten() + settled()
+    return samples() + pages() + list(page_lengths()) + refused_pages() + readme() + long_sessions() + unwritten() + settled()
 
 
 if __name__ == "__main__":

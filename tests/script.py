@@ -1,8 +1,8 @@
 """Tries the script `herdspiral` over a repository and a kit that stand in for the real ones (tests/lib/stand_in.py): typed text,
-arguments and odd names, when and how it builds, two starts at once, the progress, closed streams, a clone that cannot be
-written, a full disk, how the program ends. What reads and says is tried with each shell and each awk of SHELLS and AWKS that
-this machine has; those that it lacks are named. A start is compared whole: its output, its exact words on standard error, its
-status. Needs no kit."""
+arguments and odd names, what is handed to the program for a page of all settings, when and how it builds, two starts at once, the
+progress, closed streams, a clone that cannot be written, a full disk, how the program ends. What reads and says is tried with each
+shell and each awk of SHELLS and AWKS that this machine has; those that it lacks are named. A start is compared whole: its output,
+its exact words on standard error, its status. Needs no kit."""
 import os
 import platform
 import pty
@@ -21,6 +21,7 @@ import stand_in
 from program import Told, well
 from repository import same
 from stand_in import AWKS, BUILDING, BUILT, PROGRESS, StandIn, built, found, said, timeless
+from typed_text import typed_bytes
 
 SHELLS = ("dash", "bash", "bash --posix", "busybox sh")
 EVERY_BYTE = bytes(range(256))
@@ -36,6 +37,15 @@ UNWRITTEN = said("standard output cannot be written")
 UNREAD = said("standard input cannot be read")
 NOBODY = 65_534
 LONGEST_TEXT = 4_194_304  # bytes of a typed file
+NO_LENGTH = f"the length of the log is a decimal number, such as 4096; {MORE}"
+NO_PAGE = f"--settings takes a file, and the length of the log if it is not 4096; {MORE}"
+# What is no length of a log; and lengths, each with what is handed to the program for it.
+NO_LENGTHS = ["", "-1", "+5", "0x10", "4 096", "4096.0", "abc", "4,096", " 4096", "4096 ", "4096\n", "\n", "4e3", "-", "4096a", "*"]
+NO_LENGTHS += ["\xb2", "\u0664"]
+LENGTHS = {"0": 0, "00": 0, "7": 7, "00007": 7, "4096": 4_096, "09": 9, "65535": 65_535, "65536": 65_536, "000065536": 65_536}
+LENGTHS |= {"0" * 100: 0, "0" * 100 + "12": 12}
+TOO_LONG = ["65537", "65538", "99999", "00065538", "100000", "4294967296", "18446744073709551616", "9" * 100, "1" + "0" * 99]
+LENGTHS |= {log: 65_537 for log in TOO_LONG}
 FILES = ("a b  c.hex", "-n.hex", "-", "--.hex", "a=b.hex", "*.hex", "ä'\".hex", "$x\\n.hex", "-f", "NAME=x", "a\nb.hex")
 
 # Typed texts and the bytes that they stand for.
@@ -145,6 +155,75 @@ def arguments(own):
     return checks
 
 
+def page_arguments(own):
+    """Wrong arguments with --settings: each is told before anything is built or started."""
+    checks, slip = [], os.path.join(own.folder, "slip.hex")
+    stand_in.put(slip, "03 f")
+    for name, words, message in (
+        ("no file", [], NO_PAGE),
+        ("three arguments", ["a.hex", "5", "6"], NO_PAGE),
+        ("a file that is not there", ["none.hex"], f"none.hex: there is no such file; {MORE}"),
+        ("--help, which is no file here", ["--help"], f"--help: there is no such file; {MORE}"),
+        ("--settings, which is no file here", ["--settings"], f"--settings: there is no such file; {MORE}"),
+        ("a file that is not there, and a length", ["none.hex", "5"], f"none.hex: there is no such file; {MORE}"),
+        ("a file that is not there, and no length", ["none.hex", "abc"], NO_LENGTH),
+        ("a directory", [own.folder], f"{own.folder}: this is a directory, not a session"),
+        ("an empty name", [""], f"an empty name is no file; {MORE}"),
+        *((f"the length {log!r}", [slip, log], NO_LENGTH) for log in NO_LENGTHS),
+    ):
+        checks.append(same(f"--settings, {name}", own.start("--settings", *words), Told(b"", said(message), 2)))
+    mistyped = Told(b"", f'{slip}: line 1, column 4: "f" {NO_SECOND}: type "0f"\n'.encode(), 2)
+    for words in ([], ["5"], ["99999"]):
+        checks.append(same(f"--settings, a mistyped file, {words}", own.start("--settings", slip, *words), mistyped))
+    behind = Told(b"", said(f"one file at most, and there are 2 arguments; {MORE}"), 2)
+    return checks + [same("--settings behind its file", own.start(slip, "--settings"), behind), nothing_done(own)]
+
+
+def page_lengths(own):
+    """What the program is started with for a page: the length of the log, 4096 if none is given, typed file or not, whatever the
+    file is called; and for a session nothing."""
+    checks, folder = [], os.path.join(own.folder, "files")
+    for name in (*FILES, "--help", "--settings", "4096"):
+        stand_in.put(os.path.join(folder, name), "03 ff" if name.endswith(".hex") else b"\x03\xff")
+    told = own.start("--settings", "--help", folder=folder), own.noted("starts")
+    checks.append(same("--settings, a file called --help", told, (built(b"\x03\xff"), ["started <4096>"])))
+    for file, words, length in (
+        *((file, [], 4_096) for file in (*FILES, "--help", "--settings", "4096")),
+        *((file, [log], length) for file in ("-n.hex", "--help") for log, length in LENGTHS.items()),
+    ):
+        told = own.start("--settings", file, *words, folder=folder), own.noted("starts")[-1]
+        checks.append(same(f"--settings {file!r} {words!s:.60}", told, (well(b"\x03\xff"), f"started <{length}>")))
+    told = own.start("-n.hex", folder=folder, log="5"), own.session(b"session"), own.noted("starts")[-2:]
+    return checks + [same("what a session is started with", told, (well(b"\x03\xff"), well(b"session"), ["started", "started"]))]
+
+
+def refused_pages(own):
+    """What the program says of a page that is refused comes out in words, typed and as bytes, with status 3."""
+    checks, typed, raw = [], os.path.join(own.folder, "typed.hex"), os.path.join(own.folder, "bytes")
+    many = "the board has 13 buttons, and a page of all settings is for 12 at most (refusal 20)"
+    lacking = "there is no such terminal: the board has 3, 0 to 2 (refusal 5)"
+    for line, text, places, message in (
+        ("refused 13 0", "03 01 01 00", ("herdspiral: ",) * 2, "LOG is above 65,536, the most moves that a log is for (refusal 13)"),
+        ("refused 20 0", "# one\n02 00\n 0d 00", (f'{typed}: line 3, column 2: "0d": ', f'{raw}: place 2: "0d": '), many),
+        ("refused 20 0", "02 00 0c 00", (f"{typed}: line 1, column 1: ", f"{raw}: place 0: "), "this is refused (refusal 20)"),
+        ("refused 5 10", "03 01 01 02 03000200\n04 02 09", (f'{typed}: line 2, column 7: "09": ', f'{raw}: place 10: "09": '), lacking),
+        ("refused 99 1", "03 01", (f"{typed}: line 1, column 4: ", f"{raw}: place 1: "), "this is refused (refusal 99)"),
+    ):
+        own.program(f"#!/bin/sh\ncat >/dev/null\necho {line}; echo {line} >&2\n")
+        own.start()
+        stand_in.put(typed, text)
+        stand_in.put(raw, typed_bytes(text))
+        for file, place in zip((typed, raw), places):
+            wanted = Told(f"{line}\n".encode(), f"{place}{message}\n".encode(), 3)
+            checks.append(same(f"a page: {line}, {os.path.basename(file)}", own.start("--settings", file, "5"), wanted))
+    own.program("#!/bin/sh\ncat >/dev/null\necho settings: 1; echo 'herdspiral: standard output cannot be written' >&2\n")
+    own.start()
+    for file in (typed, raw):
+        told = own.start("--settings", file)
+        checks.append(same(f"a page that cannot be written, {os.path.basename(file)}", told, Told(b"settings: 1\n", UNWRITTEN, 4)))
+    return checks
+
+
 def refusals(own):
     """What the program says of refusals comes out in words, after its lines; and the status goes by it."""
     checks = []
@@ -199,6 +278,14 @@ def streams(own):
         ("nothing: bytes in 4", "/dev/fd/4", "4<bytes", well(b"\x03\xff")),
         ("nothing: input by its name", "/dev/stdin", "<bytes", well(b"\x03\xff")),
         ("all of them", "a.hex", "0<&- 1>&- 2>&-", Told(b"", b"", 4)),
+        ("input, with --settings and a typed file", "--settings a.hex", "0<&-", well(b"\x03\xff")),
+        ("input, with --settings and a file of bytes", "--settings bytes 5", "0<&-", well(b"\x03\xff")),
+        ("input, named as a file, for a page", "--settings /dev/stdin", "0<&-", Told(b"", said("/dev/stdin cannot be read"), 4)),
+        ("nothing: input by its name, with --settings", "--settings /dev/stdin", "<bytes", well(b"\x03\xff")),
+        ("output, with --settings", "--settings a.hex", "1>&-", Told(b"", UNWRITTEN, 4)),
+        ("standard error, with --settings", "--settings a.hex", "2>&-", well(b"\x03\xff")),
+        ("standard error, with --settings and no file", "--settings", "2>&-", Told(b"", b"", 2)),
+        ("all of them, with --settings", "--settings a.hex", "0<&- 1>&- 2>&-", Told(b"", b"", 4)),
     ):
         told = program.run(["sh", "-c", f'exec "$@" {words} {redirection}', "sh", *started], cwd=own.folder, env=own.environment())
         checks.append(same(f"closed or full: {name}", told._replace(errors=timeless(told.errors)), want))
@@ -534,7 +621,13 @@ def how_it_ends(own):
     ):
         own.program(f"#!/bin/sh\n{text}\n")
         own.start()
-        for way, told in (("on bytes", own.session(b"session")), ("on typed text", own.start("a.hex")), ("on a file of bytes", own.start(own.script))):
+        for way, told in (
+            ("on bytes", own.session(b"session")),
+            ("on typed text", own.start("a.hex")),
+            ("on a file of bytes", own.start(own.script)),
+            ("for a page of typed text", own.start("--settings", "a.hex")),
+            ("for a page of a file of bytes", own.start("--settings", own.script, "5")),
+        ):
             checks.append(same(f"{name}, {way}", told, want))
     checks.append(same("a program that does not read all", own.typed("00 " * 300_000), well(b"")))
     os.chmod(os.path.join(own.root, "built", "herdspiral"), 0o644)
@@ -544,6 +637,8 @@ def how_it_ends(own):
     own.program(stand_in.ECHO)
     own.start()
     checks.append(same("the emulator", (own.start("a.hex"), os.path.exists(os.path.join(own.kit, "emulated"))), (well(b"\x03"), True)))
+    told = own.start("--settings", "a.hex", "5"), own.noted("starts")[-1]
+    checks.append(same("the emulator, for a page", told, (well(b"\x03"), "started <5>")))
     return checks
 
 
@@ -555,8 +650,9 @@ def tried(part, shell="", awk=""):
 
 
 def main():
-    checks = [check for shell in found(SHELLS) for part in (typed_text, arguments, refusals, streams) for check in tried(part, shell=shell)]
-    checks += [check for awk in found(AWKS) for part in (typed_text, refusals) for check in tried(part, awk=awk)]
+    reading = (typed_text, arguments, page_arguments, page_lengths, refusals, refused_pages, streams)
+    checks = [check for shell in found(SHELLS) for part in reading for check in tried(part, shell=shell)]
+    checks += [check for awk in found(AWKS) for part in (typed_text, refusals, refused_pages) for check in tried(part, awk=awk)]
     once = (longest_text, ways_to_start, building, edited_meanwhile, not_built, without_tools, not_whole, two_at_once, killed, gate_waits, on_a_terminal, not_to_be_read, not_to_be_written, full_disk, how_it_ends)
     return checks + [check for part in once for check in tried(part)]
 

@@ -1,6 +1,7 @@
 """What the script `herdspiral` says of a refusal (script/words.awk). Typed sessions with each slip, whole, with the real program
-and each awk of stand_in.AWKS that this machine has: the exact words. The hint that typed text was taken as bytes. Refusals that
-are not the session's. Then refused sessions of every sort of tests/lib/session_sorts.py, and those of
+and each awk of stand_in.AWKS that this machine has: the exact words. Pages of all button settings that are refused by 13 and by
+20, typed and as bytes; those whose board is refused are refused in the words of the session. The hint that typed text was taken as
+bytes. Refusals that are not the session's. Then refused sessions of every sort of tests/lib/session_sorts.py, and those of
 tests/lib/number_sessions.py that are not cut: number, place, the bytes quoted and the numbers that the words name are held to
 the session's own bytes. Seeded; `python3 tests/words.py SEED SESSIONS` tries others, or more (it is 1 and 1,500 else). Needs
 the kit, and target/bin/session_cases, which `rt check session_cases` builds; the script builds the program if it is missing."""
@@ -14,6 +15,7 @@ sys.path.insert(0, os.path.join(os.path.dirname(os.path.abspath(__file__)), "lib
 import board_model
 import number_sessions
 import program
+import report_model
 import repository
 import session_sorts
 import stand_in
@@ -21,7 +23,9 @@ from board_model import LARGEST, LONGEST_NUMBER
 from long_sessions import LONGEST
 from program import Told
 from repository import same
+from typed_text import typed_bytes
 
+SCRIPT = repository.path("herdspiral")
 H1 = "03 01 01 02\n03 00 02 00\n04 02 01 00\n"  # T 3, R 1, B 1: button 0 on 0-2, regular winding on 2-1
 H5 = "04 02 01 04\n05 00 02 00\n06 00 03 00\n04 02 01 01\n03 00 02 00\n"  # T 4, R 2, B 1: a steel relay and a regular one
 MARKED = H1.replace("01 02\n", "01 04\n")  # the same with two parts more to come
@@ -126,6 +130,27 @@ CASES = [
     (H1 + "64 00 80", ["1 refused 12", "refused 1 15"], ['line 4, column 4: "00": event 1 releases button 0, which is released already (refusal 12)', f'line 4, column 9: {END}, inside event 2: "80" goes on, since {GOES_ON} (refusal 1)']),
 ]
 
+# Typed boards whose page is refused, the length of the log, the line, and the words for it: what they begin with, typed and as
+# bytes, which is no file where LOG is wrong and else the file's name and the place, with what stands there; and what is wrong.
+LONG_LOG = "refused 13 0", ("herdspiral: ", "herdspiral: "), "LOG is above 65,536, the most moves that a log is for (refusal 13)"
+BUTTONS = "the board has {} buttons, and a page of all settings is for 12 at most (refusal 20)"
+PAGES = [
+    (H1, "65537", *LONG_LOG),
+    (H1, "65538", *LONG_LOG),
+    (H1 + "64 01 05 80 80", "9" * 100, *LONG_LOG),
+    ("02 00 0d 00", "65537", *LONG_LOG),
+    ("02 00 20 00 # more", "00100000", *LONG_LOG),
+    ("02 00 0d 00", "4096", "refused 20 0", ('t.hex: line 1, column 7: "0d": ', 't: place 2: "0d": '), BUTTONS.format(13)),
+    ("02 00 0d 00", "65536", "refused 20 0", ('t.hex: line 1, column 7: "0d": ', 't: place 2: "0d": '), BUTTONS.format(13)),
+    ("# a\n02\n00 # R\n\t0D # B\n00", "0", "refused 20 0", ('t.hex: line 4, column 2: "0D": ', 't: place 2: "0d": '), BUTTONS.format(13)),
+    ("02\r00\r\n1f00", "7", "refused 20 0", ('t.hex: line 3, column 1: "1f": ', 't: place 2: "1f": '), BUTTONS.format(31)),
+    (H1.replace("01 01", "01 20"), "5", "refused 20 0", ('t.hex: line 1, column 7: "20": ', 't: place 2: "20": '), BUTTONS.format(32)),
+    (H5.replace("01 04", "0e 04") + "64", "5", "refused 20 0", ('t.hex: line 1, column 7: "0e": ', 't: place 2: "0e": '), BUTTONS.format(14)),
+    (H1.replace("01 01", "01 1e") + "ff", "1", "refused 20 0", ('t.hex: line 1, column 7: "1e": ', 't: place 2: "1e": '), BUTTONS.format(30)),
+    ("02 00 12 00", "7", "refused 20 0", ('t.hex: line 1, column 7: "12": ',), BUTTONS.format(18).replace(" (", '; "12" is 18, and 12 is typed "0c" (')),
+    ("02 00 10 00", "7", "refused 20 0", ('t.hex: line 1, column 7: "10": ',), BUTTONS.format(16).replace(" (", '; "10" is 16, and 10 is typed "0a" (')),
+]
+
 # Bytes that look like typed text, and bytes that do not.
 LOOKS_TYPED = [H1 + "64 01", "03", "# a board\n03 01", "\ufeff03 01 01", "03 01 0x", "  0c\r\n", "03 # ä", H1.upper(), "0x03 0x01", "3 1 1 2", "O3 01"]
 LOOKS_NOT = [b"", b"A", b"\x03\x01\x01\x02", b"0", b"03 01\0", b"\x41\x00\x00\x00", b"03 01\x1b", b"\x80\x80", b"\x80\x80\x80", b"\xff0"]
@@ -153,19 +178,54 @@ def by_awk(said, data):
     return program.lines(program.run(start, text.encode(), env={**os.environ, "NAME": "it", "LONGEST_INPUT": str(LONGEST), "LC_ALL": "C"}))
 
 
-def typed_cases():
-    """Each typed session through the script, with each awk."""
+def typed_cases(awk, folder, own):
+    """Each typed session through the script, with this awk, by way of a folder and an environment in which it is the one that is
+    found. Where its board is refused, its page is refused in the same words."""
+    for text, lines, words in CASES:
+        stand_in.put(os.path.join(folder, "t.hex"), text)
+        told = program.run([SCRIPT, "t.hex"], cwd=folder, env=own)
+        found = Told(program.refused_lines(told.out), told.errors, told.status)
+        status = 3 if lines[-1].startswith("refused") else 0
+        want = Told("".join(line + "\n" for line in lines).encode(), "".join(f"t.hex: {word}\n" for word in words).encode(), status)
+        yield same(f"{awk}: {text!r}", found, want)
+        page = report_model.page_of(typed_bytes(text), 4_096)
+        told = program.run([SCRIPT, "--settings", "t.hex"], cwd=folder, env=own)
+        yield same(f"{awk}: the page of {text!r}", told, want if page.startswith(b"refused ") else program.well(page))
+
+
+def page_cases(awk, folder, own):
+    """Pages that are refused by 13 and by 20 through the script, with this awk, typed and as bytes."""
+    for text, log, line, places, words in PAGES:
+        for name, content, place in zip(("t.hex", "t"), (text, typed_bytes(text)), places):
+            stand_in.put(os.path.join(folder, name), content)
+            told = program.run([SCRIPT, "--settings", name, log], cwd=folder, env=own)
+            want = Told(f"{line}\n".encode(), f"{place}{words}\n".encode(), 3)
+            yield same(f"{awk}: the page of {text!r} in {name}, logs of {log:.20}", told, want)
+
+
+def with_each_awk():
+    """The exact words, with each awk that this machine has."""
     with tempfile.TemporaryDirectory() as folder:
         for awk in stand_in.found(stand_in.AWKS):
             stand_in.put_awk(os.path.join(folder, "bin"), awk)
             own = {**os.environ, "PATH": os.path.join(folder, "bin") + os.pathsep + os.environ["PATH"]}
-            for text, lines, words in CASES:
-                stand_in.put(os.path.join(folder, "t.hex"), text)
-                told = program.run([repository.path("herdspiral"), "t.hex"], cwd=folder, env=own)
-                found = Told(program.refused_lines(told.out), told.errors, told.status)
-                status = 3 if lines[-1].startswith("refused") else 0
-                want = Told("".join(line + "\n" for line in lines).encode(), "".join(f"t.hex: {word}\n" for word in words).encode(), status)
-                yield same(f"{awk}: {text!r}", found, want)
+            yield from typed_cases(awk, folder, own)
+            yield from page_cases(awk, folder, own)
+
+
+def boards_refused():
+    """Bytes whose board is refused, some of which look like typed text: their page is refused in the words of the session, whatever
+    the length of the log."""
+    every = [text.encode() for text in LOOKS_TYPED] + LOOKS_NOT + [typed_bytes(text) for text, _, _ in CASES]
+    refused = [data for data in every if report_model.page_of(data, 4_096).startswith(b"refused ")]
+    yield f"{len(refused)} of {len(every)} boards are refused, and not all", 20 < len(refused) < len(every)
+    with tempfile.TemporaryDirectory() as folder:
+        for data in refused:
+            stand_in.put(os.path.join(folder, "t"), data)
+            starts = ["t"], ["--settings", "t"], ["--settings", "t", "65537"]
+            session, *pages = (program.run([SCRIPT, *words], cwd=folder) for words in starts)
+            yield f"{data!r}: a session that is refused: {session}", session.status == 3
+            yield same(f"the page of {data!r}", pages, [session] * 2)
 
 
 def hints():
@@ -174,7 +234,7 @@ def hints():
         for data, looks in [(text.encode(), True) for text in LOOKS_TYPED] + [(data, False) for data in LOOKS_NOT]:
             for name in ("t.txt", "t.HEX", "t", None):
                 stand_in.put(os.path.join(folder, name or "unused"), data)
-                told = program.run([repository.path("herdspiral"), *([name] if name else [])], data, cwd=folder)
+                told = program.run([SCRIPT, *([name] if name else [])], data, cwd=folder)
                 hint = told.errors.decode().split("\n")[1:-1]
                 wanted = [f"{name or 'standard input'}: {HINT}"] if looks else []
                 yield same(f"{data!r} in {name}: a hint", (hint, told.status), (wanted, 3))
@@ -263,10 +323,10 @@ def many(seed, count):
 
 
 def main(seed, count):
-    told = program.run([repository.path("herdspiral"), "samples/h0.hex"], cwd=repository.ROOT, timeout=None)
+    told = program.run([SCRIPT, "samples/h0.hex"], cwd=repository.ROOT, timeout=None)
     if told.status:
         return [(f"the program starts; status {told.status}: {told.errors.decode()[-600:]}", False)]
-    return [*typed_cases(), *hints(), *lies(), *many(seed, count)]
+    return [*with_each_awk(), *boards_refused(), *hints(), *lies(), *many(seed, count)]
 
 
 if __name__ == "__main__":

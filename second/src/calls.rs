@@ -2,18 +2,23 @@
 //!
 //! Renders, of "Numbers for no", lines 11, 13, 14 and 15 in the order of calls
 //! (15, 14, 13, 11), and what a refused call returns; and 19 of request A6,
-//! after 11. Under 15 is also what request A2 asks of a board. What is handed
-//! in may break any rule; what was accepted is a `Board` and a `State`.
+//! after 11, and 20 of request A10, after 13. Under 15 is also what request A2
+//! asks of a board. What is handed in may break any rule; what was accepted is
+//! a `Board` and a `State`.
 
 use crate::board::{Board, Ends, Kind, Part, State, Windings};
 use crate::board::{MOST_BUTTONS, MOST_PARTS, MOST_RELAYS, MOST_TERMINALS};
 use crate::judge::{judge, Judgement};
 use crate::moves::{move_relay, Answer};
+use crate::report::{report, Report};
 use crate::runs::{run, RunAnswer, Word, NO_RELAY};
 use crate::tell::{divides, tell, Told};
 
 /// The longest log that a run takes.
 const LONGEST_LOG: usize = 65_536;
+
+/// The most buttons of a board that is reported on.
+const MOST_SET: usize = 12;
 
 /// A number for no; the place of a refused call is always 0.
 pub type No = u8;
@@ -55,6 +60,10 @@ pub struct Ran {
     pub before: usize,
     pub between: usize,
 }
+
+/// What a report answers: the number for no, if it is refused, and the figures,
+/// which are then all zeros.
+pub type Reported = (Option<No>, Report);
 
 impl HandedBoard {
     /// The board, if it breaks no rule of refusals 3 to 9 and 17 and carries
@@ -238,6 +247,28 @@ fn ran(answer: RunAnswer) -> Ran {
         before: answer.before,
         between: answer.between,
     }
+}
+
+/// Reports on all settings of a board's buttons, each run with a log of this
+/// length.
+pub fn report_call(board: &HandedBoard, length: u32) -> Reported {
+    match reportable(board, length as usize) {
+        Ok(board) => (None, report(&board, length as usize)),
+        Err(number) => (Some(number), Report::default()),
+    }
+}
+
+/// The board, if it is accepted and a report is made of it with a log of this
+/// length: 15, then 13, then 20.
+fn reportable(board: &HandedBoard, length: usize) -> Result<Board, No> {
+    let board = board.accepted()?;
+    if length > LONGEST_LOG {
+        return Err(13);
+    }
+    if board.buttons > MOST_SET {
+        return Err(20);
+    }
+    Ok(board)
 }
 
 #[cfg(test)]
@@ -572,5 +603,48 @@ mod tests {
         };
         assert_eq!(run_call(&h3, FRESH, &mut log), refused);
         assert!(log.iter().all(|&byte| byte == 77));
+    }
+
+    #[test]
+    fn reports_refuse_in_order() {
+        let refused = |number| (Some(number), Report::default());
+        let with = |relays, buttons| HandedBoard {
+            relays,
+            buttons,
+            ..h1()
+        };
+        // with two relays the second lacks its winding
+        for buttons in [1, 12, 13, 32, 33] {
+            for length in [0, 65_536, 65_537, u32::MAX] {
+                assert_eq!(report_call(&with(2, buttons), length), refused(15));
+            }
+        }
+        for buttons in [0, 33] {
+            assert_eq!(report_call(&with(1, buttons), 65_537), refused(15));
+        }
+        for buttons in [1, 12, 13, 32] {
+            for length in [65_537, 65_538, 1 << 17, 1 << 24, u32::MAX] {
+                assert_eq!(report_call(&with(1, buttons), length), refused(13));
+            }
+        }
+        for buttons in [13, 14, 31, 32] {
+            for length in [0, 1, 65_536] {
+                assert_eq!(report_call(&with(1, buttons), length), refused(20));
+            }
+        }
+    }
+
+    #[test]
+    fn a_report_on_h1() {
+        let reported = |length| {
+            let (refused, report) = report_call(&h1(), length);
+            assert_eq!(refused, None);
+            report.figures()
+        };
+        // pushed it draws, if there is room
+        assert_eq!(reported(0), [2, 1, 0, 0, 1, 0, 0, 0]);
+        for length in [1, 2, 65_536] {
+            assert_eq!(reported(length), [2, 2, 0, 0, 0, 1, 1, 1]);
+        }
     }
 }

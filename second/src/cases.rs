@@ -1,9 +1,9 @@
 //! Typed cases, each answered by a line: single judgements, checks of a
-//! terminal, moves and runs.
+//! terminal, moves, runs and reports.
 //!
 //! This is for comparing programs and is not in the rule book. A case is pairs
-//! of hex digits, and white space between them as one likes; `@`, `!`, `?`, `^`
-//! or `=` ends it.
+//! of hex digits, and white space between them as one likes; `@`, `!`, `?`,
+//! `^`, `=` or `%` ends it.
 //!
 //! - `@`, a judgement by the chains: a board file and, in the file's form of
 //!   numbers, which relays are drawn and which buttons pushed (a bit for each),
@@ -13,6 +13,8 @@
 //! - `^`, a move: three numbers of three bytes, highest first, which are the
 //!   drawn relays, the pushed buttons and the relay; then a board handed in.
 //! - `=`, a run: the same with the log's length for the relay.
+//! - `%`, a report: the same as for a run; the first two numbers are not looked
+//!   at.
 //!
 //! A board is handed in byte by byte: one each for T, R and B, two for C with
 //! the lower first, five for the start, lowest first (a bit for each relay),
@@ -20,7 +22,7 @@
 //! above 7 are taken as 7, as no part has them; missing bytes are 0.
 
 use crate::board::{Kind, Part, State, MOST_PARTS};
-use crate::calls::{check_call, judge_call, move_call, run_call, tell_call};
+use crate::calls::{check_call, judge_call, move_call, report_call, run_call, tell_call};
 use crate::calls::{Asked, HandedBoard, HandedState};
 use crate::file::read_board;
 use crate::judge::{Judgement, Verdict};
@@ -39,14 +41,15 @@ pub fn answers(text: &str) -> Option<String> {
     let mut lines = String::new();
     let mut rest = text.trim_start();
     while !rest.is_empty() {
-        let end = rest.find(['@', '!', '?', '^', '='])?;
+        let end = rest.find(['@', '!', '?', '^', '=', '%'])?;
         let case = bytes(&rest[..end])?;
         let line = match rest.as_bytes()[end] {
             b'@' => filed_case(&case, judge_line)?,
             b'!' => filed_case(&case, tell_line)?,
             b'?' => filed_case(&case, check_line)?,
             b'^' => move_case(&case),
-            _ => run_case(&case),
+            b'=' => run_case(&case),
+            _ => report_case(&case),
         };
         lines += &line;
         lines.push('\n');
@@ -182,7 +185,22 @@ fn run_case(case: &[u8]) -> String {
     line
 }
 
-/// What a move or a run is handed: a state, a number and a board.
+/// The answer to a report: the number for no, if it is refused, and the eight
+/// figures.
+fn report_case(case: &[u8]) -> String {
+    let (_, length, board) = handed(case);
+    let (refused, report) = report_call(&board, length);
+    let mut line = "reported".to_string();
+    if let Some(number) = refused {
+        line += &format!(" refused {number}");
+    }
+    for figure in report.figures() {
+        line += &format!(" {figure}");
+    }
+    line
+}
+
+/// What a move, a run or a report is handed: a state, a number and a board.
 fn handed(case: &[u8]) -> (HandedState, u32, HandedBoard) {
     let byte = |at: usize| case.get(at).copied().unwrap_or(0);
     let number = |at: usize| u32::from_be_bytes([0, byte(at), byte(at + 1), byte(at + 2)]);
@@ -423,6 +441,56 @@ mod tests {
     }
 
     #[test]
+    fn reports() {
+        let report = |length: &str, board: &str| format!("000000 000000 {length} {board} %\n");
+        let h1 = "reported 2 2 0 0 0 1 1 1";
+        for length in ["000001", "000002", "010000"] {
+            assert_answers(&report(length, H1_HANDED), &[h1]);
+        }
+        let spent = "reported 2 1 0 0 1 0 0 0";
+        assert_answers(&report("000000", H1_HANDED), &[spent]);
+        let buzz = "reported 1 0 1 0 0 2 2 0";
+        for length in ["000002", "000005", "010000"] {
+            assert_answers(&report(length, H3_HANDED), &[buzz]);
+        }
+        let spent = "reported 1 0 0 0 1 1 1 0";
+        assert_answers(&report("000001", H3_HANDED), &[spent]);
+        // two cases on one line
+        let both = report("000001", H1_HANDED).replace('\n', " ") + &report("000005", H3_HANDED);
+        assert_answers(&both, &[h1, buzz]);
+    }
+
+    #[test]
+    fn the_state_before_a_report_is_not_looked_at() {
+        for state in ["000001 000000", "000000 000001", "ffffff ffffff"] {
+            let text = format!("{state} 000001 {H1_HANDED} %");
+            assert_answers(&text, &["reported 2 2 0 0 0 1 1 1"]);
+        }
+    }
+
+    #[test]
+    fn reports_that_are_refused() {
+        let of = |relays: &str, buttons: &str| {
+            format!("03 {relays} {buttons} 02 00  0000000000  03 00 02 00  04 02 01 00")
+        };
+        for (length, board, number) in [
+            ("000000", of("02", "01"), 15),
+            ("010001", of("02", "0d"), 15),
+            ("000000", of("01", "21"), 15),
+            ("010001", of("01", "01"), 13),
+            ("010001", of("01", "0d"), 13),
+            ("ffffff", of("01", "20"), 13),
+            ("000000", of("01", "0d"), 20),
+            ("010000", of("01", "20"), 20),
+        ] {
+            let line = format!("reported refused {number} 0 0 0 0 0 0 0 0");
+            assert_answers(&format!("000000 000000 {length} {board} %"), &[&line]);
+        }
+        assert_answers("%", &["reported refused 15 0 0 0 0 0 0 0 0"]);
+        assert_answers(&format!("{ZERO} 02 %"), &["reported 1 1 0 0 0 0 0 0"]);
+    }
+
+    #[test]
     fn a_kind_above_7_stands_for_7_and_bytes_not_given_for_0() {
         let steel = format!("{ZERO} 03 01 00 02 00  0000000000  05 00 02 00  06 02 01 00 ^");
         assert_answers(&steel, &["moved conflict 0 0"]);
@@ -507,6 +575,7 @@ mod tests {
             "0@",
             "0g@",
             "00;",
+            "0%",
             &format!("{H1_FILE}@"),
             &format!("{H1_FILE} 00 00 00 00 @"),
             &format!("{H1_FILE} 00 00 00 00 00 00 @"),

@@ -108,13 +108,14 @@ impl Network {
     }
 
     /// For each node that steps with room lead to from the source, the node
-    /// before it; for the source, itself.
+    /// before it; for the source, itself. None is looked for after the sink.
     fn nodes_before(&self) -> Vec<Option<usize>> {
         let mut before = vec![None; self.nodes()];
         before[self.source()] = Some(self.source());
         let mut met = vec![self.source()];
         let mut left = 0;
-        while let Some(&node) = met.get(left) {
+        while before[self.sink()].is_none() && left < met.len() {
+            let node = met[left];
             left += 1;
             for (next, before) in before.iter_mut().enumerate() {
                 if before.is_none() && self.has_room(node, next) {

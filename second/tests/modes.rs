@@ -116,6 +116,26 @@ fn sessions_and_cases_of_request_a8() {
 }
 
 #[test]
+fn typed_cases_of_request_a10() {
+    let h5 = |buttons: &str| {
+        let parts = "03 00 02 00  03 00 03 01  05 02 01 00  06 03 01 00";
+        format!("04 01 {buttons} 04 00  00 00 00 00 00  {parts}")
+    };
+    let (two, thirteen) = (h5("02"), h5("0d"));
+    let text = format!("000000 000000 000001 {two} % 000001 000003 000000 {two} %\n");
+    let output = play(&["--cases"], text.as_bytes());
+    assert_eq!(output.status.code(), Some(0));
+    let answers = "reported 4 3 0 1 0 1 1 1\nreported 4 2 0 1 1 0 0 0\n";
+    assert_eq!(lines(&output), answers);
+    let text = format!("000000 000000 010000 {thirteen} % 000000 000000 010001 {thirteen} %");
+    let output = play(&["--cases"], text.as_bytes());
+    assert_eq!(output.status.code(), Some(0));
+    let zeros = "0 0 0 0 0 0 0 0";
+    let answers = format!("reported refused 20 {zeros}\nreported refused 13 {zeros}\n");
+    assert_eq!(lines(&output), answers);
+}
+
+#[test]
 fn other_arguments_get_the_usage() {
     for arguments in [
         &["--few"][..],

@@ -38,7 +38,7 @@ ELSEWHERE = {
 
 NAME = r"[^\W\d](?:[\w-]*\w)?"
 QUOTED = r"`[^`\n]+`"
-ENDINGS = ("py", "md", "txt", "antt", "rt", "rs", "hex", "lines", "words", "edit", "awk", "sh")
+ENDINGS = ("py", "md", "txt", "antt", "rt", "rs", "hex", "lines", "words", "page", "edit", "awk", "sh")
 
 
 def documents():

@@ -39,7 +39,11 @@ echo 'rt: herdspiral proved (1 s)'
 LOADER = '#!/bin/sh\n[ "$1" = --library-path ] || exit 99\nshift 2\nexec "$@"\n'
 EMULATOR = '#!/bin/sh\n: >"$KIT/emulated"\nexec "$@"\n'
 CAT = "#!/bin/sh\nexec cat\n"  # a program that prints the session's bytes
-ECHO = '#!/bin/sh\necho started >>"$KIT/starts"\nexec cat\n'  # one that notes besides that it was started
+# One that notes besides that it was started, and with which arguments.
+ECHO = """#!/bin/sh
+{ printf started; for word; do printf ' <%s>' "$word"; done; echo; } >>"$KIT/starts"
+exec cat
+"""
 TOOLS = ("od", "sed", "tr", "awk", "find", "uname", "readlink", "cat", "date", "flock", "mkdir", "mv", "rm", "cp", "sleep")
 AWKS = ("mawk", "gawk", "busybox awk", "original-awk")
 
@@ -146,7 +150,7 @@ class StandIn:
             os.remove(os.path.join(self.kit, name))
 
     def noted(self, name):
-        """The lines of a file in the kit's folder: `calls` of rt, or `starts` of the program."""
+        """The lines of a file in the kit's folder: `calls` of rt, or `starts` of the program, with its arguments."""
         path = os.path.join(self.kit, name)
         return open(path).read().split("\n")[:-1] if os.path.exists(path) else []
 

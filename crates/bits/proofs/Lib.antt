@@ -2,3 +2,4 @@
 pub mod BoolLaws
 pub mod SetLaws
 pub mod LowestLaws
+pub mod SumLaws

@@ -10,6 +10,7 @@
 --     lowestFrom s n         the lowest member of s from n up; where there is none, the larger of n and the room of a
 --                            word
 --     within s n             every member of s is below n
+--     sumBelow k s           the sum of 2 ^ n over those members n of s that are below k
 --     SetHas s n r           promise: `has` of s and n answers r
 --     SetWith s n r          promise: `with` of s and n answers r
 --     SetWithout s n r       promise: `without` of s and n answers r
@@ -57,6 +58,10 @@ lowestFrom s n = firstFrom (member s) (room - n) n
 
 unfoldable pub within : ℕ → ℕ → Bool
 within s n = ltb s (2 ^ n)
+
+unfoldable pub sumBelow : ℕ → ℕ → ℕ
+sumBelow zero s = 0
+sumBelow (suc k) s = sumBelow k s + cond (member s k) (2 ^ k) 0
 
 abbrev pub SetHas : ℕ → ℕ → Bool → Type 0
 SetHas s n r = r ≡ member s n

@@ -4,7 +4,7 @@ use mathlib.Core.Path.{_≡_, sym, ap, subst, _∙_}
 use mathlib.Core.List.{List}
 use Rattle.refusals.specs.Outcomes.{Outcome, refused}
 use Rattle.refusals.specs.Order.{against}
-use Rattle.refusals.proofs.OrderLaws.{StandsAgainst}
+use Rattle.refusals.proofs.OrderLaws.{StandsAgainst, against-itself}
 use Rattle.refusals.proofs.Told.{told-injective}
 use Rattle.number.proofs.FormExactly.{form-exactly}
 use Rattle.board.specs.declared.Board.{Board}
@@ -21,6 +21,7 @@ use Rattle.file_means.proofs.FileRefusals.{file-refused}
 use Rattle.judge_means.proofs.Eleven.{eleven-exactly}
 use Rattle.judge_means.proofs.Dividing.{nineteen-exactly}
 use Rattle.moves_means.proofs.SingleMoves.{move-eleven-exactly}
+use Rattle.report_means.proofs.AllSettings.{stands-against, twenty-exactly, refused-zeros}
 use Rattle.lines.specs.Lines.{toldLine}
 use Rattle.events.specs.Events.{Shown}
 use Rattle.session.specs.Carried.{toldSession}
@@ -31,7 +32,7 @@ use Rattle.session.proofs.ToldLaws.{session-told}
 use Rattle.demands.specs.EveryCallComesBack.{InOrder, AsLent, EveryCallComesBack, wordOf}
 use Rattle.demands.proofs.StandsLaws.{writing-stands, number-writing-stands, line-writing-stands}
 use Rattle.demands.proofs.StandsLaws.{nothing-written}
-use Rattle.demands.proofs.StandsLaws.{against-itself, push-stands, release-stands, move-stands, judge-stands}
+use Rattle.demands.proofs.StandsLaws.{push-stands, release-stands, move-stands, judge-stands}
 use Rattle.demands.proofs.StandsLaws.{judge-at-once-stands, check-stands, run-stands, next-line-stands}
 use Rattle.demands.proofs.StandsLaws.{next-lines-stand}
 use Rattle.demands.proofs.EventLineLaws.{ran-line-stands, event-line-stands, shown-untouched}
@@ -79,6 +80,7 @@ in-order = record {
   fourteen = fourteen-exactly;
   eighteen = eighteen-exactly;
   fifteen = fifteen-exactly;
+  twenty = twenty-exactly;
   writes-number = λ v out out′ at x wrote. told-first written wrote (number-writing-stands v out at);
   writes-line = λ l out out′ x wrote. told-first written wrote (line-writing-stands (toldLine l) out);
   writes = λ b out out′ w wrote. told-first written wrote (writing-stands b out);
@@ -89,6 +91,7 @@ in-order = record {
   checks = λ b h r k x a told. ap against told ∙ check-stands b h r k x;
   moves = λ b h r a told. told-first moved told (move-stands b h r);
   runs = λ b h log log′ a told. told-first ran told (run-stands b h log);
+  reports = stands-against;
   tells-run = λ b e h x told. told-first shown told (ran-line-stands b e h);
   tells-event = λ b e h v x told. told-first shown told (event-line-stands b h e v);
   hands = λ z s out out′ r told. told-first handed told (next-line-stands (toldSession z) s out);
@@ -116,6 +119,7 @@ as-lent = record {
   judges = λ b h r k w v n p told is. told-left judged told (judge-stands b h r k w) n p is;
   moves = λ b h r a n p told is. told-left moved told (move-stands b h r) n p is;
   runs = λ b h log log′ a n p told is. told-left ran told (run-stands b h log) n p is;
+  reports = refused-zeros;
   tells-run = λ b e h x n p told is.
       shown-untouched e h _ n p (told-left shown told (ran-line-stands b e h) n p is) is;
   tells-event = λ b e h v x n p told is.

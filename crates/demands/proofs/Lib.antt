@@ -6,4 +6,5 @@ pub mod AsTheModelSays
 pub mod LargerNeverChanges
 pub mod Starred
 pub mod InAnyOrder
+pub mod WhateverIsPushed
 pub mod OneAnswer

@@ -16,6 +16,7 @@ use Rattle.judge.proofs.ScannedLaws.{windings-told, asked-told}
 use Rattle.divide.proofs.AtOnceLaws.{judgement-told, checked-told}
 use Rattle.moves.proofs.MovingLaws.{move-told, moved-told}
 use Rattle.runs.proofs.RunningLaws.{ran-told}
+use Rattle.report.proofs.ReportLaws.{reported-told}
 use Rattle.lines.proofs.ToldLaws.{line-written-told}
 use Rattle.events.proofs.ToldLaws.{shown-told}
 use Rattle.session.proofs.ToldLaws.{session-told, handed-told}
@@ -119,6 +120,7 @@ one-answer = record {
   moves-after = λ b h r m. one-itself _;
   moves-move-relay = λ b h r. one-told _ moved-told _;
   runs-run = λ b h log. one-lent _ ran-told _;
+  report-report = λ b n. one-told _ reported-told _;
   lines-write-line = λ l out. one-written _ line-written-told _;
   events-run-line = λ b e h. one-told _ shown-told _;
   events-event-line = λ b e h v. one-told _ shown-told _;

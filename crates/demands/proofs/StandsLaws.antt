@@ -10,7 +10,7 @@ use Rattle.refusals.specs.Outcomes.{Outcome, given, refused, _>>_, _>>=_}
 use Rattle.refusals.specs.Refusals.{terminalBeyond}
 use Rattle.refusals.specs.Order.{Order, firstNo, answering, against}
 use Rattle.refusals.proofs.OutcomeLaws.{refused-never}
-use Rattle.refusals.proofs.OrderLaws.{StandsAgainst, answering-stands, asks-append}
+use Rattle.refusals.proofs.OrderLaws.{StandsAgainst, answering-stands, against-itself, asks-append}
 use Rattle.number.specs.Numbers.{numberLines, numberWriting}
 use Rattle.board.specs.declared.Board.{Board}
 use Rattle.state.specs.declared.State.{State}
@@ -73,10 +73,6 @@ left-stands : {A : Type 0} (h : Kept) (f : A → Kept) (o : Outcome A) → LeftS
 unfolding left
 left-stands h f (given a) = record { first = refl; left = λ n p e. absurd (refused-never n p a (sym e)) }
 left-stands h f (refused n p) = record { first = refl; left = λ m q e. refl }
-
-pub against-itself : (o : Outcome (Unit {0})) → against o ≡ o
-against-itself (given u) = refl
-against-itself (refused n p) = refl
 
 against-then : {A : Type 0} (o : Outcome (Unit {0})) (a : A) → against (o >> given a) ≡ o
 against-then (given u) a = refl

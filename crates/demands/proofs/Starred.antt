@@ -31,6 +31,9 @@ use Rattle.moves.specs.Moving.{movable, moving}
 use Rattle.runs.specs.Looks.{lookFrom}
 use Rattle.runs.specs.Runs.{sameState, metFrom, runFrom}
 use Rattle.runs.specs.Running.{runnable, ran, running}
+use Rattle.report.specs.Settings.{allRuns}
+use Rattle.report.specs.Figures.{endedWith, totalMoves, mostMoves, firstWith, figuresOf}
+use Rattle.report.specs.Reporting.{reportable, reporting}
 use Rattle.lines.specs.Texts.{digitsOf, decimal}
 use Rattle.lines.specs.Lines.{lineText}
 use Rattle.events.specs.Events.{eventAt, pressing, ranLine, pressedLine, eventLine}
@@ -52,7 +55,8 @@ unfolding firstNo kindOf below form placed numberAt encode numberBytes member in
     flooded isIn canFollow tries beyond chains crosses someCrosses beside shows firstShown effort places weighed
     verdictBy inSets windingOf windingsAt shunted judgedBy windingFor judging reachedWithout servedOn served linkedTo
     linked shuntedBy liveBy divides lowestDividing judgedAtOnce judgingAtOnce checking regularMove steelMove takenLive
-    stepBy stepOf movable moving lookFrom sameState metFrom runFrom runnable ran running digitsOf decimal lineText
+    stepBy stepOf movable moving lookFrom sameState metFrom runFrom runnable ran running allRuns endedWith totalMoves
+    mostMoves firstWith figuresOf reportable reporting digitsOf decimal lineText
     eventAt pressing ranLine pressedLine eventLine pastAllowance headAt linesFrom headLines sessionLines lineTexts
     printed sessionText
 starred-boards =
@@ -80,4 +84,6 @@ starred-boards =
     & (λ w most. any-text h5File (1 ∷ 3 ∷ []) h5 w refl most (omega arith) (tt & tt & tt & tt))
     & (λ a k told. told) & (λ a k told. told) & (λ a k told. told) & (λ a k told. told) & (λ a k told. told) & refl
     & (λ a told. told) & (λ a told. told) & (λ a told. told) & (λ a told. told) & (λ a told. told) & (λ a told. told)
-    & (λ a told. told) & (λ a told. told) & (λ a k told. told) & tt
+    & (λ a told. told) & (λ a told. told) & (λ a k told. told)
+    & (λ r told. told) & (λ r told. told) & (λ r told. told) & (λ r told. told) & (λ r told. told) & (λ r told. told)
+    & (λ r told. told) & (λ r told. told) & (λ r told. told) & (λ r told. told) & (λ r told. told) & tt

@@ -7,32 +7,33 @@
 --         `in-order`: the first line that holds, of each call's lines in the stated order. What stands behind some of
 --         these lines: `forms`, a number that is cut, too long, too large or not shortest; `fifteen`, a board that
 --         breaks a rule; `fourteen`, a state with what the board lacks; `eighteen`, kept sets that don't belong to
---         board and state; `eleven`, a winding that isn't there; `nineteen`, a terminal handed in that isn't
+--         board and state; `eleven`, a winding that isn't there; `nineteen`, a terminal handed in that isn't;
+--         `twenty`, more buttons than a report takes
 --     "with the state as given and no byte of a lent log or output buffer written."
 --         `as-lent`
 -- The words:
---     `numberLines` and the like  calls, since request A6: 15, 14, 18, 13, 11, 19, 7, 12, 16, those that apply. Each
---                                 call is defined by its lines in that order, each a test that must hold and the number
---                                 for no; `usableLines` are the three that every call on a board and a state with kept
---                                 sets has first. `firstNo` of them is the first whose test fails, by its number at
---                                 place 0, or nothing
+--     `numberLines` and the like  calls, since request A10: 15, 14, 18, 13, 20, 11, 19, 7, 12, 16, those that apply.
+--                                 Each call is defined by its lines in that order, each a test that must hold and the
+--                                 number for no; `usableLines` are the three that every call on a board and a state
+--                                 with kept sets has first. `firstNo` of them is the first whose test fails, by its
+--                                 number at place 0, or nothing
 --     wordOf l                    the word of the run that a line tells of, or what refused it
 --     InOrder                     what stands against each call is the first of its lines whose test fails; a file is
 --                                 refused exactly by the first line of the table that holds, from left to right, and a
---                                 number by itself exactly by its form (1, 2); 11, 14, 15, 18 and 19 are given exactly
---                                 if their lines hold
+--                                 number by itself exactly by its form (1, 2); 11, 14, 15, 18, 19 and 20 are given
+--                                 exactly if their lines hold
 --     AsLent                      "A refused read returns number, place and the empty board (T 2, else 0). A refused
 --                                 call returns the number, place 0 and the state it was given, if it takes one; a
 --                                 refused run also 0 moves and relay 255, a refused judgement no verdict, effort 0 and
 --                                 length 0, a refused write 0 bytes written. Log and output buffer stay as lent." And
---                                 with the state its kept sets (request A5); and of a refused run 0 moves up to an
---                                 earlier state and 0 between (request A8)
+--                                 with the state its kept sets (request A5); of a refused run 0 moves up to an earlier
+--                                 state and 0 between (request A8); and a refused report is all zeros (request A10)
 --     EveryCallComesBack          the demand
 use Prim.Native.Nat.{ℕ}
 use mathlib.Core.Path.{_≡_}
 use mathlib.Core.List.{List, []}
 use Rattle.refusals.specs.Outcomes.{Outcome, refused}
-use Rattle.refusals.specs.Order.{firstNo, against}
+use Rattle.refusals.specs.Order.{firstNo, against, toldAgainst}
 use Rattle.number.specs.declared.NumberWritten.{NumberWritten}
 use Rattle.number.specs.Numbers.{numberLines, toldNumberWritten, WritesNumber}
 use Rattle.number.specs.FormExactly.{FormExactly}
@@ -65,6 +66,9 @@ use Rattle.moves_means.specs.SingleMoves.{MoveElevenExactly}
 use Rattle.runs.specs.declared.Ran.{Ran}
 use Rattle.runs.specs.Runs.{noRelay, Ending}
 use Rattle.runs.specs.Running.{runLines, toldEnding, Runs}
+use Rattle.report.specs.declared.Reported.{Reported}
+use Rattle.report.specs.Reporting.{reportLines, Reports}
+use Rattle.report_means.specs.AllSettings.{TwentyExactly, RefusedZeros}
 use Rattle.lines.specs.declared.Line.{Line}
 use Rattle.lines.specs.declared.LineWritten.{LineWritten}
 use Rattle.lines.specs.Lines as told
@@ -91,6 +95,7 @@ pub record InOrder : Type 0 where
   pub fourteen : FourteenExactly
   pub eighteen : EighteenExactly
   pub fifteen : FifteenExactly
+  pub twenty : TwentyExactly
   pub writes-number : (v : ℕ) (out out′ : List ℕ) (at : ℕ) (x : NumberWritten)
       → WritesNumber v out at x out′
       → against (toldNumberWritten x) ≡ firstNo (numberLines v out at)
@@ -121,6 +126,9 @@ pub record InOrder : Type 0 where
   pub runs : (b : Board) (h : Kept) (log log′ : List ℕ) (a : Ran)
       → Runs b h log a log′
       → against (toldEnding (a .word)) ≡ firstNo (runLines b h log)
+  pub reports : (b : Board) (n : ℕ) (r : Reported)
+      → Reports b n r
+      → toldAgainst (r .against) ≡ firstNo (reportLines b n)
   -- a session's log of 4,096 is never too long (13), and the run after a push or release is never refused
   pub tells-run : (b : Board) (e : ℕ) (h : Kept) (x : Shown)
       → RunLine b e h x
@@ -173,6 +181,7 @@ pub record AsLent : Type 0 where
       → toldEnding (a .word) ≡ refused n p
       → (a .kept ≡ h)
       × ((a .moves ≡ 0) × ((a .relay ≡ noRelay) × ((a .earlier ≡ 0) × ((a .between ≡ 0) × (log′ ≡ log)))))
+  pub reports : RefusedZeros
   pub tells-run : (b : Board) (e : ℕ) (h : Kept) (x : Shown) (n p : ℕ)
       → RunLine b e h x
       → wordOf (toldLine (x .line)) ≡ refused n p

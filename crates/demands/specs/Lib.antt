@@ -4,4 +4,5 @@ pub mod AsTheModelSays
 pub mod LargerNeverChanges
 pub mod Starred
 pub mod InAnyOrder
+pub mod WhateverIsPushed
 pub mod OneAnswer

@@ -49,6 +49,7 @@ use Rattle.moves.specs.declared.Move.{Move}
 use Rattle.moves.specs.Steps.{StepsRelay, AfterMove}
 use Rattle.moves.specs.Moving.{Moves}
 use Rattle.runs.specs.Running.{Runs}
+use Rattle.report.specs.Reporting.{Reports}
 use Rattle.lines.specs.declared.Line.{Line}
 use Rattle.lines.specs.Lines.{WritesLine}
 use Rattle.events.specs.declared.Event.{Event}
@@ -132,6 +133,7 @@ pub record OneAnswer : Type 0 where
   pub moves-after : (b : Board) (h : Kept) (r : ℕ) (m : Move) → One (AfterMove b h r m)
   pub moves-move-relay : (b : Board) (h : Kept) (r : ℕ) → One (Moves b h r)
   pub runs-run : (b : Board) (h : Kept) (log : List ℕ) → OneLent (Runs b h log)
+  pub report-report : (b : Board) (n : ℕ) → One (Reports b n)
   pub lines-write-line : (l : Line) (out : List ℕ) → OneLent (WritesLine l out)
   pub events-run-line : (b : Board) (e : ℕ) (h : Kept) → One (RunLine b e h)
   pub events-event-line : (b : Board) (e : ℕ) (h : Kept) (v : Event) → One (EventLine b e h v)

@@ -32,6 +32,7 @@
 --       moved b h r t o             `move_relay` of relay r: what it came to, o, and what it leaves, t
 --       ran b h log x               `run` over the lent log: all that it tells
 --       pressed p b h n t o         `push` of button n, `release` if not p: what it came to, o, and what it leaves, t
+--       reported b n f o            `report` with logs of length n: the figures f, and what it came to, o
 --       prints s x                  a session and all that it prints
 --       printsAtEveryW f es x       the session of the board file f and the events es at every W: all that it prints
 --     judges b s k w j              `judged` in state s, with its sets
@@ -42,6 +43,9 @@
 --                                   the log l afterwards; it met no state
 --     buzzed b s log i d t l        `ran` likewise: buzz, i moves up to the earlier state and d between, the state t
 --                                   with its sets, and the log l afterwards
+--     figures k i z c s m t f       the figures of a report: k settings, i ended idle, z with buzz, c in conflict and s
+--                                   spent, m moves in all, t the most, f the first setting that has it
+--     reports b n f                 `reported` of a report that is not refused
 --     RowHolds x                    whatever the row's call answers under its promise, it is the row's answer; what a
 --                                   session prints is computed (`lines` and `all-lines` of `AsTheModelSays` say that
 --                                   the calls hand out just these lines)
@@ -64,7 +68,9 @@
 --     crossed                       two relays, each fed through the other's lower contact
 --     ordered                       rows on request A9: two relays that can move at once, on `pair`, where the order of
 --                                   moves does not matter, and on `crossed`, where it does
---     Starred                       every row of the nine holds
+--     twoFeeds, thirteen            a relay that either of two buttons feeds; thirteen buttons and nothing else
+--     allSet                        rows on request A10: reports on all settings
+--     Starred                       every row of the ten holds
 use Prim.Native.Nat.{ℕ, _+_, _-_, _≤_}
 use mathlib.Core.Path.{_≡_}
 use mathlib.Core.List.{List, [], _∷_, _++_}
@@ -75,7 +81,7 @@ use Rattle.lists.specs.Members.{All}
 use Rattle.refusals.specs.Outcomes.{Outcome, given, refused}
 use Rattle.refusals.specs.Refusals.{inputEnds, badForm, outOfRange, noSuchKind, noSuchName, windingLacking}
 use Rattle.refusals.specs.Refusals.{noSuchWinding, alreadySo, stateBeyondBoard, brokenBoard, markedTwice, foreignSets}
-use Rattle.refusals.specs.Refusals.{terminalBeyond}
+use Rattle.refusals.specs.Refusals.{terminalBeyond, logTooLong, tooManyButtons}
 use Rattle.number.specs.Numbers.{currentWidth}
 use Rattle.kinds.specs.declared.Kind.{Kind}
 use Rattle.kinds.specs.declared.Kind.the-variants.{Wire, Upper, Lower, Button, Regular, Drawing, Dropping, Mark}
@@ -109,6 +115,10 @@ use Rattle.runs.specs.Runs.{Ending, idle, spent, conflict, buzz, noRelay}
 use Rattle.runs.specs.declared.Ran.{Ran}
 use Rattle.runs.specs.Running as told
 use Rattle.runs.specs.Running.{unrun, toldRan, Runs}
+use Rattle.report.specs.declared.Figures.{Figures}
+use Rattle.report.specs.declared.Reported.{Reported}
+use Rattle.report.specs.Figures.{noFigures}
+use Rattle.report.specs.Reporting.{toldReported, Reports}
 use Rattle.session.specs.Sessions.{sessionText}
 use Rattle.session_means.specs.AnyAllowance.{sessionOf}
 
@@ -275,6 +285,7 @@ pub data Row : Type 0 where
   moved : Board → Kept → ℕ → Kept → Outcome step.Move → Row
   ran : Board → Kept → List ℕ → told.Ran → Row
   pressed : Bool → Board → Kept → ℕ → Kept → Outcome (Unit {0}) → Row
+  reported : Board → ℕ → Figures → Outcome (Unit {0}) → Row
   prints : List ℕ → List ℕ → Row
   printsAtEveryW : List ℕ → List ℕ → List ℕ → Row
 
@@ -300,6 +311,13 @@ buzzed b s log i d t l =
     ran b (keptAt b s) log
     (record { word = given buzz; moves = i + d; kept = keptAt b t; relay = noRelay; earlier = i; between = d; log = l })
 
+abbrev pub figures : ℕ → ℕ → ℕ → ℕ → ℕ → ℕ → ℕ → ℕ → Figures
+figures k i z c s m t f =
+    record { settings = k; idle = i; buzz = z; conflict = c; spent = s; moves = m; most = t; first = f }
+
+abbrev pub reports : Board → ℕ → Figures → Row
+reports b n f = reported b n f (given tt)
+
 abbrev pub RowHolds : Row → Type 0
 RowHolds (reads s b o) = (x : BoardRead) → Reads s x → toldBoardRead x ≡ (b, o)
 RowHolds (judged b h k w j) = (v : code-verdict.Verdict) → Judges b h 0 k w v → toldVerdict v ≡ j
@@ -309,6 +327,7 @@ RowHolds (moved b h r t o) = (a : Moved) → Moves b h r a → toldMoved a ≡ (
 RowHolds (ran b h log x) = (a : Ran) (k : List ℕ) → Runs b h log a k → toldRan a k ≡ x
 RowHolds (pressed true b h n t o) = (x : Pressed) → Pushes b h n x → toldPressed x ≡ (t, o)
 RowHolds (pressed false b h n t o) = (x : Pressed) → Releases b h n x → toldPressed x ≡ (t, o)
+RowHolds (reported b n f o) = (r : Reported) → Reports b n r → toldReported r ≡ (f, o)
 RowHolds (prints s x) = sessionText currentEdition s ≡ x
 RowHolds (printsAtEveryW f es x) =
     (w : ℕ) → w ≤ currentWidth .largest → sessionText currentEdition (sessionOf f w es) ≡ x
@@ -495,5 +514,27 @@ ordered =
     ∷ runs crossed emptyState (lent 2) idle 1 (drawn0 emptyState) noRelay (128 ∷ 7 ∷ [])
     ∷ []
 
+-- T 3, buttons 0 and 1 on 0-2, relay 0's winding on 2-1
+abbrev pub twoFeeds : Board
+twoFeeds = board 3 1 2 (part (Button 0) 0 2 ∷ part (Button 1) 0 2 ∷ part (Regular 0) 2 1 ∷ [])
+
+abbrev pub thirteen : Board
+thirteen = board 2 0 13 []
+
+abbrev pub allSet : List Row
+allSet =
+    reports h0 0 (figures 1 1 0 0 0 0 0 0)
+    ∷ reports h3 5 (figures 1 0 1 0 0 2 2 0)
+    ∷ reports h3 2 (figures 1 0 1 0 0 2 2 0)
+    ∷ reports h3 1 (figures 1 0 0 0 1 1 1 0)
+    ∷ reports h5 2 (figures 4 3 0 1 0 1 1 1)
+    ∷ reports h5 0 (figures 4 2 0 1 1 0 0 0)
+    ∷ reports twoFeeds 1 (figures 4 4 0 0 0 3 1 1)
+    ∷ reports takenOver 65536 (figures 1 1 0 0 0 1 1 0)
+    ∷ reported (started 1 h1) 65537 noFigures (refused brokenBoard 0)
+    ∷ reported thirteen 65537 noFigures (refused logTooLong 0)
+    ∷ reported thirteen 65536 noFigures (refused tooManyButtons 0)
+    ∷ []
+
 abbrev pub Starred : Type 0
-Starred = All RowHolds (starred ++ besides ++ marks ++ shunts ++ kept ++ divided ++ ignored ++ met ++ ordered)
+Starred = All RowHolds (starred ++ besides ++ marks ++ shunts ++ kept ++ divided ++ ignored ++ met ++ ordered ++ allSet)

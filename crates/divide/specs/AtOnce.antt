@@ -2,7 +2,7 @@
 -- (a pole may be x) such that, with x taken out, no remaining end of the winding reaches a remaining pole over
 -- conducting parts (an end that is a pole reaches it). The new judge says shunted first, else live, else dead with the
 -- lowest such x. .. Anyone may also hand in a terminal from the workshop's own notes, and a small check accepts it only
--- if it divides, and always then." Calls, since that request: 15, 14, 18, 13, 11, 19, 7, 12, 16, those that apply.
+-- if it divides, and always then."
 --     divides near v x              x divides winding v, by the sets `near`: with x taken out, no remaining pole
 --                                   reaches a remaining end
 --     lowestDividing near t v       the lowest of t terminals that divides it; where none does, t

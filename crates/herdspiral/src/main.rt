@@ -1,6 +1,7 @@
 // The session program: reads a session from standard input and writes its lines on standard output, and once more on
 // standard error those that say `refused`. What the lines are and how they fill a buffer is the library's to say (crate
-// `session`); here is only the reading and the writing.
+// `session`); here is only the reading and the writing. Started with an argument, the length of a log, it prints the
+// page of all settings of the board at the start of the input instead (`page.rt`).
 ghost use Prim.Native.Nat.{suc, _+_, _<_, _≤_};
 ghost use mathlib.Core.Bool.{true, false, not};
 ghost use mathlib.Core.Path.{_≡_};
@@ -16,6 +17,8 @@ use libc::STDIN_FILENO;
 use libc::STDOUT_FILENO;
 use session::HandOut;
 use session::Session;
+
+mod page;
 
 // One byte more than the longest input: these tell that an input is too long, and no more is read.
 const INPUT_ROOM: usize = LONGEST_INPUT + 1;
@@ -175,13 +178,44 @@ fn tell_unread(read: Input)
 }
 
 // Tells that a write failed.
-fn tell_unwritten(printed: Printed)
-    requires { ⌜ printed .written ≡ false ⌝ }
+fn tell_unwritten(written: bool)
+    requires { ⌜ written ≡ false ⌝ }
 {
     io::write_all(
         STDERR_FILENO,
         b"herdspiral: standard output cannot be written\n",
     );
+}
+
+// Tells that the argument is no length of a log.
+fn tell_no_number() {
+    io::write_all(
+        STDERR_FILENO,
+        b"herdspiral: the length of the log is not a decimal number\n",
+    );
+}
+
+// Runs the session that was read into the start of a buffer, and says whether all was written.
+fn run_session(buffer: &[u8], read: Input) -> bool
+    requires { ⌜ read .failed ≡ false ⌝ }
+    requires { ⌜ read .length ≤ length (now buffer) ⌝ }
+{
+    let mut lines = [0u8; LINES_ROOM];
+    let printed = print_session(buffer, read, &mut lines);
+    printed.written
+}
+
+// Reports on the board that was read into the start of a buffer, and says whether all was written.
+fn report_settings(buffer: &[u8], read: Input) -> bool
+    requires { ⌜ read .failed ≡ false ⌝ }
+    requires { ⌜ read .length ≤ length (now buffer) ⌝ }
+{
+    let asked = page::asked_length();
+    if !asked.is_number {
+        tell_no_number();
+        return true;
+    }
+    page::print_page(&buffer[..read.length], asked.length)
 }
 
 fn main() {
@@ -191,9 +225,12 @@ fn main() {
         tell_unread(read);
         return;
     }
-    let mut lines = [0u8; LINES_ROOM];
-    let printed = print_session(&input, read, &mut lines);
-    if !printed.written {
-        tell_unwritten(printed);
+    let written = if os::arg_count() < 2 {
+        run_session(&input, read)
+    } else {
+        report_settings(&input, read)
+    };
+    if !written {
+        tell_unwritten(written);
     }
 }

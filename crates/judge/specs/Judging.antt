@@ -1,7 +1,6 @@
--- Judging. Calls, since request A6: 15, 14, 18, 13, 11, 19, 7, 12, 16, those that apply; "a refused judgement no
--- verdict, effort 0 and length 0". Request A4: "a winding is shunted if its two ends are linked through conducting
--- parts none of which is a winding, over any terminals. A shunted winding is dead with effort 0, so any allowance
--- settles it".
+-- Judging: "a refused judgement no verdict, effort 0 and length 0". Request A4: "a winding is shunted if its two ends
+-- are linked through conducting parts none of which is a winding, over any terminals. A shunted winding is dead with
+-- effort 0, so any allowance settles it".
 --     shunted k v           by the sets k, one end of winding v reaches the other over parts that are no winding
 --     judgedBy k t v w      the verdict on winding v within the allowance w, by the sets k: dead with effort 0 if it is
 --                           shunted, else by the chains of t terminals

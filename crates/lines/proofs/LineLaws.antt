@@ -1,7 +1,7 @@
 -- The laws of lines: how long they are, what writing one answers and leaves, and how `put_event` and `put_closing` put
 -- one together.
 -- Later crates cite those of the first two sections, and nothing of the definitions' text.
-use mathlib.Core.Path.{_≡_, refl, sym, ap₂, _∙_}
+use mathlib.Core.Path.{_≡_, refl, sym, ap, ap₂, _∙_}
 use mathlib.Core.List.{List, [], _∷_, _++_}
 use mathlib.Core.Logic.{inl, inr}
 use Prim.Native.Nat.{ℕ, _+_, _≤_, _<_}
@@ -15,6 +15,7 @@ use Rattle.refusals.specs.declared.Refusal.{Refusal}
 use Rattle.refusals.specs.Outcomes.{Outcome, given, refused}
 use Rattle.refusals.specs.Refusals.{bufferTooShort}
 use Rattle.refusals.specs.Order.{firstNo}
+use Rattle.refusals.proofs.OutcomeLaws.{given-injective}
 use Rattle.number.proofs.Buffers.{sets-at-zero}
 use Rattle.runs.specs.declared.Ending as code-ending
 use Rattle.runs.specs.declared.Ending.the-variants.{Idle, Spent, Conflict, Buzz, Refused}
@@ -22,7 +23,11 @@ use Rattle.runs.specs.Runs.{Ending, idle, spent, conflict, buzz}
 use Rattle.runs.specs.Running.{toldEnding}
 use Rattle.runs.proofs.Ending.{the-type}
 use Rattle.lines.specs.Texts.{space, decimal, spaced, ended, refusedText, wordText, mostDigits}
+use Rattle.lines.specs.declared.Line as code
+use Rattle.lines.specs.declared.LineWritten.{LineWritten}
+use Rattle.lines.specs.declared.LineWritten.the-variants.{Length}
 use Rattle.lines.specs.Lines.{Line, event, closing, lineText, longestLine, lineLines, lineWriting}
+use Rattle.lines.specs.Lines.{toldLine, toldLineWritten, WritesLine}
 use Rattle.lines.specs.Pieces.{Put, endedBy}
 use Rattle.lines.proofs.DecimalLaws.{decimal-few}
 use Rattle.lines.proofs.PieceLaws.{put-room, put-piece-next}
@@ -66,6 +71,15 @@ pub line-written : (l : Line) (out : List ℕ) → longestLine ≤ length out
     (given (length (lineText l)), lineText l ++ drop (length (lineText l)) out)
 unfolding lineWriting
 line-written l out room = rw (line-room out room)
+
+-- a line that a call wrote lies within its buffer
+pub line-inside : (l : code.Line) (out : List ℕ) (r : LineWritten) (out′ : List ℕ) → WritesLine l out r out′
+    → longestLine ≤ length out → (n : ℕ) → r ≡ Length n → n ≤ length out′
+line-inside l out r out′ wrote room n is =
+    let text = lineText (toldLine l) in
+    let told = wrote ∙ line-written (toldLine l) out room in
+    let same = given-injective n (length text) (sym (ap toldLineWritten is) ∙ (λ i. told i .0)) in
+    omega (arith, same, ap length (λ i. told i .1), length-append text (drop (length text) out))
 
 pub line-refused : (l : Line) (out : List ℕ) → length out < longestLine
     → _≡_ {A = Outcome ℕ × List ℕ} (lineWriting l out) (refused bufferTooShort 0, out)

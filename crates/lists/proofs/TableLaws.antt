@@ -5,7 +5,7 @@ use Prim.Native.Nat.{ℕ, zero, suc, _+_, _≤_, _<_}
 use native.Mathlib.Omega.{arith}
 use mathlib.Core.Path.{_≡_, refl, sym, ap, _∙_}
 use mathlib.Core.Logic.{_⊎_, inl, inr, ⊎-elim}
-use mathlib.Core.List.{List}
+use mathlib.Core.List.{List, _∷_, _++_}
 use lib.ListN.{length, getD, set, replicate, length-set, length-replicate, getD-replicate}
 use lib.Seq.{getD-set-same, getD-set-other}
 use Rattle.lists.specs.Tables.{tableFrom}
@@ -30,6 +30,18 @@ module _ {A : Type 0} (f : ℕ → A) where
   table-beyond zero n i d past = refl
   table-beyond (suc k) n zero d past = absurd (omega arith)
   table-beyond (suc k) n (suc i) d past = table-beyond k (suc n) i d (omega arith)
+
+  -- the numbers from n up, and those after them
+  pub table-append : (j k n : ℕ) → tableFrom f j n ++ tableFrom f k (n + j) ≡ tableFrom f (j + k) n
+  unfolding tableFrom
+  table-append zero k n =
+      let here : n + 0 ≡ n = omega arith in
+      let all : 0 + k ≡ k = omega arith in
+      rw (here, all)
+  table-append (suc j) k n =
+      let past : n + suc j ≡ suc n + j = omega arith in
+      let all : suc j + k ≡ suc (j + k) = omega arith in
+      rw (past, all) (ap (λ (l : List A). f n ∷ l) (table-append j k (suc n)))
 
 -- ---- an array that is filled
 

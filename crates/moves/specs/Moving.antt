@@ -1,7 +1,6 @@
--- A single move of a named relay, as a call. Calls, since request A6: 15, 14, 18, 13, 11, 19, 7, 12, 16, those that
--- apply; "A single move of a named relay answers drew, dropped, rests, .. or conflict, and changes the state only for
--- the first two", since request A7 without undecided; "A refused call returns the number, place 0 and the state it was
--- given", and the kept sets.
+-- A single move of a named relay, as a call: "A single move of a named relay answers drew, dropped, rests, .. or
+-- conflict, and changes the state only for the first two", since request A7 without undecided; "A refused call returns
+-- the number, place 0 and the state it was given", and the kept sets.
 --     moveLines b h r              the lines of moving relay r of board b from h: 15, 14, 18, 11
 --     movable b h r                what stands against it
 --     moving b h r                 the call: where it is not refused, it leaves the state that the relay's step makes,

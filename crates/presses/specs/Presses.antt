@@ -1,5 +1,5 @@
--- Pushing and releasing a button. Calls, since request A6: 15, 14, 18, 13, 11, 19, 7, 12, 16, those that apply; "A
--- refused call returns the number, place 0 and the state it was given", and the kept sets.
+-- Pushing and releasing a button. "A refused call returns the number, place 0 and the state it was given", and the kept
+-- sets.
 --     pressLines b h n t          the lines of setting button n of board b from h, where the test t says that it is not
 --                                 so already: 15, 14, 18, 7, 12
 --     pushLines, releaseLines     those of a push and of a release

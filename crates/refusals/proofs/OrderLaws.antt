@@ -47,6 +47,11 @@ all-hold ls ms h = by (firstNo ls) (sym (asks-append ls ms) ∙ h)
     by (given u) e = (refl, e)
     by (refused n p) e = absurd (refused-never n p tt e)
 
+-- a call that gives nothing came to what stands against it
+pub against-itself : (o : Outcome (Unit {0})) → against o ≡ o
+against-itself (given u) = refl
+against-itself (refused n p) = refl
+
 -- what stands against a call that answers x, and so came to `word x`: o; and where it is refused, x is So
 pub record StandsAgainst {A R : Type 0} (word : R → Outcome A) (So : R → Type 0) (o : Outcome (Unit {0}))
     (x : R) : Type 0 where

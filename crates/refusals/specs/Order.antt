@@ -1,6 +1,6 @@
--- The order in which a call refuses: since request A6 it is 15, 14, 18, 13, 11, 19, 7, 12, 16, those that apply. Rule
--- book: "A number is given exactly when its line holds and none before it in the order does." Each call is defined by
--- its lines in that order.
+-- The order in which a call refuses: since request A10 it is 15, 14, 18, 13, 20, 11, 19, 7, 12, 16, those that apply.
+-- Rule book: "A number is given exactly when its line holds and none before it in the order does." Each call is defined
+-- by its lines in that order.
 --     Order                 a call's lines, each a test that must hold and the number for no where it does not
 --     firstNo ls            what stands against a call of the lines ls: the first of them whose test fails, by its
 --                           number at place 0, or nothing

@@ -76,3 +76,7 @@ foreignSets = 18
 -- 19: terminal handed in is not below T (request A6)
 abbrev pub terminalBeyond : ℕ
 terminalBeyond = 19
+
+-- 20: a report is asked of a board with more than 12 buttons (request A10)
+abbrev pub tooManyButtons : ℕ
+tooManyButtons = 20

@@ -41,6 +41,8 @@ pub const FOREIGN_SETS: u32 = 18;
 
 pub const TERMINAL_BEYOND: u32 = 19;
 
+pub const TOO_MANY_BUTTONS: u32 = 20;
+
 // A refusal: its number and the place it speaks of.
 pub struct Refusal {
     pub number: u32,

@@ -2,6 +2,7 @@
 use crate::move_case;
 use crate::press_case;
 use crate::print;
+use crate::report_case;
 use crate::run_case;
 ghost use Prim.Native.Nat.{_≤_};
 
@@ -86,6 +87,7 @@ fn end_case(character: u8, case: Case, bytes: &[u8; CASE_ROOM])
         b'+' | b'-' => press_case::answer_press(sets, asked, character == b'+'),
         b'^' => move_case::answer_move(sets, asked),
         b'=' => run_case::answer_run(sets, asked),
+        b'%' => report_case::answer_report(asked),
         _ => print::bad_text(),
     }
 }

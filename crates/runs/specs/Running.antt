@@ -1,8 +1,8 @@
--- A run, as a call over a lent log. Calls, since request A6: 15, 14, 18, 13, 11, 19, 7, 12, 16, those that apply; "A
--- refused call returns the number, place 0 and the state it was given, if it takes one; a refused run also 0 moves and
--- relay 255", and the kept sets; "Log and output buffer stay as lent"; "The answer has the word, the moves made, the
--- state, and the relay that stopped it (255 for idle). Log bytes beyond the moves made stay unwritten." Since request
--- A8 it has the moves made up to the earlier state and the moves between too, 0 and 0 unless it is buzz.
+-- A run, as a call over a lent log. "A refused call returns the number, place 0 and the state it was given, if it takes
+-- one; a refused run also 0 moves and relay 255", and the kept sets; "Log and output buffer stay as lent"; "The answer
+-- has the word, the moves made, the state, and the relay that stopped it (255 for idle). Log bytes beyond the moves
+-- made stay unwritten." Since request A8 it has the moves made up to the earlier state and the moves between too, 0 and
+-- 0 unless it is buzz.
 --     longestLog             the longest log that a run takes (13)
 --     runLines b h log       the lines of a run of board b from h over the lent log: 15, 14, 18, 13
 --     runnable b h log       what stands against it by these

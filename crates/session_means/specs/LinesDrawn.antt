@@ -13,6 +13,7 @@ use Prim.Native.Nat.{ℕ, zero, suc}
 use mathlib.Core.Path.{_≡_}
 use mathlib.Core.Bool.{true}
 use mathlib.Core.List.{List, [], _∷_}
+use Rattle.bits.specs.Sets.{sumBelow}
 use Rattle.refusals.specs.Outcomes.{given, Found}
 use Rattle.board.specs.declared.Board.{Board}
 use Rattle.state.specs.States.{stateFine}
@@ -22,7 +23,6 @@ use Rattle.board_reader.specs.Editions.{currentEdition}
 use Rattle.lines.specs.Lines.{Line, event, closing}
 use Rattle.events.specs.declared.Event.{Event}
 use Rattle.events.specs.Events.{Shown, ranLine, eventLine}
-use Rattle.events.specs.Drawn.{sumBelow}
 use Rattle.session.specs.Sessions.{headAt, sessionLines}
 
 abbrev pub EventShows : Board → ℕ → Kept → Shown → Type 0
@@ -32,7 +32,7 @@ EventShows b (suc e) t x = (v : Event) × (x ≡ eventLine b (suc e) t v)
 pub record PrintsSum (b : Board) (e : ℕ) (t : Kept) (l : Line) (d : ℕ) (u : Kept) : Type 0 where
   pub shows : EventShows b e t (l, u)
   pub fits : stateFine (b .counts) (u .state) ≡ true
-  pub sum : d ≡ sumBelow (b .counts .relays) (u .state)
+  pub sum : d ≡ sumBelow (b .counts .relays) (u .state .drawn)
 
 abbrev pub SumsFrom : Board → ℕ → Kept → List Line → Type 0
 SumsFrom b e t [] = Unit {0}
