@@ -21,17 +21,17 @@ use Rattle.report.specs.BothWays.{oneRun, added, followed, Within}
 
 -- ---- some runs with others after them
 
-pub ended-append : (e : Ending) (xs ys : List Run) → endedWith e (xs ++ ys) ≡ endedWith e xs + endedWith e ys
+ended-append : (e : Ending) (xs ys : List Run) → endedWith e (xs ++ ys) ≡ endedWith e xs + endedWith e ys
 unfolding endedWith
 ended-append e [] ys = omega arith
 ended-append e (x ∷ xs) ys = omega (arith, ended-append e xs ys)
 
-pub total-append : (xs ys : List Run) → totalMoves (xs ++ ys) ≡ totalMoves xs + totalMoves ys
+total-append : (xs ys : List Run) → totalMoves (xs ++ ys) ≡ totalMoves xs + totalMoves ys
 unfolding totalMoves
 total-append [] ys = omega arith
 total-append (x ∷ xs) ys = omega (arith, total-append xs ys)
 
-pub most-append : (xs ys : List Run) → mostMoves (xs ++ ys) ≡ max (mostMoves xs) (mostMoves ys)
+most-append : (xs ys : List Run) → mostMoves (xs ++ ys) ≡ max (mostMoves xs) (mostMoves ys)
 unfolding mostMoves
 most-append [] ys = omega arith
 most-append (x ∷ xs) ys = omega (arith, most-append xs ys)
@@ -61,7 +61,7 @@ first-sooner (x ∷ xs) ys least = by-test (eqb (movesIn x) (max (movesIn x) (mo
     let rest : max (movesIn x) (mostMoves xs) ≡ mostMoves xs = omega (arith, other) in
     rw (is, rest) (ap suc (first-sooner xs ys (omega (arith, rest, least)))))
 
-pub first-append : (xs ys : List Run) → firstWith (mostMoves (xs ++ ys)) (xs ++ ys)
+first-append : (xs ys : List Run) → firstWith (mostMoves (xs ++ ys)) (xs ++ ys)
     ≡ cond (ltb (mostMoves xs) (mostMoves ys)) (length xs + firstWith (mostMoves ys) ys)
     (firstWith (mostMoves xs) xs)
 first-append xs ys =

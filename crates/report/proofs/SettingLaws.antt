@@ -31,7 +31,7 @@ abbrev with-buttons : State → ℕ → State
 with-buttons s p = record { drawn = s .drawn; pushed = p }
 
 module _ {A : Type 0} (f : State → A) where
-  pub both-ways-table : (k : ℕ) (s : State) → k ≤ room → ((n : ℕ) → n < k → isPushed s n ≡ false)
+  both-ways-table : (k : ℕ) (s : State) → k ≤ room → ((n : ℕ) → n < k → isPushed s n ≡ false)
       → bothWays f k s ≡ tableFrom (λ p. f (with-buttons s p)) (2 ^ k) (s .pushed)
   unfolding bothWays tableFrom
   both-ways-table zero s fits free = refl

@@ -8,7 +8,7 @@ use mathlib.Core.List.{List, [], _∷_}
 use lib.Dec.{leb}
 use lib.ListN.{length, getD}
 use borrow.Author.Tests.{leb-true, leb-false, le-leb, lt-leb}
-use Rattle.bits.proofs.SetLaws.{member-below}
+use Rattle.bits.proofs.SetLaws.{member-below, below-member}
 use Rattle.bits.proofs.SumLaws.{set-is-sum}
 use Rattle.lists.proofs.TableLaws.{table-length, table-at}
 use Rattle.refusals.specs.Outcomes.{given, refused}
@@ -27,15 +27,16 @@ use Rattle.runs.specs.declared.Ran.{Ran}
 use Rattle.runs.specs.Runs.{Ending, idle, conflict, buzz, Run}
 use Rattle.runs.specs.Running.{longestLog}
 use Rattle.runs.proofs.RunningLaws.{runnable-log}
-use Rattle.runs_means.proofs.AnswerLaws.{accepted-ran, answer-moves}
+use Rattle.runs_means.proofs.AnswerLaws.{accepted-ran, answer-word, answer-moves}
 use Rattle.runs_means.proofs.ExtendLaws.{Final, GoesOn, run-goes-on}
 use Rattle.report.specs.declared.Reported.{Reported}
 use Rattle.report.specs.Settings.{mostReported, settings, startAt, runAt, allRuns}
 use Rattle.report.specs.Figures.{movesIn, endedWith, mostMoves, figuresOf}
 use Rattle.report.specs.Reporting.{reportLines, Reports}
 use Rattle.report.proofs.ReportLaws.{reportable-can, reporting-by, report-stands}
-use Rattle.report_means.specs.AllSettings.{AcceptedReport, SettingRun, EachFigure, TwentyExactly}
-use Rattle.report_means.specs.AllSettings.{RefusedZeros, SettingsCounted, AddUp, MostSays, MostMoves, LargerLog}
+use Rattle.report_means.specs.AllSettings.{AcceptedReport, SettingRun, EachFigure, EachRun}
+use Rattle.report_means.specs.AllSettings.{TwentyExactly, RefusedZeros, SettingsCounted, AddUp, MostSays}
+use Rattle.report_means.specs.AllSettings.{MostMoves, LargerLog}
 use Rattle.report_means.proofs.GrowLaws.{words-add, ended-grows, total-grows, most-grows}
 use Rattle.report_means.proofs.FirstMost.{first-inside, none-more, first-has, before-first}
 
@@ -92,25 +93,25 @@ module _ (b : Board) (n : ℕ) where
   unfolding allRuns
   runs-place k inside = table-at (runAt b n) (settings b) k (runAt b n 0) inside
 
-  -- the start state with the buttons of a setting pushed fits the board
-  start-fits : (k : ℕ) → boardFine b ≡ true → k < settings b → stateFine (b .counts) (startAt b k) ≡ true
-  start-fits k fine inside =
-      members-state-fits (b .counts) (startAt b k) (record {
-        drawn-below = state-fits-members (b .counts) (freshState b) (fresh-fits b fine) .drawn-below;
-        pushed-below = λ m is. member-below k (b .counts .buttons) m inside is;
-      })
+-- the start state with the buttons of a setting pushed fits the board
+start-fits : (b : Board) (k : ℕ) → boardFine b ≡ true → k < settings b → stateFine (b .counts) (startAt b k) ≡ true
+start-fits b k fine inside =
+    members-state-fits (b .counts) (startAt b k) (record {
+      drawn-below = state-fits-members (b .counts) (freshState b) (fresh-fits b fine) .drawn-below;
+      pushed-below = λ m is. member-below k (b .counts .buttons) m inside is;
+    })
 
-  -- so its run is not refused, and answers the table's moves
-  setting-moves : (k : ℕ) (a : Ran) (l : List ℕ) → AcceptedReport b n → k < settings b → SettingRun b n k a l
-      → a .moves ≡ movesIn (getD (allRuns b n) k (runAt b n 0))
-  setting-moves k a l taken inside x =
-      let can = reportable-can b n taken in
-      let h = keptAt b (startAt b k) in
-      let fits = usable-fine b (startAt b k) (can .fine) (start-fits k (can .fine) inside) in
-      let taken = runnable-log b h (x .log) fits (omega (arith, x .long, can .short)) in
-      answer-moves (keptAt b) a l _ (x .log) (accepted-ran b h (x .log) a l (x .runs) taken)
-      ∙ ap (λ (m : ℕ). movesIn (runAt b m k)) (x .long)
-      ∙ ap movesIn (sym (runs-place k inside))
+-- so its run is not refused, and answers what the table has
+pub each-run : EachRun
+each-run b n k a l taken inside x =
+    let can = reportable-can b n taken in
+    let h = keptAt b (startAt b k) in
+    let fits = usable-fine b (startAt b k) (can .fine) (start-fits b k (can .fine) inside) in
+    let runs = runnable-log b h (x .log) fits (omega (arith, x .long, can .short)) in
+    let told = accepted-ran b h (x .log) a l (x .runs) runs in (
+      answer-word (keptAt b) a l _ (x .log) told ∙ ap (λ (m : ℕ). given (runAt b m k .word)) (x .long),
+      answer-moves (keptAt b) a l _ (x .log) told ∙ ap (λ (m : ℕ). movesIn (runAt b m k)) (x .long),
+    )
 
 pub settings-counted : SettingsCounted
 unfolding figuresOf
@@ -118,7 +119,10 @@ settings-counted b n r told taken = rw (each-figure b n r told taken) (record {
   many = runs-length b n;
   alone = λ none. runs-length b n ∙ ap (λ (k : ℕ). 2 ^ k) none;
   sum = λ k inside. set-is-sum (b .counts .buttons) k (rw (sym (runs-length b n)) inside);
-  own = λ k m inside is. member-below k (b .counts .buttons) m (rw (sym (runs-length b n)) inside) is;
+  every = λ k. (
+    λ inside m is. member-below k (b .counts .buttons) m (rw (sym (runs-length b n)) inside) is,
+    λ own. omega (arith, runs-length b n, below-member k (b .counts .buttons) own),
+  );
 })
 
 pub add-up : AddUp
@@ -147,8 +151,9 @@ most-moves b n r told taken =
     rw (each-figure b n r told taken) (record {
       inside = first-inside (allRuns b n) some;
       each = λ k a l inside x.
+          let within : k < settings b = rw (sym (runs-length b n)) inside in
           most-says (allRuns b n) (runAt b n 0) k (a .moves) some inside
-          (setting-moves b n k a l taken (rw (sym (runs-length b n)) inside) x);
+          (each-run b n k a l taken within x .1 ∙ ap movesIn (sym (runs-place b n k within)));
     })
 
 -- ---- a larger log

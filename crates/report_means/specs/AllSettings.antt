@@ -5,11 +5,13 @@
 --     SettingRun b n k a l    the run from the start state with exactly the buttons of setting k pushed, over a log of
 --                             length n, answers a and leaves the log as l
 --     EachFigure              each figure of a report that is not refused is that of the runs of all settings
+--     EachRun                 and these are what `run` answers of each setting: the word, and so many moves
 --     TwentyExactly           a report is refused by 20 exactly if the board breaks no rule, the log is not too long,
 --                             and there are more than 12 buttons
 --     RefusedZeros            a refused report is all zeros
 --     Settings b f            there are 2 to the B, of a board without buttons one; each is the sum of 2 to the numbers
---                             of the buttons that it pushes, which are the board's
+--                             of the buttons that it pushes; and they are "every combination": a number is a setting
+--                             exactly if each button that it pushes is the board's
 --     SettingsCounted         so it is in each report
 --     AddUp                   the four counts add up to the settings
 --     MostSays f k m          of a setting k whose run makes m moves: these are no more than the most; they are the
@@ -34,11 +36,11 @@ use Rattle.board.specs.Rules.{boardFine}
 use Rattle.state.specs.States.{isPushed}
 use Rattle.kept.specs.Kept.{keptAt}
 use Rattle.runs.specs.declared.Ran.{Ran}
-use Rattle.runs.specs.Running.{longestLog, Runs}
+use Rattle.runs.specs.Running.{longestLog, toldEnding, Runs}
 use Rattle.report.specs.declared.Figures.{Figures}
 use Rattle.report.specs.declared.Reported.{Reported}
-use Rattle.report.specs.Settings.{mostReported, startAt, allRuns}
-use Rattle.report.specs.Figures.{figuresOf, noFigures}
+use Rattle.report.specs.Settings.{mostReported, settings, startAt, runAt, allRuns}
+use Rattle.report.specs.Figures.{movesIn, figuresOf, noFigures}
 use Rattle.report.specs.Reporting.{reportable, Reports}
 
 abbrev pub AcceptedReport : Board → ℕ → Type 0
@@ -52,6 +54,14 @@ pub record SettingRun (b : Board) (n k : ℕ) (a : Ran) (l : List ℕ) : Type 0 
 abbrev pub EachFigure : Type 0
 EachFigure =
     (b : Board) (n : ℕ) (r : Reported) → Reports b n r → AcceptedReport b n → r .figures ≡ figuresOf (allRuns b n)
+
+abbrev pub EachRun : Type 0
+EachRun =
+    (b : Board) (n k : ℕ) (a : Ran) (l : List ℕ)
+    → AcceptedReport b n
+    → k < settings b
+    → SettingRun b n k a l
+    → (toldEnding (a .word) ≡ given (runAt b n k .word)) × (a .moves ≡ movesIn (runAt b n k))
 
 abbrev pub TwentyExactly : Type 0
 TwentyExactly =
@@ -71,7 +81,7 @@ pub record Settings (b : Board) (f : Figures) : Type 0 where
   pub many : f .settings ≡ 2 ^ (b .counts .buttons)
   pub alone : b .counts .buttons ≡ 0 → f .settings ≡ 1
   pub sum : (k : ℕ) → k < f .settings → k ≡ sumBelow (b .counts .buttons) (startAt b k .pushed)
-  pub own : (k m : ℕ) → k < f .settings → isPushed (startAt b k) m ≡ true → m < b .counts .buttons
+  pub every : (k : ℕ) → k < f .settings ↔ ((m : ℕ) → isPushed (startAt b k) m ≡ true → m < b .counts .buttons)
 
 abbrev pub SettingsCounted : Type 0
 SettingsCounted = (b : Board) (n : ℕ) (r : Reported) → Reports b n r → AcceptedReport b n → Settings b (r .figures)
