@@ -2,6 +2,8 @@
 use crate::print;
 use board::Board;
 use board_reader::ReadAnswer;
+use std::io;
+use std::io::Write;
 
 // More bytes than any file has.
 const ROOM_TO_SPARE: usize = 1_040;
@@ -18,60 +20,69 @@ fn byte_wanted(file: &[u8], count: usize, at: usize) -> u8 {
 }
 
 // Whether a buffer holds so many bytes of a file and is untouched after them.
-fn holds_file(out: &[u8], file: &[u8], count: usize) -> bool {
-    let mut i = 0;
-    while i < out.len() {
-        if out[i] != byte_wanted(file, count, i) {
+fn holds_file(buffer: &[u8], file: &[u8], count: usize) -> bool {
+    for (at, byte) in buffer.iter().enumerate() {
+        if *byte != byte_wanted(file, count, at) {
             return false;
         }
-        i += 1;
     }
-    count <= i
+    count <= buffer.len()
 }
 
 // Writes the board of a file that ends at a place, and prints whether the buffer then has the file's bytes.
-fn write_back(board: Board, file: &[u8], next: usize, out: &mut [u8]) {
-    print::counted(b"read ", next as u64);
-    let answer = board_writer::write(board, out);
-    print::written_length(b" wrote ", answer);
-    if holds_file(out, file, next) {
-        print::words(b" same\n");
+fn write_back<W: Write>(
+    out: &mut W,
+    board: Board,
+    file: &[u8],
+    next: usize,
+    buffer: &mut [u8],
+) -> io::Result<()> {
+    print::counted(out, "read ", next as u64)?;
+    let answer = board_writer::write(board, buffer);
+    print::written_length(out, " wrote ", answer)?;
+    if holds_file(buffer, file, next) {
+        print::words(out, " same\n")
     } else {
-        print::words(b" differs\n");
+        print::words(out, " differs\n")
     }
 }
 
 // Writes the board of a file of this length into one byte less of a buffer, and prints what came of it.
-fn write_short(board: Board, length: usize, out: &mut [u8]) {
+fn write_short<W: Write>(
+    out: &mut W,
+    board: Board,
+    length: usize,
+    buffer: &mut [u8],
+) -> io::Result<()> {
     if length == 0 {
-        return;
+        return Ok(());
     }
-    if out.len() < length {
-        return;
+    if buffer.len() < length {
+        return Ok(());
     }
     let room = length - 1;
-    let answer = board_writer::write(board, &mut out[..room]);
-    print::written_length(b"short ", answer);
-    if holds_file(out, b"", 0) {
-        print::words(b" kept\n");
+    let answer = board_writer::write(board, &mut buffer[..room]);
+    print::written_length(out, "short ", answer)?;
+    if holds_file(buffer, b"", 0) {
+        print::words(out, " kept\n")
     } else {
-        print::words(b" changed\n");
+        print::words(out, " changed\n")
     }
 }
 
 // Reads a board file, and writes the board back or into a buffer that is too short.
-pub fn answer_file(file: &[u8], short: bool) {
+pub fn answer_file<W: Write>(out: &mut W, file: &[u8], short: bool) -> io::Result<()> {
     let board_read = board_reader::read(file);
     let answer = board_read.answer;
     match answer {
-        ReadAnswer::Refused(refused) => print::read_refusal(refused),
+        ReadAnswer::Refused(refused) => print::read_refusal(out, refused),
         ReadAnswer::Read(next) => {
             let board = board_read.board;
-            let mut out = [UNTOUCHED; ROOM_TO_SPARE];
+            let mut buffer = [UNTOUCHED; ROOM_TO_SPARE];
             if short {
-                write_short(board, next, &mut out);
+                write_short(out, board, next, &mut buffer)
             } else {
-                write_back(board, file, next, &mut out);
+                write_back(out, board, file, next, &mut buffer)
             }
         }
     }

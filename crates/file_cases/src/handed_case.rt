@@ -10,6 +10,8 @@ use crate::print;
 use board::{Board, Counts, MOST_PARTS, Part};
 use board_writer::{LONGEST_FILE, Written};
 use kinds::Kind;
+use std::io;
+use std::io::Write;
 
 // The byte at a place; 0 where none is given.
 fn byte_at(bytes: &[u8], at: usize) -> u8 {
@@ -55,10 +57,8 @@ fn handed_board(bytes: &[u8]) -> Board {
     let start = handed_start(bytes);
     let first = handed_part(bytes, 10);
     let mut parts = [first; 256];
-    let mut i = 1;
-    while i < MOST_PARTS {
+    for i in 1..MOST_PARTS {
         parts[i] = handed_part(bytes, 10 + 4 * i);
-        i += 1;
     }
     Board {
         counts,
@@ -76,10 +76,10 @@ fn write_any(board: Board, out: &mut [u8]) -> Written
 }
 
 // Writes the board handed in.
-pub fn answer_board(bytes: &[u8]) {
+pub fn answer_board<W: Write>(out: &mut W, bytes: &[u8]) -> io::Result<()> {
     let board = handed_board(bytes);
-    let mut out = [0u8; LONGEST_FILE];
-    let answer = write_any(board, &mut out);
-    print::written_length(b"write ", answer);
-    print::words(b"\n");
+    let mut buffer = [0u8; LONGEST_FILE];
+    let answer = write_any(board, &mut buffer);
+    print::written_length(out, "write ", answer)?;
+    print::words(out, "\n")
 }
