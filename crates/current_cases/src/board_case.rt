@@ -2,26 +2,40 @@
 use crate::{divide_case, judge_case, print};
 use board::Board;
 use board_reader::ReadAnswer;
+use std::io;
+use std::io::Write;
 
 // Answers what is asked of a board by the numbers from a place on, as this character wants.
-fn answer_asked(character: u8, board: Board, sets: &[u8], bytes: &[u8], start: usize) {
+fn answer_asked<W: Write>(
+    out: &mut W,
+    character: u8,
+    board: Board,
+    sets: &[u8],
+    bytes: &[u8],
+    start: usize,
+) -> io::Result<()> {
     match character {
-        b'@' => judge_case::answer_judgement(board, sets, bytes, start),
-        b'!' => divide_case::answer_judgement(board, sets, bytes, start),
-        _ => divide_case::answer_check(board, sets, bytes, start),
+        b'@' => judge_case::answer_judgement(out, board, sets, bytes, start),
+        b'!' => divide_case::answer_judgement(out, board, sets, bytes, start),
+        _ => divide_case::answer_check(out, board, sets, bytes, start),
     }
 }
 
 // Answers the case that this character ends; where its board is refused, prints that.
-pub fn answer_case(character: u8, sets: &[u8], bytes: &[u8]) {
+pub fn answer_case<W: Write>(
+    out: &mut W,
+    character: u8,
+    sets: &[u8],
+    bytes: &[u8],
+) -> io::Result<()> {
     let board_read = board_reader::read(bytes);
     let answer = board_read.answer;
     match answer {
-        ReadAnswer::Refused(refused) => print::read_refusal(refused),
+        ReadAnswer::Refused(refused) => print::read_refusal(out, refused)?,
         ReadAnswer::Read(next) => {
             let board = board_read.board;
-            answer_asked(character, board, sets, bytes, next);
+            answer_asked(out, character, board, sets, bytes, next)?;
         }
     }
-    print::words(b"\n");
+    print::words(out, "\n")
 }

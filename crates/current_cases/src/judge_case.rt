@@ -2,55 +2,67 @@
 use crate::{asked, print};
 use board::Board;
 use search::{Finding, PLACES, Verdict};
+use std::io;
+use std::io::Write;
 
 // Prints one of a chain's places: its terminal, or past the length that it is used although it must not be.
-fn print_place(terminal: u8, at: usize, length: usize) {
+fn print_place<W: Write>(out: &mut W, terminal: u8, at: usize, length: usize) -> io::Result<()> {
     if at < length {
-        print::counted(b" ", terminal as u64);
+        print::counted(out, " ", terminal as u64)
     } else if terminal != 0 {
-        print::words(b" and more");
+        print::words(out, " and more")
+    } else {
+        Ok(())
     }
 }
 
 // Prints the chain that a verdict shows, if it has a length, and looks at all its places.
-fn print_chain(terminals: [u8; 64], length: usize) {
+fn print_chain<W: Write>(out: &mut W, terminals: [u8; 64], length: usize) -> io::Result<()> {
     if length != 0 {
-        print::counted(b" ", length as u64);
-        print::words(b":");
+        print::counted(out, " ", length as u64)?;
+        print::words(out, ":")?;
     }
-    let mut i = 0;
-    while i < PLACES {
-        print_place(terminals[i], i, length);
-        i += 1;
+    for i in 0..PLACES {
+        print_place(out, terminals[i], i, length)?;
     }
+    Ok(())
 }
 
 // Prints a verdict; the effort of a refusal is 0, and is printed only if it is not.
-fn print_verdict(verdict: Verdict) {
+fn print_verdict<W: Write>(out: &mut W, verdict: Verdict) -> io::Result<()> {
     let effort = verdict.effort as u64;
     let finding = verdict.finding;
     match finding {
-        Finding::Live => print::counted(b"judged live ", effort),
-        Finding::Dead => print::counted(b"judged dead ", effort),
-        Finding::Undecided => print::counted(b"judged undecided ", effort),
+        Finding::Live => print::counted(out, "judged live ", effort)?,
+        Finding::Dead => print::counted(out, "judged dead ", effort)?,
+        Finding::Undecided => print::counted(out, "judged undecided ", effort)?,
         Finding::Refused(refused) => {
-            print::call_refusal(b"judged refused ", refused);
+            print::call_refusal(out, "judged refused ", refused)?;
             if effort != 0 {
-                print::counted(b" effort ", effort);
+                print::counted(out, " effort ", effort)?;
             }
         }
     }
     let terminals = verdict.terminals;
-    print_chain(terminals, verdict.length);
+    print_chain(out, terminals, verdict.length)
 }
 
 // Judges as the numbers from a place on ask, the allowance last, which must end the case.
-pub fn answer_judgement(board: Board, sets: &[u8], bytes: &[u8], start: usize) {
+pub fn answer_judgement<W: Write>(
+    out: &mut W,
+    board: Board,
+    sets: &[u8],
+    bytes: &[u8],
+    start: usize,
+) -> io::Result<()> {
     let winding = asked::winding_asked(board, sets, bytes, start);
     let allowance = asked::number_asked(bytes, winding.next);
     if allowance.next != bytes.len() {
-        return print::bad_case();
+        return print::bad_case(out);
     }
     let which = winding.which;
-    print_verdict(judge::judge(board, winding.kept, winding.relay, which, allowance.value));
+    print_verdict(
+        out,
+        judge::judge(board, winding.kept, winding.relay, which, allowance.value),
+    )
 }

@@ -16,11 +16,17 @@ mod judge_case;
 mod print;
 mod typed;
 
-use libc::STDIN_FILENO;
+use std::io;
+use std::io::{BufWriter, Read, Write};
 
-// Of a text longer than the buffer the rest is not taken, and has no answers.
-fn main() {
-    let mut text = io::large_buffer();
-    let length = io::read_full(STDIN_FILENO, &mut text);
-    typed::take_text(&text[..length]);
+// The longest text that is taken.
+const LONGEST_TEXT: u64 = 65_536;
+
+// Of a text longer than that the rest is not taken, and has no answers.
+fn main(rt: HostRuntime) -> io::Result<()> {
+    let mut text = Vec::new(rt.alloc());
+    rt.reader().take(LONGEST_TEXT).read_to_end(&mut text)?;
+    let mut out = BufWriter::new(rt.alloc(), io::writer(&rt))?;
+    typed::take_text(&mut out, &text)?;
+    out.flush()
 }

@@ -69,10 +69,8 @@ pub fn handed_board(bytes: &[u8]) -> Board {
     let start = handed_start(bytes);
     let first = handed_part(bytes, 19);
     let mut parts = [first; 256];
-    let mut i = 1;
-    while i < MOST_PARTS {
+    for i in 1..MOST_PARTS {
         parts[i] = handed_part(bytes, 19 + 4 * i);
-        i += 1;
     }
     Board {
         counts,

@@ -22,15 +22,13 @@ fn typed_sets(bytes: &[u8]) -> Sets {
     let mut near = [0u64; 64];
     let mut bare = [0u64; 64];
     let many = bytes.len() / NEIGHBOUR_BYTES;
-    let mut i = 0;
-    while i < many {
+    for i in 0..many {
         let at = NEIGHBOUR_BYTES * i;
         if bytes[at] == 0 {
             add(&mut near, bytes[at + 1], bytes[at + 2]);
         } else {
             add(&mut bare, bytes[at + 1], bytes[at + 2]);
         }
-        i += 1;
     }
     Sets { near, bare }
 }

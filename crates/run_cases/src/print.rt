@@ -1,34 +1,36 @@
-// Words, numbers and refusals on standard output.
-use libc::STDOUT_FILENO;
+// Words, numbers and refusals, as they are printed. An error is the writer's, and what was printed before it stands.
 use refusals::Refusal;
 use state::State;
+use std::io;
+use std::io::Write;
 
 // Prints some words.
-pub fn words(text: &[u8]) {
-    io::write_all(STDOUT_FILENO, text);
+pub fn words<W: Write>(out: &mut W, text: &str) -> io::Result<()> {
+    out.write_all(text.as_bytes())
 }
 
 // Prints a label and a number.
-pub fn counted(label: &[u8], n: u64) {
-    words(label);
-    io::print_decimal(STDOUT_FILENO, n);
+pub fn counted<W: Write>(out: &mut W, label: &str, n: u64) -> io::Result<()> {
+    write!(out, "{label}{n}")
 }
 
 // Prints a label and the number of a refusal by a call; its place is 0, and is printed only if it is not.
-pub fn call_refusal(label: &[u8], refused: Refusal) {
-    counted(label, refused.number as u64);
+pub fn call_refusal<W: Write>(out: &mut W, label: &str, refused: Refusal) -> io::Result<()> {
+    counted(out, label, refused.number as u64)?;
     if refused.place != 0 {
-        counted(b" ", refused.place as u64);
+        counted(out, " ", refused.place as u64)
+    } else {
+        Ok(())
     }
 }
 
 // Prints the drawn relays and the pushed buttons of a state, each as a set.
-pub fn state(left: State) {
-    counted(b" ", left.drawn);
-    counted(b" ", left.pushed);
+pub fn state<W: Write>(out: &mut W, left: State) -> io::Result<()> {
+    counted(out, " ", left.drawn)?;
+    counted(out, " ", left.pushed)
 }
 
 // Says that the text of a case is malformed.
-pub fn bad_text() {
-    words(b"bad text\n");
+pub fn bad_text<W: Write>(out: &mut W) -> io::Result<()> {
+    words(out, "bad text\n")
 }

@@ -3,15 +3,15 @@ use crate::print;
 use board::Board;
 use kept::Kept;
 use neighbours::{PLACES, Sets};
+use std::io;
+use std::io::Write;
 
 // Whether two rows of sets are the same.
 fn same_row(row: [u64; 64], other: [u64; 64]) -> bool {
-    let mut i = 0;
-    while i < PLACES {
+    for i in 0..PLACES {
         if row[i] != other[i] {
             return false;
         }
-        i += 1;
     }
     true
 }
@@ -30,35 +30,34 @@ fn same(sets: Sets, others: Sets) -> bool {
 }
 
 // Prints a label and each set of a row that is not empty, as its terminal and the sum of 2 to each of its members.
-fn print_row(label: &[u8], row: [u64; 64]) {
-    print::words(label);
-    let mut i = 0;
-    while i < PLACES {
+fn print_row<W: Write>(out: &mut W, label: &str, row: [u64; 64]) -> io::Result<()> {
+    print::words(out, label)?;
+    for i in 0..PLACES {
         if row[i] != 0 {
-            print::counted(b" ", i as u64);
-            print::counted(b"=", row[i]);
+            print::counted(out, " ", i as u64)?;
+            print::counted(out, "=", row[i])?;
         }
-        i += 1;
     }
+    Ok(())
 }
 
 // Prints the sets that a call hands back, and ends the line: whether they are those that it was given, whether they
 // are the board's own in the state that it hands back, and each set.
-pub fn print_sets(board: Board, given: Kept, left: Kept) {
+pub fn print_sets<W: Write>(out: &mut W, board: Board, given: Kept, left: Kept) -> io::Result<()> {
     let sets = left.sets;
     if same(sets, given.sets) {
-        print::words(b" sets given");
+        print::words(out, " sets given")?;
     } else {
-        print::words(b" sets changed");
+        print::words(out, " sets changed")?;
     }
     if same(sets, neighbours::neighbours(board, left.state)) {
-        print::words(b" own");
+        print::words(out, " own")?;
     } else {
-        print::words(b" foreign");
+        print::words(out, " foreign")?;
     }
     let near = sets.near;
-    print_row(b" near", near);
+    print_row(out, " near", near)?;
     let bare = sets.bare;
-    print_row(b" bare", bare);
-    print::words(b"\n");
+    print_row(out, " bare", bare)?;
+    print::words(out, "\n")
 }

@@ -3,35 +3,37 @@
 use crate::{handed_case, print};
 use refusals::Against;
 use report::Figures;
+use std::io;
+use std::io::Write;
 
 // Prints the number that a report is refused by, where it is.
-fn print_against(against: Against) {
+fn print_against<W: Write>(out: &mut W, against: Against) -> io::Result<()> {
     match against {
-        Against::Nothing => {}
-        Against::Refused(refused) => print::call_refusal(b" refused ", refused),
+        Against::Nothing => Ok(()),
+        Against::Refused(refused) => print::call_refusal(out, " refused ", refused),
     }
 }
 
 // Prints the figures.
-fn print_figures(figures: Figures) {
-    print::counted(b" ", figures.settings as u64);
-    print::counted(b" ", figures.idle as u64);
-    print::counted(b" ", figures.buzz as u64);
-    print::counted(b" ", figures.conflict as u64);
-    print::counted(b" ", figures.spent as u64);
-    print::counted(b" ", figures.moves as u64);
-    print::counted(b" ", figures.most as u64);
-    print::counted(b" ", figures.first as u64);
+fn print_figures<W: Write>(out: &mut W, figures: Figures) -> io::Result<()> {
+    print::counted(out, " ", figures.settings as u64)?;
+    print::counted(out, " ", figures.idle as u64)?;
+    print::counted(out, " ", figures.buzz as u64)?;
+    print::counted(out, " ", figures.conflict as u64)?;
+    print::counted(out, " ", figures.spent as u64)?;
+    print::counted(out, " ", figures.moves as u64)?;
+    print::counted(out, " ", figures.most as u64)?;
+    print::counted(out, " ", figures.first as u64)
 }
 
 // Reports on a board, and prints what the report answers.
-pub fn answer_report(bytes: &[u8]) {
+pub fn answer_report<W: Write>(out: &mut W, bytes: &[u8]) -> io::Result<()> {
     let board = handed_case::handed_board(bytes);
     let room = handed_case::three_bytes_at(bytes, 6) as usize;
     let reported = report::report(board, room);
-    print::words(b"reported");
+    print::words(out, "reported")?;
     let against = reported.against;
-    print_against(against);
-    print_figures(reported.figures);
-    print::words(b"\n");
+    print_against(out, against)?;
+    print_figures(out, reported.figures)?;
+    print::words(out, "\n")
 }

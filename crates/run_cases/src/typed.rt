@@ -1,7 +1,9 @@
 // The text of the cases, taken one character after the other; each case is answered where it ends.
-ghost use Rattle.std.specs.Prelude.{◌≤◌};
+ghost use Rattle.std.specs.Prelude.{◌≤◌, IfOk};
 
 use crate::{move_case, press_case, print, report_case, run_case};
+use std::io;
+use std::io::Write;
 
 // The most bytes of a case; digits beyond them are dropped.
 const CASE_ROOM: usize = 8_192;
@@ -48,45 +50,49 @@ fn fresh_case() -> Case
 }
 
 // The case after a colon, which changes nothing before the first digit, and else stands after whole bytes and once.
-fn end_sets(case: Case) -> Case
+fn end_sets<W: Write>(out: &mut W, case: Case) -> io::Result<Case>
     requires { case.digits ≤ 16384 }
-    ensures sets_fit { result.sets ≤ result.digits }
-    ensures digits_fit { result.digits ≤ 16384 }
+    ensures sets_fit { IfOk result (λ now. now.sets ≤ now.digits) }
+    ensures digits_fit { IfOk result (λ now. now.digits ≤ 16384) }
 {
     let digits = case.digits;
     if case.sets != 0 {
-        print::bad_text();
-        return fresh_case();
+        print::bad_text(out)?;
+        return Ok(fresh_case());
     }
     if digits % 2 != 0 {
-        print::bad_text();
-        return fresh_case();
+        print::bad_text(out)?;
+        return Ok(fresh_case());
     }
-    Case {
+    Ok(Case {
         sets: digits,
         digits,
-    }
+    })
 }
 
 // Answers the case that this character ends.
-fn end_case(character: u8, case: Case, bytes: &[u8; CASE_ROOM])
+fn end_case<W: Write>(
+    out: &mut W,
+    character: u8,
+    case: Case,
+    bytes: &[u8; CASE_ROOM],
+) -> io::Result<()>
     requires sets_fit { case.sets ≤ case.digits }
     requires digits_fit { case.digits ≤ 16384 }
 {
     if case.digits % 2 != 0 {
-        return print::bad_text();
+        return print::bad_text(out);
     }
     let start = case.sets / 2;
     let end = case.digits / 2;
-    let whole: &[u8] = bytes;
-    let sets = &whole[..start];
-    let asked = &whole[start..end];
+    let sets = &bytes[..start];
+    let asked = &bytes[start..end];
     match character {
-        b'+' | b'-' => press_case::answer_press(sets, asked, character == b'+'),
-        b'^' => move_case::answer_move(sets, asked),
-        b'=' => run_case::answer_run(sets, asked),
-        b'%' => report_case::answer_report(asked),
-        _ => print::bad_text(),
+        b'+' | b'-' => press_case::answer_press(out, sets, asked, character == b'+'),
+        b'^' => move_case::answer_move(out, sets, asked),
+        b'=' => run_case::answer_run(out, sets, asked),
+        b'%' => report_case::answer_report(out, asked),
+        _ => print::bad_text(out),
     }
 }
 
@@ -100,40 +106,45 @@ fn in_comment(character: u8, comment: bool) -> bool {
 }
 
 // Takes a character, in a comment or not, and gives the case as it is then.
-fn take(character: u8, comment: bool, case: Case, bytes: &mut [u8; CASE_ROOM]) -> Case
+fn take<W: Write>(
+    out: &mut W,
+    character: u8,
+    comment: bool,
+    case: Case,
+    bytes: &mut [u8; CASE_ROOM],
+) -> io::Result<Case>
     requires sets_fit { case.sets ≤ case.digits }
     requires digits_fit { case.digits ≤ 16384 }
-    ensures sets_still_fit { result.sets ≤ result.digits }
-    ensures digits_still_fit { result.digits ≤ 16384 }
+    ensures sets_still_fit { IfOk result (λ now. now.sets ≤ now.digits) }
+    ensures digits_still_fit { IfOk result (λ now. now.digits ≤ 16384) }
 {
     if comment {
-        return case;
+        return Ok(case);
     }
     match character {
-        b'0'..=b'9' => with_digit(character - 48, case, bytes),
-        b'a'..=b'f' => with_digit(character - 87, case, bytes),
-        b' ' | b'\n' | b'#' => case,
-        b':' => end_sets(case),
+        b'0'..=b'9' => Ok(with_digit(character - 48, case, bytes)),
+        b'a'..=b'f' => Ok(with_digit(character - 87, case, bytes)),
+        b' ' | b'\n' | b'#' => Ok(case),
+        b':' => end_sets(out, case),
         _ => {
-            end_case(character, case, bytes);
-            fresh_case()
+            end_case(out, character, case, bytes)?;
+            Ok(fresh_case())
         }
     }
 }
 
 // Takes all of the text. What stands after the last case is malformed.
-pub fn take_text(text: &[u8]) {
+pub fn take_text<W: Write>(out: &mut W, text: &[u8]) -> io::Result<()> {
     let mut bytes = [0u8; CASE_ROOM];
     let mut case = fresh_case();
     let mut comment = false;
-    let mut at = 0;
-    while at < text.len() {
-        let character = text[at];
-        case = take(character, comment, case, &mut bytes);
-        comment = in_comment(character, comment);
-        at += 1;
+    for character in text {
+        case = take(out, *character, comment, case, &mut bytes)?;
+        comment = in_comment(*character, comment);
     }
     if case.digits != 0 {
-        print::bad_text();
+        print::bad_text(out)
+    } else {
+        Ok(())
     }
 }
