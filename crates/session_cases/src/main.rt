@@ -3,11 +3,12 @@
 // comes a line `.`. A length that is too large, or a stream that ends inside a session, ends the program.
 #![tactic(auto)]
 
-ghost use Rattle.std.specs.Prelude.{◌≤◌, length};
+ghost use Rattle.std.specs.Prelude.{◌≤◌, IfOk, length};
 
-use libc::{STDIN_FILENO, STDOUT_FILENO};
 use lines::LONGEST_LINE;
 use session::HandOut;
+use std::io;
+use std::io::{ErrorKind, Read, Write};
 
 // The longest session that is taken.
 const SESSION_ROOM: usize = 262_144;
@@ -22,68 +23,81 @@ struct Taken {
     more: bool,
 }
 
-// The length before a session. Where the stream ends, there is none.
-fn read_length() -> Taken {
-    let mut bytes = [0u8; 4];
-    let got = io::read_full(STDIN_FILENO, &mut bytes);
-    let length = bits::wide(bytes[0]) + 256 * bits::wide(bytes[1]) + 65_536 * bits::wide(bytes[2]);
-    Taken {
-        length: length as usize,
-        more: got == 4 && bytes[3] == 0,
+// Fills a buffer, and says whether the stream had so many bytes.
+fn read_full<R: Read>(reader: &mut R, buffer: &mut [u8]) -> io::Result<bool> {
+    match reader.read_exact(buffer) {
+        Ok(()) => Ok(true),
+        Err(error) if error.kind() == ErrorKind::UnexpectedEof => Ok(false),
+        Err(error) => Err(error),
     }
+}
+
+// The length before a session. Where the stream ends, there is none.
+fn read_length<R: Read>(reader: &mut R) -> io::Result<Taken> {
+    let mut bytes = [0u8; 4];
+    let full = read_full(reader, &mut bytes)?;
+    let length = bits::wide(bytes[0]) + 256 * bits::wide(bytes[1]) + 65_536 * bits::wide(bytes[2]);
+    Ok(Taken {
+        length: length as usize,
+        more: full && bytes[3] == 0,
+    })
 }
 
 // Reads the next session into the start of a buffer.
-fn read_session(buffer: &mut [u8]) -> Taken
-    ensures { result.length ≤ length buffer.old }
+fn read_session<R: Read>(reader: &mut R, buffer: &mut [u8]) -> io::Result<Taken>
+    ensures { IfOk result (λ taken. taken.length ≤ length buffer.old) }
 {
-    let taken = read_length();
+    let taken = read_length(reader)?;
     let length = taken.length;
     if buffer.len() < length {
-        return Taken {
+        return Ok(Taken {
             length: 0,
             more: false,
-        };
+        });
     }
-    let got = io::read_full(STDIN_FILENO, &mut buffer[..length]);
-    Taken {
+    let full = read_full(reader, &mut buffer[..length])?;
+    Ok(Taken {
         length,
-        more: taken.more && got == length,
-    }
+        more: taken.more && full,
+    })
 }
 
 // Prints the lines of a session.
-fn print_lines(input: &[u8]) {
+fn print_lines<W: Write>(out: &mut W, input: &[u8]) -> io::Result<()> {
     let mut line = [0u8; LONGEST_LINE];
     let mut session = session::begin(input);
     loop {
         let handed = session::next_line(session, input, &mut line);
         let answer = handed.answer;
         let HandOut::Written(length) = answer else {
-            return;
+            return Ok(());
         };
-        io::write_all(STDOUT_FILENO, &line[..length]);
+        out.write_all(&line[..length])?;
         let next = handed.session;
         session = next;
     }
 }
 
 // Prints the line after a session.
-fn print_end() {
-    io::write_all(STDOUT_FILENO, b".\n");
+fn print_end<W: Write>(out: &mut W) -> io::Result<()> {
+    out.write_all(b".\n")
 }
 
-fn main() {
+// Takes the sessions of a stream, and prints the lines of each.
+fn take_sessions<R: Read, W: Write>(reader: &mut R, out: &mut W) -> io::Result<()> {
     let mut input = [0u8; SESSION_ROOM];
-    let mut count = 0;
-    while count < MOST_SESSIONS {
-        let taken = read_session(&mut input);
+    for _ in 0..MOST_SESSIONS {
+        let taken = read_session(reader, &mut input)?;
         if !taken.more {
-            return;
+            return Ok(());
         }
         let length = taken.length;
-        print_lines(&input[..length]);
-        print_end();
-        count += 1;
+        print_lines(out, &input[..length])?;
+        print_end(out)?;
     }
+    Ok(())
+}
+
+fn main(rt: HostRuntime) -> io::Result<()> {
+    take_sessions(&mut rt.stdin(), &mut rt.stdout())
 }
