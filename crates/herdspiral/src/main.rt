@@ -4,16 +4,16 @@
 // page of all settings of the board at the start of the input instead (`page.rt`).
 #![tactic(auto)]
 
-ghost use Rattle.std.specs.Prelude.{suc, ◌+◌, ◌<◌, ◌≤◌, true, false, not, ◌≡◌, length, take};
-ghost use Rattle.std.specs.Int.Signed.{non_neg};
-ghost use Rattle.io.specs.Counts.{IsPrefixLen, clamp_len};
+ghost use Rattle.std.specs.Prelude.{suc, ◌+◌, ◌<◌, ◌≤◌, ◌≡◌, IfOk, length, take};
 ghost use Rattle.board_reader.specs.Reading.{longest_input};
 ghost use Rattle.lines.specs.Lines.{longest_line};
 ghost use Rattle.session.specs.Carried.{no_line, next_in};
 
 use board_reader::LONGEST_INPUT;
-use libc::{STDERR_FILENO, STDIN_FILENO, STDOUT_FILENO};
+use page::Asked;
 use session::{HandOut, Session};
+use std::io;
+use std::io::{Read, Write};
 
 mod page;
 
@@ -23,69 +23,34 @@ const INPUT_ROOM: usize = LONGEST_INPUT + 1;
 // Room for the lines that are written out together.
 const LINES_ROOM: usize = 16_384;
 
-// What reading came to: how many bytes were read, and whether a read failed.
-#[derive(Clone, Copy)]
-struct Input {
-    length: usize,
-    failed: bool,
-}
-
-// How printing ended: the session after the lines that were handed out, and whether all of these were written.
-#[derive(Clone, Copy)]
-struct Printed {
-    session: Session,
-    written: bool,
-}
-
-// What a read into the rest of a buffer came to, by its answer: a number below 0 says that it failed.
-fn read_came_to(got: isize, rest: &[u8]) -> Input
-    ensures prefix { IsPrefixLen result.length rest.now }
-    ensures clamped { result.length ≡ clamp_len got (length rest.now) }
-    ensures failed { result.failed ≡ not (non_neg got) }
-{
-    Input {
-        length: io::count(got, rest),
-        failed: got < 0,
-    }
-}
-
-// Reads once, into the buffer from a place on.
-fn read_on(buffer: &mut [u8], at: usize) -> Input
+// Reads once, into the buffer from a place on, and answers how many bytes were read.
+fn read_on<R: Read>(reader: &mut R, buffer: &mut [u8], at: usize) -> io::Result<usize>
     requires { at ≤ length buffer.old }
-    ensures { at + result.length ≤ length buffer.old }
+    ensures { IfOk result (λ read. at + read ≤ length buffer.old) }
 {
-    let rest = &mut buffer[at..];
-    let got = libc::read(STDIN_FILENO, rest);
-    read_came_to(got, rest)
+    reader.read(&mut buffer[at..])
 }
 
-// Reads until the buffer is full, the input ends or a read fails. The buffer has room for the longest input and one
-// byte more; where a read failed, it is not full.
-fn read_input(buffer: &mut [u8]) -> Input
+// Reads until the buffer is full, the input ends or a read fails, and answers how many bytes were read. The buffer has
+// room for the longest input and one byte more.
+fn read_input<R: Read>(reader: &mut R, buffer: &mut [u8]) -> io::Result<usize>
     requires { length buffer.old ≡ suc longest_input }
-    ensures length_fits { result.length ≤ length buffer.old }
-    ensures not_full { result.failed ≡ true → result.length < length buffer.old }
+    ensures { IfOk result (λ read. read ≤ length buffer.old) }
 {
     let mut length = 0;
     while length < buffer.len() {
-        let more = read_on(buffer, length);
-        if more.length == 0 {
-            return Input {
-                length,
-                failed: more.failed,
-            };
+        let more = read_on(reader, buffer, length)?;
+        if more == 0 {
+            return Ok(length);
         }
-        length += more.length;
+        length += more;
     }
-    Input {
-        length,
-        failed: false,
-    }
+    Ok(length)
 }
 
 // Repeats on standard error the line that begins at a place of the buffer, if it says `refused`: no other word of a
-// line has an `r`. Answers the place after the line.
-fn tell_line(lines: &[u8], begin: usize, used: usize) -> usize
+// line has an `r`. Answers the place after the line. Where standard error takes nothing, that is passed over.
+fn tell_line<E: Write>(err: &mut E, lines: &[u8], begin: usize, used: usize) -> usize
     requires some_left { begin < used }
     requires used_fits { used ≤ length lines.now }
     ensures goes_on { begin < result }
@@ -97,7 +62,7 @@ fn tell_line(lines: &[u8], begin: usize, used: usize) -> usize
         if byte == b'\n' {
             let after = at + 1;
             if refused {
-                io::write_all(STDERR_FILENO, &lines[begin..after]);
+                let _ = err.write_all(&lines[begin..after]);
             }
             return after;
         }
@@ -110,31 +75,39 @@ fn tell_line(lines: &[u8], begin: usize, used: usize) -> usize
 
 // Repeats on standard error each refused line among the first bytes of the buffer, so that whoever started the program
 // learns of them without looking through standard output.
-fn tell_refused(lines: &[u8], used: usize)
+fn tell_refused<E: Write>(err: &mut E, lines: &[u8], used: usize)
     requires { used ≤ length lines.now }
 {
     let mut begin = 0;
     while begin < used {
-        begin = tell_line(lines, begin, used);
+        begin = tell_line(err, lines, begin, used);
     }
 }
 
-// Writes out the first bytes of the buffer, and says whether all were written; then tells what is refused there.
-fn write_out(lines: &[u8], used: usize) -> bool
+// Writes out the first bytes of the buffer; where all were written, then tells what is refused there.
+fn write_out<W: Write, E: Write>(
+    out: &mut W,
+    err: &mut E,
+    lines: &[u8],
+    used: usize,
+) -> io::Result<()>
     requires { used ≤ length lines.now }
 {
-    let written = io::write_all(STDOUT_FILENO, &lines[..used]);
-    if written {
-        tell_refused(lines, used);
-    }
-    written
+    out.write_all(&lines[..used])?;
+    tell_refused(err, lines, used);
+    Ok(())
 }
 
 // Prints the lines of a session by way of a buffer with room for the longest line. Where all were written, nothing is
-// left to come.
-fn print_lines(input: &[u8], lines: &mut [u8]) -> Printed
+// left to come in the session after the lines that were handed out.
+fn print_lines<W: Write, E: Write>(
+    out: &mut W,
+    err: &mut E,
+    input: &[u8],
+    lines: &mut [u8],
+) -> io::Result<Session>
     requires { longest_line ≤ length lines.old }
-    ensures { result.written ≡ true → (next_in result.session input.now).1 ≡ no_line }
+    ensures { IfOk result (λ session. (next_in session input.now).1 ≡ no_line) }
 {
     let mut session = session::begin(input);
     loop {
@@ -143,93 +116,87 @@ fn print_lines(input: &[u8], lines: &mut [u8]) -> Printed
         session = next;
         let answer = handed.answer;
         let HandOut::Written(used) = answer else {
-            return Printed {
-                session,
-                written: true,
-            };
+            return Ok(session);
         };
-        let written = write_out(lines, used);
-        if !written {
-            return Printed { session, written };
-        }
+        write_out(out, err, lines, used)?;
     }
 }
 
-// Prints the lines of the session that was read into the start of a buffer: no read failed.
-fn print_session(buffer: &[u8], read: Input, lines: &mut [u8]) -> Printed
-    requires failed { read.failed ≡ false }
-    requires length_fits { read.length ≤ length buffer.now }
+// Prints the lines of the session that was read into the start of a buffer.
+fn print_session<W: Write, E: Write>(
+    out: &mut W,
+    err: &mut E,
+    buffer: &[u8],
+    read: usize,
+    lines: &mut [u8],
+) -> io::Result<Session>
+    requires length_fits { read ≤ length buffer.now }
     requires line_fits { longest_line ≤ length lines.old }
-    ensures { result.written ≡ true
-        → (next_in result.session (take read.length buffer.now)).1 ≡ no_line }
+    ensures { IfOk result (λ session. (next_in session (take read buffer.now)).1 ≡ no_line) }
 {
-    print_lines(&buffer[..read.length], lines)
+    print_lines(out, err, &buffer[..read], lines)
 }
 
 // Tells that a read failed.
-fn tell_unread(read: Input)
-    requires { read.failed ≡ true }
-{
-    io::write_all(
-        STDERR_FILENO,
-        b"herdspiral: standard input cannot be read\n",
-    );
+fn tell_unread<E: Write>(err: &mut E, _error: io::Error) {
+    let _ = err.write_all(b"herdspiral: standard input cannot be read\n");
 }
 
 // Tells that a write failed.
-fn tell_unwritten(written: bool)
-    requires { written ≡ false }
-{
-    io::write_all(
-        STDERR_FILENO,
-        b"herdspiral: standard output cannot be written\n",
-    );
+fn tell_unwritten<E: Write>(err: &mut E, _error: io::Error) {
+    let _ = err.write_all(b"herdspiral: standard output cannot be written\n");
 }
 
 // Tells that the argument is no length of a log.
-fn tell_no_number() {
-    io::write_all(
-        STDERR_FILENO,
-        b"herdspiral: the length of the log is not a decimal number\n",
-    );
+fn tell_no_number<E: Write>(err: &mut E) {
+    let _ = err.write_all(b"herdspiral: the length of the log is not a decimal number\n");
 }
 
-// Runs the session that was read into the start of a buffer, and says whether all was written.
-fn run_session(buffer: &[u8], read: Input) -> bool
-    requires failed { read.failed ≡ false }
-    requires length_fits { read.length ≤ length buffer.now }
+// Runs the session that was read into the start of a buffer.
+fn run_session<W: Write, E: Write>(
+    out: &mut W,
+    err: &mut E,
+    buffer: &[u8],
+    read: usize,
+) -> io::Result<()>
+    requires { read ≤ length buffer.now }
 {
     let mut lines = [0u8; LINES_ROOM];
-    let printed = print_session(buffer, read, &mut lines);
-    printed.written
+    print_session(out, err, buffer, read, &mut lines)?;
+    Ok(())
 }
 
-// Reports on the board that was read into the start of a buffer, and says whether all was written.
-fn report_settings(buffer: &[u8], read: Input) -> bool
-    requires failed { read.failed ≡ false }
-    requires length_fits { read.length ≤ length buffer.now }
+// Reports on the board that was read into the start of a buffer, with the length of the log that is asked for.
+fn report_settings<W: Write, E: Write>(
+    out: &mut W,
+    err: &mut E,
+    buffer: &[u8],
+    read: usize,
+    asked: Asked,
+) -> io::Result<()>
+    requires { read ≤ length buffer.now }
 {
-    let asked = page::asked_length();
     if !asked.is_number {
-        tell_no_number();
-        return true;
+        tell_no_number(err);
+        return Ok(());
     }
-    page::print_page(&buffer[..read.length], asked.length)
+    page::print_page(out, err, &buffer[..read], asked.length)
 }
 
-fn main() {
+// What standard output and standard error are given is written at once: neither is buffered here.
+fn main(rt: HostRuntime) {
+    let mut out = rt.stdout();
+    let mut err = rt.stderr();
     let mut input = [0u8; INPUT_ROOM];
-    let read = read_input(&mut input);
-    if read.failed {
-        tell_unread(read);
-        return;
-    }
-    let written = if os::arg_count() < 2 {
-        run_session(&input, read)
-    } else {
-        report_settings(&input, read)
+    let read = match read_input(&mut rt.stdin(), &mut input) {
+        Ok(read) => read,
+        Err(error) => return tell_unread(&mut err, error),
     };
-    if !written {
-        tell_unwritten(written);
+    let printed = match page::asked_length(&rt) {
+        None => run_session(&mut out, &mut err, &input, read),
+        Some(asked) => report_settings(&mut out, &mut err, &input, read, asked),
+    };
+    if let Err(error) = printed {
+        tell_unwritten(&mut err, error);
     }
 }

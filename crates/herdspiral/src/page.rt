@@ -4,11 +4,17 @@ ghost use Rattle.std.specs.Prelude.{◌≤◌};
 
 use crate::write_out;
 use board_reader::ReadAnswer;
-use libc::STDOUT_FILENO;
 use lines::{LONGEST_LINE, Line, LineWritten};
 use refusals::{Against, Refusal};
 use report::Figures;
 use runs::LONGEST_LOG;
+use std::env::FillError;
+use std::io;
+use std::io::Write;
+use std::rt::Env;
+
+// The longest argument that is looked at.
+const LONGEST_ARGUMENT: usize = 4_096;
 
 // The length of a log that was asked for, and whether it was typed as a decimal number.
 #[derive(Clone, Copy)]
@@ -60,54 +66,60 @@ fn number_of(text: &[u8]) -> Asked {
     asked
 }
 
-// The length of the log that the program's argument asks for. One that is longer than 4,096 bytes counts as no number.
-pub fn asked_length() -> Asked {
-    let mut text = io::buffer();
-    let length = os::arg(1, &mut text);
-    number_of(&text[..length])
-}
-
-// Prints a figure after the words for it, and says whether all was written.
-fn print_figure(words: &[u8], figure: usize) -> bool {
-    io::write_all(STDOUT_FILENO, words)
-        && io::print_decimal(STDOUT_FILENO, figure as u64)
-        && io::write_all(STDOUT_FILENO, b"\n")
-}
-
-// Prints the figures, and says whether all was written.
-fn print_figures(figures: Figures) -> bool {
-    print_figure(b"settings: ", figures.settings)
-        && print_figure(b"ended idle: ", figures.idle)
-        && print_figure(b"ended with buzz: ", figures.buzz)
-        && print_figure(b"ended in conflict: ", figures.conflict)
-        && print_figure(b"spent: ", figures.spent)
-        && print_figure(b"moves in all: ", figures.moves)
-        && print_figure(b"most moves: ", figures.most)
-        && print_figure(b"first setting with the most moves: ", figures.first)
-}
-
-// Prints a refusal as a session does, and says whether it was written.
-fn print_refused(refusal: Refusal) -> bool {
-    let mut line = [0u8; LONGEST_LINE];
-    let written = lines::write_line(Line::Closing(refusal), &mut line);
-    match written {
-        LineWritten::Length(length) => write_out(&line, length),
-        LineWritten::Refused(_) => false,
+// The length of the log that the program's argument asks for; nothing where it has none. An argument that is longer
+// than 4,096 bytes counts as no number.
+pub fn asked_length(rt: &impl Env) -> Option<Asked> {
+    let mut text = [0u8; LONGEST_ARGUMENT];
+    match rt.arg(1, &mut text) {
+        Ok(length) => Some(number_of(&text[..length])),
+        Err(FillError::TooLong) => Some(number_of(b"")),
+        Err(FillError::NotPresent) => None,
     }
 }
 
-// Prints the page of the board at the start of the input, each setting run with a log of this length, and says whether
-// it was written.
-pub fn print_page(input: &[u8], length: usize) -> bool {
+// Prints a figure after the words for it.
+fn print_figure<W: Write>(out: &mut W, words: &str, figure: usize) -> io::Result<()> {
+    writeln!(out, "{words}{figure}")
+}
+
+// Prints the figures.
+fn print_figures<W: Write>(out: &mut W, figures: Figures) -> io::Result<()> {
+    print_figure(out, "settings: ", figures.settings)?;
+    print_figure(out, "ended idle: ", figures.idle)?;
+    print_figure(out, "ended with buzz: ", figures.buzz)?;
+    print_figure(out, "ended in conflict: ", figures.conflict)?;
+    print_figure(out, "spent: ", figures.spent)?;
+    print_figure(out, "moves in all: ", figures.moves)?;
+    print_figure(out, "most moves: ", figures.most)?;
+    print_figure(out, "first setting with the most moves: ", figures.first)
+}
+
+// Prints a refusal as a session does.
+fn print_refused<W: Write, E: Write>(out: &mut W, err: &mut E, refusal: Refusal) -> io::Result<()> {
+    let mut line = [0u8; LONGEST_LINE];
+    let written = lines::write_line(Line::Closing(refusal), &mut line);
+    match written {
+        LineWritten::Length(length) => write_out(out, err, &line, length),
+        LineWritten::Refused(_) => unreachable!(),
+    }
+}
+
+// Prints the page of the board at the start of the input, each setting run with a log of this length.
+pub fn print_page<W: Write, E: Write>(
+    out: &mut W,
+    err: &mut E,
+    input: &[u8],
+    length: usize,
+) -> io::Result<()> {
     let read = board_reader::read(input);
     let answer = read.answer;
     if let ReadAnswer::Refused(refusal) = answer {
-        return print_refused(refusal);
+        return print_refused(out, err, refusal);
     }
     let reported = report::report(read.board, length);
     let against = reported.against;
     match against {
-        Against::Nothing => print_figures(reported.figures),
-        Against::Refused(refusal) => print_refused(refusal),
+        Against::Nothing => print_figures(out, reported.figures),
+        Against::Refused(refusal) => print_refused(out, err, refusal),
     }
 }
