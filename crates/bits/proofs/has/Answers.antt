@@ -5,13 +5,12 @@ use native.Mathlib.Omega.{arith}
 use borrow.Author.Rules.{rules}
 use Rattle.bits.specs.Sets.{room, member}
 use Rattle.bits.proofs.SetLaws.{member-beyond}
-use Rattle.bits.proofs.has.Statement.{statement}
-use Rattle.bits.proofs.has.Tie as tie
+use Rattle.bits.proofs.has.Goals as goal
 
-pub has-spec : {M : Type 1} → statement M
+pub returns-then-n-ge-ROOM : goal.returns-then-n-ge-ROOM
 unfolding member
-has-spec =
-    tie.close
-    (tie.spec
-    (λ c. sym (member-beyond c.before.args.set room c.before.args.n (omega arith) (omega arith)))
-    (λ c. search rules) (λ c. refl))
+returns-then-n-ge-ROOM c = sym (member-beyond c.args.set room c.args.n (omega arith) (omega arith))
+
+pub returns : goal.returns
+unfolding member
+returns c = refl
