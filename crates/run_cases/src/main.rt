@@ -6,6 +6,8 @@
 // and where there is none, the sets are the board's own.
 #![tactic(auto)]
 
+ghost use Rattle.std.specs.Prelude.{◌≤◌, IfOk, length};
+
 mod handed_case;
 mod handed_sets;
 mod move_case;
@@ -17,16 +19,29 @@ mod run_case;
 mod typed;
 
 use std::io;
-use std::io::{BufWriter, Read, Write};
+use std::io::Read;
 
 // The longest text that is taken.
-const LONGEST_TEXT: u64 = 65_536;
+const LONGEST_TEXT: usize = 65_536;
 
-// Of a text longer than that the rest is not taken, and has no answers.
+// Reads until the buffer is full or the input ends, and answers how many bytes were read.
+fn read_text<R: Read>(reader: &mut R, text: &mut [u8]) -> io::Result<usize>
+    ensures { IfOk result (λ read. read ≤ length text.old) }
+{
+    let mut length = 0;
+    while length < text.len() {
+        let more = reader.read(&mut text[length..])?;
+        if more == 0 {
+            return Ok(length);
+        }
+        length += more;
+    }
+    Ok(length)
+}
+
+// Of a text longer than the buffer the rest is not taken, and has no answers.
 fn main(rt: HostRuntime) -> io::Result<()> {
-    let mut text = Vec::new(rt.alloc());
-    rt.reader().take(LONGEST_TEXT).read_to_end(&mut text)?;
-    let mut out = BufWriter::new(rt.alloc(), io::writer(&rt))?;
-    typed::take_text(&mut out, &text)?;
-    out.flush()
+    let mut text = [0u8; LONGEST_TEXT];
+    let length = read_text(&mut rt.stdin(), &mut text)?;
+    typed::take_text(&mut rt.stdout(), &text[..length])
 }

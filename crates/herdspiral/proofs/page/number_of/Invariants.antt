@@ -1,0 +1,6 @@
+-- `herdspiral::page::number_of` is safe: the number stays small enough for one digit more.
+use Rattle.std.proofs.Common.{◌≤◌}
+use Rattle.herdspiral.proofs.page.number_of.Given as goal
+
+abbrev pub invariant-loop-at : goal.invariant-loop-at
+invariant-loop-at l = l.asked.length ≤ 655369

@@ -1,0 +1,9 @@
+-- `herdspiral::read_input` meets its contract and ends: what was read lies in the buffer, and each read leaves less room.
+use Rattle.std.proofs.Common.{◌≤◌, ◌-◌, length}
+use Rattle.herdspiral.proofs.read_input.Given as goal
+
+abbrev pub invariant-loop-length : goal.invariant-loop-length
+invariant-loop-length g l = l.length ≤ length l.buffer
+
+abbrev pub decreases-loop-length : goal.decreases-loop-length
+decreases-loop-length g l = length l.buffer - l.length
