@@ -4,10 +4,13 @@
 // page of all settings of the board at the start of the input instead (`page.rt`).
 #![tactic(auto)]
 
-ghost use Rattle.std.specs.Prelude.{suc, ◌+◌, ◌<◌, ◌≤◌, ◌≡◌, IfOk, length, take};
+ghost use Rattle.std.specs.Prelude.{ℕ, suc, ◌+◌, ◌<◌, ◌≤◌, ◌≡◌, IfOk, OnOk, OnErr, length, take, drop};
+ghost use Rattle.std.specs.Io.KnownBytes.{Appends, Consumes, IsAtEnd, Keeps};
+ghost use Rattle.board_reader.specs.Editions.{current_edition};
 ghost use Rattle.board_reader.specs.Reading.{longest_input};
 ghost use Rattle.lines.specs.Lines.{longest_line};
 ghost use Rattle.session.specs.Carried.{no_line, next_in};
+ghost use Rattle.session.specs.Sessions.{session_text};
 
 use board_reader::LONGEST_INPUT;
 use page::Asked;
@@ -26,16 +29,26 @@ const LINES_ROOM: usize = 16_384;
 // Reads once, into the buffer from a place on, and answers how many bytes were read.
 fn read_on<R: Read>(reader: &mut R, buffer: &mut [u8], at: usize) -> io::Result<usize>
     requires { at ≤ length buffer.old }
-    ensures { IfOk result (λ read. at + read ≤ length buffer.old) }
+    ensures length_fits { IfOk result (λ read. at + read ≤ length buffer.old) }
+    ensures kept { take at buffer.new ≡ take at buffer.old }
+    ensures bytes { IfOk result (λ read. Consumes (R.remaining reader.old) (R.remaining reader.new)
+        (take read (drop at buffer.new))) }
+    ensures end { IfOk result (λ read. read ≡ 0 → at < length buffer.old → IsAtEnd (R.remaining reader.new)) }
+    ensures failed { OnErr result (Keeps (R.remaining reader.old) (R.remaining reader.new)) }
 {
     reader.read(&mut buffer[at..])
 }
 
 // Reads until the buffer is full, the input ends or a read fails, and answers how many bytes were read. The buffer has
-// room for the longest input and one byte more.
+// room for the longest input and one byte more; where a read failed, it is not full.
 fn read_input<R: Read>(reader: &mut R, buffer: &mut [u8]) -> io::Result<usize>
     requires { length buffer.old ≡ suc longest_input }
-    ensures { IfOk result (λ read. read ≤ length buffer.old) }
+    ensures length_fits { IfOk result (λ read. read ≤ length buffer.old) }
+    ensures bytes { IfOk result (λ read. Consumes (R.remaining reader.old) (R.remaining reader.new)
+        (take read buffer.new)) }
+    ensures end { IfOk result (λ read. read < length buffer.old → IsAtEnd (R.remaining reader.new)) }
+    ensures not_full { OnErr result ((read : ℕ) × (read < length buffer.old)
+        × Consumes (R.remaining reader.old) (R.remaining reader.new) (take read buffer.new)) }
 {
     let mut length = 0;
     while length < buffer.len() {
@@ -92,6 +105,7 @@ fn write_out<W: Write, E: Write>(
     used: usize,
 ) -> io::Result<()>
     requires { used ≤ length lines.now }
+    ensures { OnOk result (Appends (W.contents out.old) (W.contents out.new) (take used lines.now)) }
 {
     out.write_all(&lines[..used])?;
     tell_refused(err, lines, used);
@@ -107,7 +121,9 @@ fn print_lines<W: Write, E: Write>(
     lines: &mut [u8],
 ) -> io::Result<Session>
     requires { longest_line ≤ length lines.old }
-    ensures { IfOk result (λ session. (next_in session input.now).1 ≡ no_line) }
+    ensures nothing_left { IfOk result (λ session. (next_in session input.now).1 ≡ no_line) }
+    ensures all_written { OnOk result (Appends (W.contents out.old) (W.contents out.new)
+        (session_text current_edition input.now)) }
 {
     let mut session = session::begin(input);
     loop {
@@ -132,7 +148,9 @@ fn print_session<W: Write, E: Write>(
 ) -> io::Result<Session>
     requires length_fits { read ≤ length buffer.now }
     requires line_fits { longest_line ≤ length lines.old }
-    ensures { IfOk result (λ session. (next_in session (take read buffer.now)).1 ≡ no_line) }
+    ensures nothing_left { IfOk result (λ session. (next_in session (take read buffer.now)).1 ≡ no_line) }
+    ensures all_written { OnOk result (Appends (W.contents out.old) (W.contents out.new)
+        (session_text current_edition (take read buffer.now))) }
 {
     print_lines(out, err, &buffer[..read], lines)
 }
@@ -160,6 +178,8 @@ fn run_session<W: Write, E: Write>(
     read: usize,
 ) -> io::Result<()>
     requires { read ≤ length buffer.now }
+    ensures { OnOk result (Appends (W.contents out.old) (W.contents out.new)
+        (session_text current_edition (take read buffer.now))) }
 {
     let mut lines = [0u8; LINES_ROOM];
     print_session(out, err, buffer, read, &mut lines)?;

@@ -3,7 +3,10 @@
 // comes a line `.`. A length that is too large, or a stream that ends inside a session, ends the program.
 #![tactic(auto)]
 
-ghost use Rattle.std.specs.Prelude.{◌≤◌, IfOk, length};
+ghost use Rattle.std.specs.Prelude.{◌≤◌, IfOk, OnOk, IsTrue, length};
+ghost use Rattle.std.specs.Io.KnownBytes.{Appends, Consumes};
+ghost use Rattle.board_reader.specs.Editions.{current_edition};
+ghost use Rattle.session.specs.Sessions.{session_text};
 
 use lines::LONGEST_LINE;
 use session::HandOut;
@@ -24,7 +27,10 @@ struct Taken {
 }
 
 // Fills a buffer, and says whether the stream had so many bytes.
-fn read_full<R: Read>(reader: &mut R, buffer: &mut [u8]) -> io::Result<bool> {
+fn read_full<R: Read>(reader: &mut R, buffer: &mut [u8]) -> io::Result<bool>
+    ensures { IfOk result (λ full. IsTrue full
+        → Consumes (R.remaining reader.old) (R.remaining reader.new) buffer.new) }
+{
     match reader.read_exact(buffer) {
         Ok(()) => Ok(true),
         Err(error) if error.kind() == ErrorKind::UnexpectedEof => Ok(false),
@@ -63,7 +69,10 @@ fn read_session<R: Read>(reader: &mut R, buffer: &mut [u8]) -> io::Result<Taken>
 }
 
 // Prints the lines of a session.
-fn print_lines<W: Write>(out: &mut W, input: &[u8]) -> io::Result<()> {
+fn print_lines<W: Write>(out: &mut W, input: &[u8]) -> io::Result<()>
+    ensures all_written { OnOk result (Appends (W.contents out.old) (W.contents out.new)
+        (session_text current_edition input.now)) }
+{
     let mut line = [0u8; LONGEST_LINE];
     let mut session = session::begin(input);
     loop {

@@ -1,0 +1,2 @@
+-- What reads into a buffer come to.
+mod Readings
