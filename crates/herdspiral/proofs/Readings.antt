@@ -2,11 +2,7 @@
 use Rattle.std.proofs.Common.{ℕ, ◌≡◌, ◌+◌, List, ◌++◌, take, drop, sym, ap, subst, ◌∙◌, append_assoc, take-add}
 use Rattle.std.specs.declared.option.Option.{Option}
 use Rattle.std.specs.Prelude.{None, Some}
-use Rattle.std.specs.Io.KnownBytes.{Consumes, Keeps}
-
-pub none_read : (old : Option (List ℕ)) (buffer : List ℕ) → Consumes old old (take 0 buffer)
-none_read None buffer = tt
-none_read (Some xs) buffer = refl
+use Rattle.std.specs.Io.KnownBytes.{Consumes}
 
 consumes-append : (old mid new : Option (List ℕ)) (xs ys : List ℕ) → Consumes old mid xs → Consumes mid new ys
     → Consumes old new (xs ++ ys)
@@ -24,13 +20,3 @@ more_read old mid new at more before after so kept next =
     subst (λ (xs : List ℕ). Consumes old new xs) (sym (take-add at more after))
     (consumes-append old mid new (take at after) (take more (drop at after))
     (subst (λ (xs : List ℕ). Consumes old mid xs) (sym kept) so) next)
-
--- a read that failed took nothing
-pub failed_read : (old mid new : Option (List ℕ)) (at : ℕ) (before after : List ℕ)
-    → Consumes old mid (take at before) → take at after ≡ take at before → Keeps mid new
-    → Consumes old new (take at after)
-failed_read None mid new at before after so kept same = tt
-failed_read (Some o) None new at before after so kept same = absurd so
-failed_read (Some o) (Some m) None at before after so kept same = absurd same
-failed_read (Some o) (Some m) (Some n) at before after so kept same =
-    so ∙ ap (λ (xs : List ℕ). xs ++ m) (sym kept) ∙ ap (λ (xs : List ℕ). take at after ++ xs) (sym same)
