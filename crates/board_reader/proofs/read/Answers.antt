@@ -1,20 +1,16 @@
 -- `board_reader::read` meets its contract: an input that is too long, counts that are refused and a part that is
 -- refused leave at once, and 9 is asked after the last part.
 use borrow.Author.Rules.{rules}
-use Prim.Native.Nat.{ℕ, ◌≤◌}
-use mathlib.Core.List.{List}
-use mathlib.Core.Path.{◌≡◌, sym, ap, ◌∙◌}
+use Prim.Native.Nat.{◌≤◌}
+use mathlib.Core.Path.{◌≡◌, ap, ◌∙◌}
 use lib.ListN.{length}
-use borrow.Author.Tests.{not-true, not-false}
 use Rattle.refusals.specs.Outcomes.{found}
-use Rattle.board.specs.declared.Counts.{Counts}
 use Rattle.board.proofs.RuleLaws.{counts-in_range}
 use Rattle.board_reader.specs.Editions.{current_edition}
 use Rattle.board_reader.specs.Reading.{counts_at, longest_input, told_read_answer}
 use Rattle.board_reader.proofs.CountsLaws.{counts-found, counts-found_fine}
 use Rattle.board_reader.proofs.PartsLaws.{answer_stopped, answer_went, answer_refused}
 use Rattle.board_reader.proofs.ReadLaws.{reading_long, reading_stopped, row_refused, row_lacking, row-found}
-use Rattle.std.proofs.Common.{arith}
 use Rattle.board_reader.proofs.read.Goals as goal
 
 pub returns-then-s-gt-LONGEST_INPUT : goal.returns-then-s-gt-LONGEST_INPUT

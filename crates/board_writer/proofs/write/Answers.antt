@@ -3,12 +3,10 @@
 use borrow.Author.Rules.{rules}
 use mathlib.Core.Bool.{true}
 use mathlib.Core.Path.{◌≡◌, sym, ◌∙◌}
-use borrow.Author.Tests.{not-true, not-false}
 use Rattle.board.specs.Rules.{board_fine}
 use Rattle.board.proofs.FineLaws.{fine_range}
 use Rattle.board_writer.proofs.WriteLaws.{writing_broken, writing_short, counts-room, parts-room}
 use Rattle.board_writer.proofs.WriteLaws.{writing_whole}
-use Rattle.std.proofs.Common.{arith}
 use Rattle.board_writer.proofs.write.Goals as goal
 
 pub returns-then-not-check : goal.returns-then-not-check

@@ -1,6 +1,5 @@
 -- The proof of the cycle of calls {read_form}. The measure is `left`, the bytes that the number may still have.
-use denote.Slice.{shr_slice_at}
-use Prim.Native.Nat.{ℕ, ◌+◌, ◌-◌, ◌^◌, ◌≤◌, ◌<◌}
+use Prim.Native.Nat.{◌+◌, ◌-◌, ◌^◌, ◌≤◌, ◌<◌}
 use native.Mathlib.Omega.{arith}
 use borrow.Author.Rules.{rules}
 use Rattle.number.specs.Numbers.{current_width}

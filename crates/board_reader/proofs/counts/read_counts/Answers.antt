@@ -1,12 +1,6 @@
 -- `board_reader::counts::read_counts` meets its contract: a count that is refused leaves at once, and four that are
 -- found are the counts.
 use borrow.Author.Rules.{rules}
-use Prim.Native.Nat.{ℕ}
-use native.Mathlib.Omega.{arith}
-use mathlib.Core.List.{List}
-use mathlib.Core.Path.{◌≡◌, ◌∙◌}
-use Rattle.board.specs.Rules.{least_terminals, most_terminals, most_relays, most_buttons}
-use Rattle.board_reader.specs.Editions.{current_edition}
 use Rattle.board_reader.proofs.FieldLaws.{bound, told-found, told_refused, number_stopped}
 use Rattle.board_reader.proofs.CountsLaws.{count_at, count_most, terminals_refused}
 use Rattle.board_reader.proofs.CountsLaws.{relays_refused, buttons_refused, parts_refused, counts_read}

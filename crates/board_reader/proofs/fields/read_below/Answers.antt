@@ -1,11 +1,8 @@
 -- `board_reader::fields::read_below` meets its contract: the number's refusal leaves as it is, and a value is tested
 -- against the limit.
 use borrow.Author.Rules.{rules}
-use mathlib.Core.Path.{sym}
 use borrow.Author.Tests.{lt-ltb, le-ltb}
-use Rattle.board_reader.specs.Editions.{current_edition}
 use Rattle.board_reader.proofs.FieldLaws.{wanted_fails, wanted_passes, told-found, number_refused}
-use Rattle.std.proofs.Common.{arith}
 use Rattle.board_reader.proofs.fields.read_below.Goals as goal
 
 pub returns-in_default : goal.returns-in_default

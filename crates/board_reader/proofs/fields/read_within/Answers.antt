@@ -1,11 +1,8 @@
 -- `board_reader::fields::read_within` meets its contract: the number's refusal leaves as it is, and a value is tested
 -- against both ends of its range.
 use borrow.Author.Rules.{rules}
-use mathlib.Core.Path.{sym}
-use Rattle.board_reader.specs.Editions.{current_edition}
 use Rattle.board_reader.proofs.FieldLaws.{wanted_fails, wanted_passes, told-found, number_refused, range-below}
 use Rattle.board_reader.proofs.FieldLaws.{range_above, range-within}
-use Rattle.std.proofs.Common.{arith}
 use Rattle.board_reader.proofs.fields.read_within.Goals as goal
 
 pub returns-in_default : goal.returns-in_default

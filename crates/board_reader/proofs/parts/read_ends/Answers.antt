@@ -1,15 +1,6 @@
 -- `board_reader::parts::read_ends` meets its contract: a mark has no ends, and of another kind each end that is refused
 -- leaves at once.
 use borrow.Author.Rules.{rules}
-use native.Mathlib.Omega.{arith}
-use mathlib.Core.Path.{◌≡◌, refl, ap, ◌∙◌}
-use Rattle.number.specs.Numbers.{told_number}
-use Rattle.number.specs.declared.Number.{Number}
-use Rattle.refusals.specs.Refusals.{no_such_terminal}
-use Rattle.board.specs.Rules.{terminal_fine}
-use Rattle.board_reader.specs.Editions.{current_edition}
-use Rattle.board_reader.specs.Reading.{wanted}
-use Rattle.board_reader.specs.Steps.{place_of}
 use Rattle.board_reader.proofs.FieldLaws.{bound, told-found, told_refused}
 use Rattle.board_reader.proofs.PartLaws.{no_ends-told, ends_of-mark, a_refused, b_refused, ends_equal_lem}
 use Rattle.board_reader.proofs.PartLaws.{ends_found, terminal-below}

@@ -1,10 +1,8 @@
 -- `board_reader::parts::read_name` meets its contract: a wire has no name, and any other kind's is read below its
 -- limit.
-use borrow.Author.Rules.{rules}
 use mathlib.Core.Path.{◌∙◌}
 use Rattle.refusals.specs.Refusals.{no_such_name}
 use Rattle.board_reader.proofs.FieldLaws.{wanted-below, name_wire, name-carried}
-use Rattle.std.proofs.Common.{arith}
 use Rattle.board_reader.proofs.parts.read_name.Goals as goal
 
 pub returns-then-kind-eq-WIRE_KIND : goal.returns-then-kind-eq-WIRE_KIND

@@ -2,14 +2,9 @@
 -- the part of `part_at`.
 use borrow.Author.Rules.{rules}
 use native.Mathlib.Omega.{arith}
-use mathlib.Core.Path.{◌≡◌, refl, sym, ap, ◌∙◌}
-use borrow.Author.Tests.{not-true, not-false}
-use Rattle.refusals.specs.Outcomes.{found}
-use Rattle.refusals.specs.Refusals.{no_such_kind}
-use Rattle.windings.specs.Windings.{winding_free, unmarked}
-use Rattle.board.specs.Rules.{in_range}
+use mathlib.Core.Path.{◌≡◌}
 use Rattle.board_reader.specs.Editions.{current_edition}
-use Rattle.board_reader.specs.Reading.{wanted, name_at, ends_at, told_read_answer}
+use Rattle.board_reader.specs.Reading.{name_at}
 use Rattle.board_reader.proofs.FieldLaws.{bound, told-found, told_refused, number_stopped}
 use Rattle.board_reader.proofs.PartLaws.{part_as, no-part-told, kind_refused, ends_refused, name_refused}
 use Rattle.board_reader.proofs.PartLaws.{winding_taken_refused, marked_twice_refused, part-found, name_below}

@@ -1,14 +1,11 @@
 -- `board_reader::parts::read_parts` meets its contract. The invariant: the parts read so far fill the array and give
 -- the windings and marks so far, and those of the definition are these and then the ones from the present place on.
-use borrow.Author.Rules.{rules}
-use native.Mathlib.Omega.{arith}
 use Prim.Native.Nat.{◌≤◌, ◌-◌}
-use mathlib.Core.Path.{◌≡◌, refl, ◌∙◌}
-use lib.ListN.{length, length-set}
+use mathlib.Core.Path.{◌≡◌}
+use lib.ListN.{length}
 use Rattle.board.specs.Parts.{most_parts}
 use Rattle.board_reader.specs.Editions.{current_edition}
-use Rattle.board_reader.proofs.PartsLaws.{Walk, walk_start, walk_on, walk_refused, walk_end, answer_stopped}
-use Rattle.board_reader.proofs.PartsLaws.{answer_went, refused-told}
+use Rattle.board_reader.proofs.PartsLaws.{Walk}
 use Rattle.board_reader.proofs.parts.read_parts.Given as goal
 
 abbrev pub invariant-loop-i : goal.invariant-loop-i

@@ -1,7 +1,6 @@
 -- `board_writer::bytes::put` meets its contract: a number that has room is written and not refused.
 use borrow.Author.Rules.{rules}
 use Rattle.board_writer.proofs.WriteLaws.{put_next, put_never_refused}
-use Rattle.std.proofs.Common.{arith}
 use Rattle.board_writer.proofs.bytes.put.Goals as goal
 
 pub returns-in_default : goal.returns-in_default

@@ -1,12 +1,9 @@
 -- `board_writer::bytes::write_counts` meets its contract: of the four numbers, one less is to come after each `put`.
 use borrow.Author.Rules.{rules}
 use mathlib.Core.Path.{refl}
-use mathlib.Core.List.{List, [], ◌∷◌}
-use Prim.Native.Nat.{ℕ}
-use Rattle.board.specs.declared.Counts.{Counts}
+use mathlib.Core.List.{[], ◌∷◌}
 use Rattle.board_writer.proofs.PieceLaws.{number-room, number_put, numbers_done_first}
 use Rattle.board_writer.proofs.WriteLaws.{CountsToCome, counts_to_come}
-use Rattle.std.proofs.Common.{arith}
 use Rattle.board_writer.proofs.bytes.write_counts.Goals as goal
 
 pub put-relays_at-requires : goal.put-relays_at-requires

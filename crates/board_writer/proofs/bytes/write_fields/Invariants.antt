@@ -1,14 +1,10 @@
 -- `board_writer::bytes::write_fields` meets its contract. The invariant: the bytes of the fields from i on are to come.
-use mathlib.Core.Path.{◌≡◌, sym, ◌∙◌}
+use mathlib.Core.Path.{◌≡◌}
 use Prim.Native.Nat.{◌-◌, ◌≤◌}
-use native.Mathlib.Omega.{arith}
-use borrow.Author.Rules.{rules}
-use lib.ListN.{length, take, drop, length-map}
-use Rattle.number.specs.Numbers.{number_bytes}
+use lib.ListN.{length, take, drop}
 use Rattle.kinds.specs.Kinds.{most_fields}
 use Rattle.board_writer.specs.File.{numbers_bytes}
-use Rattle.board_writer.proofs.PieceLaws.{ToCome, to_come_all, to_come_length}
-use Rattle.board_writer.proofs.WriteLaws.{row_room, row_put, row_written}
+use Rattle.board_writer.proofs.PieceLaws.{ToCome}
 use Rattle.board_writer.proofs.bytes.write_fields.Given as goal
 
 abbrev pub invariant-loop-i : goal.invariant-loop-i

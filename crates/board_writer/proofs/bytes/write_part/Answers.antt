@@ -3,7 +3,6 @@ use borrow.Author.Rules.{rules}
 use Rattle.board.specs.Parts.{fields_of}
 use Rattle.board_writer.proofs.PieceLaws.{number-room, number_put}
 use Rattle.board_writer.proofs.WriteLaws.{PartToCome, part_to_come, fields_to_come, part_written}
-use Rattle.std.proofs.Common.{arith}
 use Rattle.board_writer.proofs.bytes.write_part.Goals as goal
 
 pub put-fields_at-requires : goal.put-fields_at-requires

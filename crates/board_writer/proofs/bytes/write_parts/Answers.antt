@@ -1,11 +1,7 @@
 -- `board_writer::bytes::write_parts` meets its contract. The invariant: the bytes of the parts from i on are to come.
-use mathlib.Core.Path.{◌≡◌}
-use Prim.Native.Nat.{◌-◌, ◌≤◌}
 use native.Mathlib.Omega.{arith}
-use lib.ListN.{length, take, drop}
-use Rattle.board.specs.Parts.{most_parts, blank}
-use Rattle.board_writer.specs.File.{part_bytes, parts_bytes}
-use Rattle.board_writer.proofs.PieceLaws.{ToCome, to_come_all, to_come_length}
+use Rattle.board.specs.Parts.{blank}
+use Rattle.board_writer.specs.File.{part_bytes}
 use Rattle.board_writer.proofs.WriteLaws.{row_room, row_put, row_written}
 use Rattle.std.proofs.Common.{rules}
 use Rattle.board_writer.proofs.bytes.write_parts.Goals as goal

@@ -1,7 +1,6 @@
 -- `board_writer::lengths::counts_length` meets its contract: the lengths of the four numbers add up, and no sum on the
 -- way is more than their whole.
 use borrow.Author.Rules.{rules}
-use native.Mathlib.Omega.{arith}
 use Rattle.board_writer.proofs.LengthLaws.{counts-length_is}
 use Rattle.board_writer.proofs.lengths.counts_length.Goals as goal
 

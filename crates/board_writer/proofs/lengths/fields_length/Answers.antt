@@ -1,14 +1,11 @@
 -- `board_writer::lengths::fields_length` meets its contract. The invariant: the total and the bytes of the fields from
 -- i on are all the bytes, and the total is at most the longest form for each field passed.
-use mathlib.Core.Path.{◌≡◌, sym, ap, ◌∙◌}
-use Prim.Native.Nat.{ℕ, ◌+◌, ◌*◌, ◌-◌, ◌≤◌}
+use mathlib.Core.Path.{ap, ◌∙◌}
+use Prim.Native.Nat.{ℕ}
 use native.Mathlib.Omega.{arith}
-use borrow.Author.Rules.{rules}
-use lib.ListN.{length, take, drop, length-map}
-use Rattle.number.specs.Numbers.{current_width, number_bytes}
+use lib.ListN.{length}
+use Rattle.number.specs.Numbers.{number_bytes}
 use Rattle.number.proofs.NumberLaws.{number_bytes-length}
-use Rattle.kinds.specs.Kinds.{most_fields}
-use Rattle.board_writer.specs.File.{numbers_bytes}
 use Rattle.board_writer.proofs.LengthLaws.{row-length_on, row-length_end}
 use Rattle.board_writer.proofs.lengths.fields_length.Goals as goal
 

@@ -1,7 +1,5 @@
 -- `board_writer::lengths::part_length` meets its contract: the lengths of the kind and of the fields add up.
-use borrow.Author.Rules.{rules}
 use native.Mathlib.Omega.{arith}
-use Rattle.board.proofs.SameLaws.{fields-room}
 use Rattle.board_writer.proofs.LengthLaws.{part-length_is}
 use Rattle.board_writer.proofs.lengths.part_length.Goals as goal
 

@@ -1,12 +1,8 @@
 -- `board_writer::lengths::parts_length` meets its contract. The invariant: the total and the bytes of the parts from i
 -- on are all the bytes, and the total is at most the longest part's for each part passed.
-use mathlib.Core.Path.{◌≡◌}
-use Prim.Native.Nat.{◌+◌, ◌*◌, ◌-◌, ◌≤◌}
 use native.Mathlib.Omega.{arith}
-use borrow.Author.Rules.{rules}
-use lib.ListN.{length, take, drop}
-use Rattle.board.specs.Parts.{most_parts, blank}
-use Rattle.board_writer.specs.File.{part_bytes, parts_bytes, longest_part}
+use Rattle.board.specs.Parts.{blank}
+use Rattle.board_writer.specs.File.{part_bytes}
 use Rattle.board_writer.proofs.LengthLaws.{row-length_on, row-length_end}
 use Rattle.board_writer.proofs.lengths.parts_length.Goals as goal
 
