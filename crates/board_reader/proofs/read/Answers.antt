@@ -35,7 +35,8 @@ returns-in_default-row_answer c =
     c.if-s-gt-LONGEST_INPUT.false in
     let counts : counts_at current_edition c.args.s.now ≡ found c.read_counts-counts_read.result.counts c.in-Read.at =
     answer_went _ _ _ c.read_counts-counts_read.ensures _ c.in-Read.is in
-    answer_refused c.no_board-in_default-row_answer.result _ _ _ c.no_board-in_default-row_answer.ensures.0 c.no_board-in_default-row_answer.ensures.1
+    answer_refused c.no_board-in_default-row_answer.result _ _ _ c.no_board-in_default-row_answer.ensures.0
+    c.no_board-in_default-row_answer.ensures.1
     (ap told_read_answer c.in_default-row_answer.is)
     ∙ row_refused current_edition c.args.s.now c.read_counts-counts_read.result.counts c.in-Read.at short counts
     c.none.ensures _ _ (answer_stopped _ _ _ c.read_parts-row.ensures _ c.in_default-row_answer.is)

@@ -12,7 +12,8 @@ use Rattle.feed.proofs.linked.Tie as tie
 use Rattle.feed.proofs.FeedLaws.{linked_here, lower_known, linked-ends}
 
 abbrev invariant-loop : tie.invariant-loop
-invariant-loop bare terminals linked₀ x₀ linked x = FilledTo (λ (s : ℕ). s) (linked_to bare terminals) 0 most_terminals x linked
+invariant-loop bare terminals linked₀ x₀ linked x =
+    FilledTo (λ (s : ℕ). s) (linked_to bare terminals) 0 most_terminals x linked
 
 abbrev decreases-loop : tie.decreases-loop
 decreases-loop bare terminals linked₀ x₀ linked x = terminals - x

@@ -10,13 +10,16 @@ pub returns-in_default : goal.returns-in_default
 returns-in_default c = search (rules, told_refused, number_stopped, terminals_refused)
 
 pub returns-in_default-relays_read : goal.returns-in_default-relays_read
-returns-in_default-relays_read c = search (rules, bound, told-found, told_refused, number_stopped, count_at, relays_refused)
+returns-in_default-relays_read c =
+    search (rules, bound, told-found, told_refused, number_stopped, count_at, relays_refused)
 
 pub returns-in_default-buttons_read : goal.returns-in_default-buttons_read
-returns-in_default-buttons_read c = search (rules, bound, told-found, told_refused, number_stopped, count_at, buttons_refused)
+returns-in_default-buttons_read c =
+    search (rules, bound, told-found, told_refused, number_stopped, count_at, buttons_refused)
 
 pub returns-in_default-parts_read : goal.returns-in_default-parts_read
-returns-in_default-parts_read c = search (rules, bound, told-found, told_refused, number_stopped, count_at, parts_refused)
+returns-in_default-parts_read c =
+    search (rules, bound, told-found, told_refused, number_stopped, count_at, parts_refused)
 
 pub overflow_cast-counts : goal.overflow_cast-counts
 overflow_cast-counts c = search (rules, bound, told-found, count_at, count_most)

@@ -18,11 +18,13 @@ pub returns-in_default-answer : goal.returns-in_default-answer
 returns-in_default-answer c = search (rules, bound, told-found, no-part-told, ends_refused, answer_stopped)
 
 pub returns-in_default-name_read : goal.returns-in_default-name_read
-returns-in_default-name_read c = search (rules, bound, told-found, told_refused, number_stopped, name_refused, answer_went)
+returns-in_default-name_read c =
+    search (rules, bound, told-found, told_refused, number_stopped, name_refused, answer_went)
 
 pub overflow_cast-name : goal.overflow_cast-name
 overflow_cast-name c =
-    let name : name_at current_edition c.args.counts c.in-Read.kind_number c.args.s.now c.in-Read-answer.name_at ≡ bound (c.in-Read-name_read.name, (c.in-Read-name_read.next, tt)) =
+    let name : name_at current_edition c.args.counts c.in-Read.kind_number c.args.s.now c.in-Read-answer.name_at
+    ≡ bound (c.in-Read-name_read.name, (c.in-Read-name_read.next, tt)) =
     told-found _ _ _ _ c.in-Read-name_read.is c.read_name-name_read.ensures in
     record {
       fits = name_below _ _ _ _ _ _ _ 256 name (omega (arith, c.well_formed.1.1.0.1.1.1.0.1))

@@ -10,7 +10,8 @@ use Rattle.board_writer.proofs.bytes.write_fields.Given as goal
 abbrev pub invariant-loop-i : goal.invariant-loop-i
 invariant-loop-i l =
     (l.count ≤ most_fields) × (length l.numbers ≡ most_fields) × (l.i ≤ l.count)
-    × ToCome l.initial.out l.start (numbers_bytes (take l.count l.numbers)) l.out l.at (numbers_bytes (drop l.i (take l.count l.numbers)))
+    × ToCome l.initial.out l.start (numbers_bytes (take l.count l.numbers)) l.out l.at
+    (numbers_bytes (drop l.i (take l.count l.numbers)))
 
 abbrev pub decreases-loop-i : goal.decreases-loop-i
 decreases-loop-i l =

@@ -10,14 +10,16 @@ put-fields_at-requires c = search (rules, number-room, part_to_come)
 
 pub write_fields-requires : goal.write_fields-requires
 write_fields-requires c =
-    let after-kind : PartToCome c.args.part c.args.out.now c.args.at c.put-fields_at.new.out c.put-fields_at.result (fields_of c.args.part) =
+    let after-kind : PartToCome c.args.part c.args.out.now c.args.at c.put-fields_at.new.out c.put-fields_at.result
+    (fields_of c.args.part) =
     number_put c.number.ensures
     (part_to_come c.args.part c.args.out.now c.args.at c.requires) c.put-fields_at.ensures in
     fields_to_come c.args.part c.fields-fields.ensures after-kind
 
 pub returns : goal.returns
 returns c =
-    let after-kind : PartToCome c.args.part c.args.out.now c.args.at c.put-fields_at.new.out c.put-fields_at.result (fields_of c.args.part) =
+    let after-kind : PartToCome c.args.part c.args.out.now c.args.at c.put-fields_at.new.out c.put-fields_at.result
+    (fields_of c.args.part) =
     number_put c.number.ensures
     (part_to_come c.args.part c.args.out.now c.args.at c.requires) c.put-fields_at.ensures in
     part_written c.args.part c.fields-fields.ensures after-kind

@@ -10,7 +10,8 @@ use Rattle.board_writer.proofs.bytes.write_parts.Given as goal
 abbrev pub invariant-loop-i : goal.invariant-loop-i
 invariant-loop-i l =
     (l.count ≤ most_parts) × (length l.parts ≡ most_parts) × (l.i ≤ l.count)
-    × ToCome l.initial.out l.start (parts_bytes (take l.count l.parts)) l.out l.at (parts_bytes (drop l.i (take l.count l.parts)))
+    × ToCome l.initial.out l.start (parts_bytes (take l.count l.parts)) l.out l.at
+    (parts_bytes (drop l.i (take l.count l.parts)))
 
 abbrev pub decreases-loop-i : goal.decreases-loop-i
 decreases-loop-i l =

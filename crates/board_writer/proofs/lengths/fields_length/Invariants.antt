@@ -10,8 +10,10 @@ use Rattle.board_writer.proofs.lengths.fields_length.Given as goal
 
 abbrev pub invariant-loop-i : goal.invariant-loop-i
 invariant-loop-i l =
-    (l.count ≤ most_fields) × (length l.numbers ≡ most_fields) × (l.i ≤ l.count) × (l.total ≤ l.i * current_width.longest)
-    × (l.total + length (numbers_bytes (drop l.i (take l.count l.numbers))) ≡ length (numbers_bytes (take l.count l.numbers)))
+    (l.count ≤ most_fields) × (length l.numbers ≡ most_fields) × (l.i ≤ l.count)
+    × (l.total ≤ l.i * current_width.longest)
+    × (l.total + length (numbers_bytes (drop l.i (take l.count l.numbers)))
+    ≡ length (numbers_bytes (take l.count l.numbers)))
 
 abbrev pub decreases-loop-i : goal.decreases-loop-i
 decreases-loop-i l =
