@@ -3,7 +3,7 @@
 use borrow.Author.Rules.{rules}
 use native.Mathlib.Omega.{arith}
 use Prim.Native.Nat.{◌≤◌}
-use mathlib.Core.Path.{◌≡◌, refl, ap, ◌∙◌}
+use mathlib.Core.Path.{◌≡◌, ap, ◌∙◌}
 use Rattle.refusals.specs.Outcomes.{given}
 use Rattle.refusals.specs.Order.{told_against}
 use Rattle.board.specs.Rules.{most_relays}
@@ -23,7 +23,13 @@ follow-requires c =
     let can = usable_given _ _ (runnable_given _ _ _ (taken)) in
     ((fine_range _ can.0).relays_few, can.2) in
     let given-fine = fine in
-    record { relays_few = given-fine.0; start_kept = given-fine.1; some_notches = omega arith; notches_few = omega arith }
+    record {
+      relays_few =
+          given-fine.0;
+      start_kept = given-fine.1;
+      some_notches = omega arith;
+      notches_few = omega arith;
+    }
 
 pub returns-then-log-le-SHORT_LOG : goal.returns-then-log-le-SHORT_LOG
 returns-then-log-le-SHORT_LOG c = search (rules, runnable_asked, running_ran)
@@ -37,7 +43,13 @@ follow-requires-in-Nothing c =
     let can = usable_given _ _ (runnable_given _ _ _ (taken)) in
     ((fine_range _ can.0).relays_few, can.2) in
     let given-fine = fine in
-    record { relays_few = given-fine.0; start_kept = given-fine.1; some_notches = omega arith; notches_few = omega arith }
+    record {
+      relays_few =
+          given-fine.0;
+      start_kept = given-fine.1;
+      some_notches = omega arith;
+      notches_few = omega arith;
+    }
 
 pub returns-else-log-le-SHORT_LOG : goal.returns-else-log-le-SHORT_LOG
 returns-else-log-le-SHORT_LOG c = search (rules, runnable_asked, running_ran)

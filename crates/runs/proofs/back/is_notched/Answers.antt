@@ -1,10 +1,8 @@
 -- `runs::back::is_notched` meets its contract.
 use borrow.Author.Rules.{rules}
 use mathlib.Core.Path.{refl, ◌∙◌}
-use lib.ListN.{length}
 use Rattle.runs.proofs.NotchLaws.{place-within}
 use Rattle.runs.specs.LookingBack.{has_notch}
-use Rattle.std.proofs.Common.{arith}
 use Rattle.runs.proofs.back.is_notched.Goals as goal
 
 pub bounds-notches-at : goal.bounds-notches-at

@@ -1,9 +1,6 @@
 -- `runs::back::met_ago` meets its contract: the loop looks back move by move.
 use borrow.Author.Rules.{rules}
-use native.Mathlib.Omega.{arith}
-use mathlib.Core.Path.{refl, ap, ◌∙◌}
-use Rattle.bits.specs.Sets.{flipped}
-use Rattle.runs.proofs.BackLaws.{Looking, looking_met, looking_on, looking_none}
+use Rattle.runs.proofs.BackLaws.{looking_met, looking_on, looking_none}
 use Rattle.runs.proofs.back.met_ago.Goals as goal
 
 pub returns-then-was-drawn : goal.returns-then-was-drawn

@@ -1,10 +1,8 @@
 -- `runs::back::notch` meets its contract.
 use borrow.Author.Rules.{rules}
 use mathlib.Core.Path.{refl}
-use lib.ListN.{length}
 use Rattle.runs.proofs.NotchLaws.{place-within}
 use Rattle.runs.specs.LookingBack.{with_notch}
-use Rattle.std.proofs.Common.{arith}
 use Rattle.runs.proofs.back.notch.Goals as goal
 
 pub bounds-notches-at : goal.bounds-notches-at

@@ -1,6 +1,4 @@
 -- `runs::back::place` meets its contract.
-use borrow.Author.Rules.{rules}
-use native.Mathlib.Omega.{arith}
 use mathlib.Core.Path.{refl}
 use Rattle.runs.specs.LookingBack.{notch_place}
 use Rattle.runs.proofs.back.place.Goals as goal

@@ -3,19 +3,14 @@
 -- relay.
 use borrow.Author.Rules.{rules}
 use native.Mathlib.Omega.{arith}
-use Prim.Native.Nat.{◌-◌}
-use mathlib.Core.Path.{◌≡◌, refl, sym, ap, ◌∙◌}
-use lib.ListN.{length}
-use Rattle.kept.specs.Kept.{kept_at}
-use Rattle.moves.specs.Steps.{told_move, step_of}
+use mathlib.Core.Path.{refl, ap, ◌∙◌}
+use Rattle.moves.specs.Steps.{told_move}
 use Rattle.moves.proofs.StepLaws.{step_turns, kept_made_lem}
-use Rattle.runs.specs.Runs.{run_of}
-use Rattle.runs.specs.Running.{ran}
-use Rattle.runs.proofs.SeenLaws.{seeing, step_seen, told-moving}
-use Rattle.runs.proofs.CourseLaws.{Course, ScanSoFar, course_starts, scan_starts, scan_rests, scan_long}
+use Rattle.runs.proofs.SeenLaws.{step_seen, told-moving}
+use Rattle.runs.proofs.CourseLaws.{course_starts, scan_starts, scan_rests}
 use Rattle.runs.proofs.CourseLaws.{course_buzz, course_idle, course_conflict, course_spent, course-moves}
 use Rattle.runs.proofs.BackLaws.{back-within}
-use Rattle.runs.proofs.NotchLaws.{notching-length, covered-spares}
+use Rattle.runs.proofs.NotchLaws.{covered-spares}
 use Rattle.runs.proofs.course.follow.Goals as goal
 
 pub run-init : goal.run-init
