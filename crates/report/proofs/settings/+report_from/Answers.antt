@@ -19,7 +19,8 @@ followed-requires t c =
     record {
       some_within = both_ways-within _ _ _ _ ((can_set_fewer _ _ _ _ c.requires _ (omega arith))) _
           c.report_from-off.ensures;
-      others_within = both_ways-within _ _ _ _ ((can_set_on _ _ _ _ c.requires c.if-left-eq0.false _ _ _ c.wide.ensures.0
+      others_within =
+          both_ways-within _ _ _ _ ((can_set_on _ _ _ _ c.requires c.if-left-eq0.false _ _ _ c.wide.ensures.0
           c.push.ensures c.report_from-off.auto.log)) _
           c.report_from-on.ensures;
     }
