@@ -24,18 +24,21 @@ returns-in_default c =
 
 pub overflow_add-used : goal.overflow_add-used
 overflow_add-used c =
-    let goes : Goes _ _ _ _ _ _ _ c.loop-length.invariant c.line_at-handed.result _ c.line_at-handed.ensures c.in-Written.length =
+    let goes : Goes _ _ _ _ _ _ _ c.loop-length.invariant c.line_at-handed.result _ c.line_at-handed.ensures
+    c.in-Written.length =
     line_goes _ _ _ _ _ _ _ _ _ _ c.line_at-handed.ensures _ c.in-Written.is in
     omega (arith, goes.filled_on.within)
 
 pub loop-length-smaller : goal.loop-length-smaller
 loop-length-smaller c =
-    let goes : Goes _ _ _ _ _ _ _ c.loop-length.invariant c.line_at-handed.result _ c.line_at-handed.ensures c.in-Written.length =
+    let goes : Goes _ _ _ _ _ _ _ c.loop-length.invariant c.line_at-handed.result _ c.line_at-handed.ensures
+    c.in-Written.length =
     line_goes _ _ _ _ _ _ _ _ _ _ c.line_at-handed.ensures _ c.in-Written.is in
     omega (arith, goes.filled_on.within, goes.grows)
 
 pub loop-length-preserved : goal.loop-length-preserved
 loop-length-preserved c =
-    let goes : Goes _ _ _ _ _ _ _ c.loop-length.invariant c.line_at-handed.result _ c.line_at-handed.ensures c.in-Written.length =
+    let goes : Goes _ _ _ _ _ _ _ c.loop-length.invariant c.line_at-handed.result _ c.line_at-handed.ensures
+    c.in-Written.length =
     line_goes _ _ _ _ _ _ _ _ _ _ c.line_at-handed.ensures _ c.in-Written.is in
     goes.filled_on
