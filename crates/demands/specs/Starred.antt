@@ -306,7 +306,15 @@ runs b s log e m t r l =
 abbrev pub buzzed : Board → State → List ℕ → ℕ → ℕ → State → List ℕ → Row
 buzzed b s log i d t l =
     ran b (kept_at b s) log
-    (record { word = given buzz; moves = i + d; kept = kept_at b t; relay = no_relay; earlier = i; between = d; log = l })
+    (record {
+      word = given buzz;
+      moves = i + d;
+      kept = kept_at b t;
+      relay = no_relay;
+      earlier = i;
+      between = d;
+      log = l;
+    })
 
 abbrev pub figures : ℕ → ℕ → ℕ → ℕ → ℕ → ℕ → ℕ → ℕ → Figures
 figures k i z c s m t f =
