@@ -33,10 +33,12 @@ loop-length-init g c = none_printed NextLine _ _ _
 pub loop-length-preserved : goal.loop-length-preserved
 loop-length-preserved g c =
     more_printed NextLine _ _ c.loop-length.session _ _ _ c.loop-length.line _ c.next_line-handed.result _
-    c.loop-length.invariant c.next_line-handed.ensures c.in-Written.is c.in_ok-write_all.ensures
+    c.loop-length.invariant c.next_line-handed.ensures c.in-Written.is c.in_ok-write_all.ensures.bytes
 
 pub returns-in_default : goal.returns-in_default
-returns-in_default g c =
-    all_lines_printed _ _ c.loop-length.session _ _ c.loop-length.line _ c.next_line-handed.result
-    c.begin-session.ensures c.loop-length.invariant (omega (arith, c.loop-length.array_long))
-    c.next_line-handed.ensures c.in_default.not-Written
+returns-in_default g c = record {
+  all_written =
+      all_lines_printed _ _ c.loop-length.session _ _ c.loop-length.line _ c.next_line-handed.result
+      c.begin-session.ensures c.loop-length.invariant (omega (arith, c.loop-length.array_long))
+      c.next_line-handed.ensures c.in_default.not-Written;
+}
