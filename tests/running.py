@@ -7,8 +7,8 @@ the number of moves; the longest log, filled and not; the boards of tests/lib/sh
 with more chains than any allowance (tests/lib/feed_boards.py). Of the program's own answers it compares any two runs from one
 board and state: the one with the longer log starts with every move of the other, and is the same if that one ended idle, in
 conflict or with buzz; and no run whose log has room for as many moves as the board has states is spent. Seeded, so each run tries
-the same cases; `python3 tests/running.py SEED BOARDS` tries others, or more (it is 1 and 130 else). Needs target/bin/run_cases,
-which `rt check run_cases` builds."""
+the same cases; `python3 tests/running.py SEED BOARDS` tries others, or more (it is 1 and 130 else). Needs the program run_cases,
+which `rt ci` builds, or `rt run` in its folder."""
 import itertools
 import os
 import random
