@@ -54,11 +54,13 @@ module _ (t : List ℕ → Bool) (cs : List (List ℕ)) (x : ℕ) (u : Verdict)
       from said.Live (live_by c within first is) most = live c first is
       from said.Dead (dead_by within first is) most = dead first is
       from said.Undecided (undecided_by under is) most = absurd (omega (arith, under, most))
+      from (said.Refused _) never most = elim never [ ]
 
       below : (f : Finding) → FindingBy t cs x u f → x < effort t cs → f ≡ said.Undecided
       below said.Live (live_by c within first is) few = absurd (omega (arith, within, few))
       below said.Dead (dead_by within first is) few = absurd (omega (arith, within, few))
       below said.Undecided (undecided_by under is) few = refl
+      below (said.Refused _) never few = elim never [ ]
 
   live_turns : (w : ℕ) (v : Verdict) → FindingBy t cs w v said.Live → (v.effort ≤ w) × Turned x v u
   live_turns w v (live_by c within first is) =

@@ -197,6 +197,7 @@ finding_by_said t cs w v said.Live k p (live_by c within first is) says = refuse
 finding_by_said t cs w v said.Dead k p (dead_by within first is) says = refused_never k p verdict.dead (sym says)
 finding_by_said t cs w v said.Undecided k p (undecided_by short is) says =
     refused_never k p verdict.undecided (sym says)
+finding_by_said t cs w v (said.Refused _) k p never says = elim never [ ]
 
 -- what is judged is refused exactly as the call says
 module _ (b : Board) (h : Kept) (r : ℕ) (n : Which) (w : ℕ) (v : Verdict) (told : Judges b h r n w v) where

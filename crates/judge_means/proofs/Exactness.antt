@@ -262,6 +262,7 @@ module _ (b : Board) (k : Kept) (r : ℕ) (n : Which) (w : ℕ) (e : Winding) (v
       back said.Live (live_by c within first is) h = refl
       back said.Dead (dead_by within first is) h = absurd (unlisted_dead b s e fits inside first h.0)
       back said.Undecided (undecided_by short is) h = absurd (omega (arith, weighs, short, h.1))
+      back (said.Refused _) never h = elim never [ ]
 
   -- within the allowance what is not live is dead
   its_not_live : v.finding ≡ said.Dead ↔ ¬ (IsLive b s e) × (effort_of b s e ≤ w)
@@ -274,6 +275,7 @@ module _ (b : Board) (k : Kept) (r : ℕ) (n : Which) (w : ℕ) (e : Winding) (v
       back said.Live (live_by c within first is) h = absurd (h.0 (listed_live b s e fits inside c first))
       back said.Dead (dead_by within first is) h = refl
       back said.Undecided (undecided_by short is) h = absurd (omega (arith, weighs, short, h.1))
+      back (said.Refused _) never h = elim never [ ]
 
   its-shunted : Shunted b s e → v.finding ≡ said.Dead
   its-shunted is =
@@ -309,6 +311,7 @@ module _ (b : Board) (k : Kept) (r : ℕ) (n : Which) (w : ℕ) (e : Winding) (v
       back said.Live (live_by c within first is) short = absurd (omega (arith, weighs, short, within))
       back said.Dead (dead_by within first is) short = absurd (omega (arith, weighs, short, within))
       back said.Undecided (undecided_by under is) short = refl
+      back (said.Refused _) never short = elim never [ ]
 
   -- of a chain that shows the winding: it is the first shown, or stands after it in the list
   shown_later : (c d : List ℕ) → FirstAt (shows e.a e.b) (chains_of b s) c → ChainOf b s d

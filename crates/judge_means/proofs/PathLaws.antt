@@ -63,7 +63,10 @@ place_step : (p : List ℕ) (i : ℕ) → i < length p - 1 → (place p i, place
 place_step [] i h = absurd (omega arith)
 place_step (x ∷ []) i h = absurd (omega arith)
 place_step (x ∷ y ∷ p) zero h = inl refl
-place_step (x ∷ y ∷ p) (suc i) h = inr (rw (place_later x (y ∷ p) i) (place_step (y ∷ p) i (omega arith)))
+place_step (x ∷ y ∷ p) (suc i) h =
+    inr
+    (subst (λ (m : ℕ). (place (y ∷ p) i, m) ∈ steps (y ∷ p)) (sym (place_later x (y ∷ p) i))
+    (place_step (y ∷ p) i (omega arith)))
 
 -- the connections that a path contains are its steps
 pub contains_step : (p : List ℕ) (x y : ℕ) → PathContainsConnection p x y → (x, y) ∈ steps p

@@ -3,12 +3,9 @@
 -- Later crates cite those of the first two sections, and nothing of the definitions' text.
 use mathlib.Core.Path.{◌≡◌, refl, sym, ap, ap₂, ◌∙◌}
 use mathlib.Core.List.{List, [], ◌∷◌, ◌++◌}
-use mathlib.Core.Logic.{inl, inr}
 use Prim.Native.Nat.{ℕ, ◌+◌, ◌≤◌, ◌<◌}
 use native.Mathlib.Nat.{zero-add}
 use native.Mathlib.Omega.{arith}
-use denote.Enum.Declared.{tag_of}
-use types.Run.{OneOf}
 use borrow.Author.Tests.{le-leb, lt-leb}
 use lib.ListN.{length, drop, length-append}
 use Rattle.refusals.specs.declared.Refusal.{Refusal}
@@ -21,7 +18,6 @@ use Rattle.runs.specs.declared.Ending as code-ending
 use Rattle.runs.specs.declared.Ending.TheVariants.{Idle, Spent, Conflict, Buzz, Refused}
 use Rattle.runs.specs.Runs.{Ending, idle, spent, conflict, buzz}
 use Rattle.runs.specs.Running.{told_ending}
-use Rattle.runs.specs.contracts.Ending.{the_type}
 use Rattle.lines.specs.Texts.{space, decimal, spaced, ended, refused_text, word_text, most_digits}
 use Rattle.lines.specs.declared.Line as code
 use Rattle.lines.specs.declared.LineWritten.{LineWritten}
@@ -100,14 +96,8 @@ line_put l out room put =
 number_few : (n c : ℕ) → length (ended_by (decimal n) c) ≤ 21
 number_few n c = simp length-append (omega (arith, decimal_few n))
 
-below_four : (t : ℕ) → OneOf (0 ∷ 1 ∷ 2 ∷ 3 ∷ []) t → t < 4
-below_four t (inl e) = omega arith
-below_four t (inr (inl e)) = omega arith
-below_four t (inr (inr (inl e))) = omega arith
-below_four t (inr (inr (inr e))) = omega arith
-
--- a run that was not refused, by the tag of its word
-event_text : (e m d : ℕ) (w : code-ending.Ending) → OneOf (0 ∷ 1 ∷ 2 ∷ 3 ∷ []) (tag_of the_type w)
+-- a run that was not refused
+event_text : (e m d : ℕ) (w : code-ending.Ending) → ((r : Refusal) → w ≡ Refused r → ⊥)
     → spaced (decimal e) ++ spaced (word_text (told_ending w)) ++ spaced (decimal m) ++ ended (decimal d)
     ≡ line_text (event e (told_ending w) m d)
 unfolding line_text
@@ -115,7 +105,7 @@ event_text e m d Idle ran = refl
 event_text e m d Spent ran = refl
 event_text e m d Conflict ran = refl
 event_text e m d Buzz ran = refl
-event_text e m d (Refused r) ran = absurd (omega (arith, below_four 4 ran))
+event_text e m d (Refused r) ran = absurd (ran r refl)
 
 module _ (e m d : ℕ) (w : code-ending.Ending) (out : List ℕ) (room : longest_line ≤ length out) {at₁ : ℕ}
     {out₁ : List ℕ} (first : Put out 0 (spaced (decimal e)) at₁ out₁) where
@@ -148,7 +138,7 @@ module _ (e m d : ℕ) (w : code-ending.Ending) (out : List ℕ) (room : longest
       pub drawn-room : at₃ + most_digits < length out₃
       drawn-room = omega (arith, put-room out₂ at₂ (spaced (decimal m)) third 21 21 (number_few m space) both-room)
 
-      pub event_ran : {at₄ : ℕ} {out₄ : List ℕ} → OneOf (0 ∷ 1 ∷ 2 ∷ 3 ∷ []) (tag_of the_type w)
+      pub event_ran : {at₄ : ℕ} {out₄ : List ℕ} → ((r : Refusal) → w ≡ Refused r → ⊥)
           → Put out₃ at₃ (ended (decimal d)) at₄ out₄
           → Put out 0 (line_text (event e (told_ending w) m d)) at₄ out₄
       event_ran {at₄} {out₄} ran fourth =

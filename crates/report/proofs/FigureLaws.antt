@@ -2,7 +2,7 @@
 use Prim.Native.Nat.{ℕ, suc, ◌+◌, ◌*◌, ◌^◌, ◌<◌, ◌≤◌, max}
 use native.Mathlib.Omega.{arith}
 use native.Mathlib.Nat.{suc-mul}
-use mathlib.Core.Path.{◌≡◌, refl, sym, ap}
+use mathlib.Core.Path.{◌≡◌, refl, sym, ap, subst}
 use mathlib.Core.Bool.{cond}
 use mathlib.Core.List.{List, [], ◌∷◌, ◌++◌}
 use lib.Dec.{ltb, eqb}
@@ -59,7 +59,10 @@ first_sooner (x ∷ xs) ys least = by_test (eqb (moves_in x) (max (moves_in x) (
     (λ is.
     let other = eqb-false (moves_in x) (max (moves_in x) (most_moves xs)) is in
     let rest : max (moves_in x) (most_moves xs) ≡ most_moves xs = omega (arith, other) in
-    rw (is, rest) (ap suc (first_sooner xs ys (omega (arith, rest, least)))))
+    rw is
+    (ap suc
+    (subst (λ (m : ℕ). first_with m (xs ++ ys) ≡ first_with m xs) (sym rest)
+    (first_sooner xs ys (omega (arith, rest, least))))))
 
 first-append : (xs ys : List Run) → first_with (most_moves (xs ++ ys)) (xs ++ ys)
     ≡ cond (ltb (most_moves xs) (most_moves ys)) (length xs + first_with (most_moves ys) ys)

@@ -1,7 +1,7 @@
 -- Laws of the most moves of some runs, and of the place of the first that has so many.
 use Prim.Native.Nat.{ℕ, zero, suc, ◌<◌, ◌≤◌, max}
 use native.Mathlib.Omega.{arith}
-use mathlib.Core.Path.{◌≡◌, refl}
+use mathlib.Core.Path.{◌≡◌, refl, sym, subst}
 use mathlib.Core.Bool.{Bool, true, false, cond}
 use mathlib.Core.List.{List, [], ◌∷◌}
 use lib.Dec.{eqb}
@@ -23,7 +23,9 @@ first_inside (x ∷ y ∷ xs) some =
     (λ is.
     let other = eqb-false (moves_in x) (max (moves_in x) (most_moves (y ∷ xs))) is in
     let rest : max (moves_in x) (most_moves (y ∷ xs)) ≡ most_moves (y ∷ xs) = omega (arith, other) in
-    rw (is, rest) (omega (arith, first_inside (y ∷ xs) (omega arith))))
+    let deeper : first_with (max (moves_in x) (most_moves (y ∷ xs))) (y ∷ xs) < length (y ∷ xs) =
+    subst (λ (m : ℕ). first_with m (y ∷ xs) < length (y ∷ xs)) (sym rest) (first_inside (y ∷ xs) (omega arith)) in
+    rw is (omega (arith, deeper)))
 
 module _ (d : Run) where
   pub none_more : (xs : List Run) (k : ℕ) → k < length xs → moves_in (get_or xs k d) ≤ most_moves xs

@@ -248,7 +248,7 @@ module _ {f : Stepper} {g : ℕ → Bool → step.Move} {k : ℕ} {log₀ log : 
               trail = rw (← next, left_state) trail;
               many = notching-length notches h.state.drawn notches-now here.many;
               covered =
-                  rw notches-now
+                  subst (λ (ns : List ℕ). Covered ns (h.state ∷ here.came)) (sym notches-now)
                   (covered_on notches h.state here.came (omega (arith, some, here.many)) here.covered);
               goes =
                   here.goes

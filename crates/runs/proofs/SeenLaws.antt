@@ -2,8 +2,7 @@
 -- definition of a step, by its laws.
 use Prim.Native.Nat.{ℕ, ◌<◌, ◌≤◌}
 use native.Mathlib.Omega.{arith}
-use denote.Enum.Declared.{tag_of}
-use mathlib.Core.Path.{◌≡◌, refl, ap}
+use mathlib.Core.Path.{◌≡◌, refl, sym, ap, subst}
 use mathlib.Core.Bool.{Bool}
 use mathlib.Core.List.{List}
 use lib.ListN.{get_or}
@@ -20,17 +19,12 @@ use Rattle.judge.specs.declared.Windings.{Windings}
 use Rattle.judge.specs.declared.Windings.TheVariants.{Regular}
 use Rattle.judge.specs.RelayWindings.{told_windings, FindsAllWindings}
 use Rattle.judge.proofs.AllLaws.{windings-place}
-use Rattle.moves.specs.contracts.Move.{the_type}
 use Rattle.moves.specs.declared.Move as code-move
-use Rattle.moves.specs.declared.Move.TheVariants.{Drew, Dropped, Rests, Conflict}
+use Rattle.moves.specs.declared.Move.TheVariants.{Drew, Dropped}
 use Rattle.moves.specs.Steps as step
 use Rattle.moves.specs.Steps.{move_by, step_of, told_move}
 use Rattle.moves.proofs.StepLaws.{step_by_lem, step_worked}
 use Rattle.runs.proofs.BackLaws.{Moving}
-
-first_two : (n : ℕ) → (n ≡ 0) ⊎ (n ≡ 1) → n < 2
-first_two n (inl e) = omega arith
-first_two n (inr e) = omega arith
 
 -- what the prover has for a place beyond an array of windings
 abbrev beyond : Windings
@@ -51,8 +45,6 @@ step_seen b h f all own worked found most q below =
     (windings-place b all q beyond found (omega (arith, most, below)) below) refl refl)
 
 -- the arm of `match` for the relays that move
-pub told-moving : (m : code-move.Move) → (tag_of the_type m ≡ 0) ⊎ (tag_of the_type m ≡ 1) → Moving (told_move m)
-told-moving Drew e = tt
-told-moving Dropped e = tt
-told-moving Rests e = absurd (omega (arith, first_two 2 e))
-told-moving Conflict e = absurd (omega (arith, first_two 3 e))
+pub told-moving : (m : code-move.Move) → (m ≡ Drew) ⊎ (m ≡ Dropped) → Moving (told_move m)
+told-moving m (inl e) = subst (λ (x : code-move.Move). Moving (told_move x)) (sym e) tt
+told-moving m (inr e) = subst (λ (x : code-move.Move). Moving (told_move x)) (sym e) tt

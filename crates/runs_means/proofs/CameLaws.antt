@@ -39,6 +39,7 @@ state-same s t is =
 -- a state among those that the run came through is met
 pub member_met : (d : ℕ) (s : State) (ts : List State) → s ∈ ts → met_from (suc d) s ts ≡ 0 → ⊥
 unfolding met_from
+member_met d s [] never none = elim never [ ]
 member_met d s (t ∷ ts) (inl here) none = omega (arith, rw (state-same s t (sym here)) at none)
 member_met d s (t ∷ ts) (inr there) none = by (same_state t s) none (member_met (suc d) s ts there)
   where

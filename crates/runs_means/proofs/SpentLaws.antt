@@ -37,6 +37,7 @@ drawn_of ss = map (λ (s : State). s.drawn) ss
 -- a state with the same buttons and the same relays is that state
 drawn-member : (s : State) (ss : List State) → All (λ (t : State). t.pushed ≡ s.pushed) ss → s.drawn ∈ drawn_of ss
     → s ∈ ss
+drawn-member s [] same never = elim never [ ]
 drawn-member s (t ∷ ss) same (inl here) =
     inl (λ i. record { drawn = here i; pushed = sym same.0 i })
 drawn-member s (t ∷ ss) same (inr there) = inr (drawn-member s ss same.1 there)

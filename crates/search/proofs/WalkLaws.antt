@@ -5,13 +5,11 @@ use native.Mathlib.Omega.{arith}
 use native.Mathlib.Nat.{sub-zero}
 use native.Mathlib.Numerals.{add-one}
 use mathlib.Core.Path.{◌≡◌, refl, sym, ap, subst, ◌∙◌}
-use mathlib.Core.Logic.{◌⊎◌, inl, inr}
 use mathlib.Core.Bool.{Bool, true, false, cond}
 use mathlib.Core.List.{List, [], ◌∷◌, ◌++◌}
 use lib.ListN.{length, get_or, take, set, length-append, length-set}
 use lib.Seq.{take-suc-set, take-set-le, take-take}
 use borrow.Author.Tests.{eq-eqb, ne_eqb}
-use denote.Enum.Declared.{tag_of}
 use Rattle.bits.specs.Sets.{member, remaining, first_from}
 use Rattle.bits.proofs.SetLaws.{member-remaining}
 use Rattle.bits.proofs.LowestLaws.{first-same, first_after}
@@ -32,7 +30,6 @@ use Rattle.search.specs.Walks.{told_walked}
 use Rattle.search.proofs.CarryLaws.{met-member, begun-carried, gone-carried}
 use Rattle.search.proofs.NextLaws.{tries_none, tries_some}
 use Rattle.search.proofs.ScanLaws.{carried_on, scan-append, scan-left, scan-weighed}
-use Rattle.search.specs.contracts.walk.Scan.{the_type}
 
 -- ---- what a chain on its way carries, field by field
 
@@ -182,16 +179,14 @@ walked_on : (r : Walked) (ps : List ℕ) (go : ℕ → Scan) → r.found ≡ Sho
     → carried_on (told_walked r ps) go ≡ go r.left
 walked_on r ps go e = rw e refl
 
-handed_back : (r : Walked) (ps : List ℕ) (go : ℕ → Scan) → (tag_of the_type r.found ≡ 0)
-    ⊎ (tag_of the_type r.found ≡ 2) → carried_on (told_walked r ps) go ≡ told_walked r ps
-handed_back r ps go k = back r.found refl k
+handed_back : (r : Walked) (ps : List ℕ) (go : ℕ → Scan) → (r.found ≡ ShowingNone → ⊥)
+    → carried_on (told_walked r ps) go ≡ told_walked r ps
+handed_back r ps go other = back r.found refl
   where
-    back : (f : code-scan.Scan) → r.found ≡ f → (tag_of the_type f ≡ 0) ⊎ (tag_of the_type f ≡ 2)
-        → carried_on (told_walked r ps) go ≡ told_walked r ps
-    back Showing e k = rw e refl
-    back AllowanceSpent e k = rw e refl
-    back ShowingNone e (inl q) = absurd (omega (arith, q))
-    back ShowingNone e (inr q) = absurd (omega (arith, q))
+    back : (f : code-scan.Scan) → r.found ≡ f → carried_on (told_walked r ps) go ≡ told_walked r ps
+    back Showing e = rw e refl
+    back AllowanceSpent e = rw e refl
+    back ShowingNone e = absurd (other e)
 
 -- the chain c, in the places ps, is to go on to a number from n up: u is the set of the neighbours of its end that it
 -- has not met, and m the lowest of them
@@ -303,10 +298,9 @@ module _ {near : List ℕ} {t n : ℕ} {v : Winding} {c : Chain} {ps : List ℕ}
           ∙ sym (tried-told ∙ walked_on r qs _ none)) kept-below kept-room
 
       -- else r is
-      pub try_back : (tag_of the_type r.found ≡ 0) ⊎ (tag_of the_type r.found ≡ 2)
-          → WalkComes r c ps qs (tried near t v (path_in c ps) n w)
-      try_back k = record {
-        told = sym (tried-told ∙ handed_back r qs _ k);
+      pub try_back : (r.found ≡ ShowingNone → ⊥) → WalkComes r c ps qs (tried near t v (path_in c ps) n w)
+      try_back other = record {
+        told = sym (tried-told ∙ handed_back r qs _ other);
         short = walked.short;
         kept = kept-below;
         room = kept-room;

@@ -10,8 +10,6 @@ use lib.ListN.{length, take, drop, length-append, length-drop, take-append-drop}
 use lib.Seq.{take_all, drop-length, drop-drop, take_at, drop_at}
 use borrow.Author.Tests.{leb-true, leb-false}
 use borrow.Rule.Slice.PartMut.{mid_of, put_mid}
-use denote.Enum.Declared.{tag_of}
-use types.Run.{OneOf}
 use Rattle.bits.proofs.BoolLaws.{by_test}
 use Rattle.refusals.specs.Outcomes.{Outcome, given, refused}
 use Rattle.refusals.specs.Refusals.{buffer_too_short}
@@ -326,11 +324,3 @@ module _ (b : Board) (a₀ : Ahead) (s out₀ : List ℕ) (a : Ahead) (out : Lis
         rw (told, end.buffer, f.text, f.bytes)
         (lines_end b a₀ s out₀ (told_ahead r.ahead) (told_hand_out r.answer) f.lines fits
         (subst (λ (n : ℕ). Why (length out₀ - n) (told_hand_out r.answer)) f.bytes end.why))
-
--- the answer to `let .. else` is no line
-pub tag_never_line : (a : code-handout.HandOut) → OneOf (1 ∷ 2 ∷ []) (tag_of the_type a) → (n : ℕ)
-    → a ≡ said.Written n → ⊥
-tag_never_line (said.Written m) (inl e) n is = absurd (omega (arith, e))
-tag_never_line (said.Written m) (inr e) n is = absurd (omega (arith, e))
-tag_never_line said.Over other n is = over_never n is
-tag_never_line (said.Refused q) other n is = let z : ◌≡◌ {A = ℕ} 0 1 = cc in omega arith

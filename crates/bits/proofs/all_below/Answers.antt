@@ -1,0 +1,13 @@
+-- `bits::all_below` meets its contract: every member of a word is below its room, and below that the code tests that no
+-- bit is left from n on.
+use mathlib.Core.Path.{sym}
+use native.Mathlib.Omega.{arith}
+use borrow.Author.Rules.{rules}
+use Rattle.bits.proofs.SetLaws.{within-room, within_shifted}
+use Rattle.bits.proofs.all_below.Goals as goal
+
+pub returns-then-n-ge-ROOM : goal.returns-then-n-ge-ROOM
+returns-then-n-ge-ROOM c = search (rules, within-room)
+
+pub returns : goal.returns
+returns c = within_shifted c.args.set c.args.n

@@ -1,0 +1,22 @@
+-- `board::same_fields` meets its contract. The invariant: the fields are the same exactly if those from i on are.
+use native.Mathlib.Omega.{arith}
+use Prim.Native.Nat.{ℕ, ◌≤◌, ◌-◌}
+use mathlib.Core.Path.{◌≡◌, refl, sym, ap, ◌∙◌}
+use borrow.Author.Tests.{eq-eqb, ne_eqb}
+use lib.Dec.{eqb}
+use lib.ListN.{length, take, drop, length-map}
+use Rattle.kinds.specs.Kinds.{most_fields}
+use Rattle.board.specs.Same.{alike}
+use Rattle.board.proofs.SameLaws.{taken_apart, same_walk_off, same_walk_on, same_walk_end}
+use Rattle.std.proofs.Common.{rules}
+use Rattle.board.proofs.same_fields.Given as goal
+
+abbrev pub invariant-loop-i : goal.invariant-loop-i
+invariant-loop-i l =
+    (l.count ≤ most_fields) × (length l.left ≡ most_fields) × (length l.right ≡ most_fields) × (l.i ≤ l.count)
+    × (alike eqb (take l.count l.left) (take l.count l.right)
+    ≡ alike eqb (drop l.i (take l.count l.left)) (drop l.i (take l.count l.right)))
+
+abbrev pub decreases-loop-i : goal.decreases-loop-i
+decreases-loop-i l =
+    l.count - l.i

@@ -1,0 +1,12 @@
+-- `judge::winding_for` meets its contract: refused by 15, 14 and 18 as `usable` says, else by 11 where the relay lacks
+-- it.
+use borrow.Author.Rules.{rules}
+use Rattle.judge.proofs.JudgeLaws.{asked-usable, asked_unusable}
+use Rattle.std.proofs.Common.{arith}
+use Rattle.judge.proofs.winding_for.Goals as goal
+
+pub returns-in-Nothing : goal.returns-in-Nothing
+returns-in-Nothing c = search (rules, asked-usable)
+
+pub returns-in-Refused : goal.returns-in-Refused
+returns-in-Refused c = search (rules, asked_unusable)

@@ -1,0 +1,18 @@
+-- `presses::push` meets its contract: `leave` is given the answer of `pressable`, and what is kept after the push.
+use borrow.Author.Rules.{rules}
+use mathlib.Core.Path.{ap, ◌∙◌}
+use mathlib.Core.Bool.{not}
+use Rattle.state.proofs.StateLaws.{pushed_push_other, drawn_push}
+use Rattle.presses.specs.Presses.{pushing}
+use Rattle.presses.proofs.PressLaws.{left_asked}
+use Rattle.std.proofs.Common.{arith}
+use Rattle.presses.proofs.push.Goals as goal
+
+pub returns : goal.returns
+unfolding pushing
+returns c =
+    c.leave.ensures
+    ∙ left_asked _ _ _ _ _ c.push.ensures (pushed_push_other c.args.kept.state _)
+    (drawn_push c.args.kept.state c.args.button) _ _ _ _ c.changed-next.ensures
+    c.pressable-against.ensures
+    (ap not c.is_pushed.ensures)

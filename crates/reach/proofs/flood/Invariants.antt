@@ -1,0 +1,17 @@
+-- `reach::flood` meets its contract. The invariant: from those seen and those done, the flood comes to its result. The
+-- measure falls because the set of those done grows.
+use Prim.Native.Nat.{◌-◌, ◌^◌}
+use native.Mathlib.Omega.{arith}
+use borrow.Author.Rules.{rules}
+use Rattle.bits.specs.Sets.{room}
+use Rattle.reach.specs.Floods.{flooded}
+use Rattle.reach.proofs.FloodLaws.{Comes, comes_begin, done_grows, comes_on, comes_end}
+use Rattle.reach.proofs.flood.Given as goal
+
+abbrev pub invariant-loop-from : goal.invariant-loop-from
+invariant-loop-from l =
+    Comes l.near l.out l.done l.seen (flooded l.near l.from l.out)
+
+abbrev pub decreases-loop-from : goal.decreases-loop-from
+decreases-loop-from l =
+    2 ^ room - l.done
