@@ -1,13 +1,16 @@
 """That the gate and the comparisons can fail. The gate, `.ci/run`, over a repository that stands in for the real one, with an `rt`
 that passes, fails or has bad must-fail edits, with tests that pass, fail, crash or say nothing, and with an exported CDPATH; the
 comparisons (tests/lib/program.py) over programs that print a line too many or too few, or inside a line, that say a word on
-standard error, and that do not end well."""
+standard error, and that do not end well; the reading of a must-fail edit's refusal (tests/must_fail_reasons.py) over what `rt` can
+say of one."""
 import os
 import subprocess
 import sys
 import tempfile
 
-sys.path.insert(0, os.path.join(os.path.dirname(os.path.abspath(__file__)), "lib"))
+for folder in ("lib", ""):
+    sys.path.insert(0, os.path.join(os.path.dirname(os.path.abspath(__file__)), folder))
+import must_fail_reasons
 import program
 import repository
 import stand_in
@@ -40,6 +43,20 @@ RTS = [  # what `rt ci` says, with which status, and how the gate ends with a te
     ("is for some crates alone", OK + SHARE + "3 passed, 0 failed (one alone: not the gate)\n", 0, "failed: rt ci(no-verdict)\n", "2 passed, 1 failed", 1),
     ("stops", "rt: crates.txt lists no crate\n0 passed, 1 failed\n", 2, "failed: rt ci rt ci(no-ok)\n", "2 passed, 2 failed", 1),
     ("says nothing", "", 0, "failed: rt ci(no-verdict) rt ci(no-ok)\n", "2 passed, 2 failed", 1),
+]
+VERDICTS = [  # what `rt` says of an edit, and whether it is refused for a fact
+    ("refused, as it must be: ./proofs/echo/Answers.antt:8:13: error: `returns`: expected type `A`, but this has type `B`", True),
+    ("refused, as it must be: note: src/lib.rt:13:1: it is not proved that what the function ensures holds when it returns", True),
+    ("refused, as it must be: note: src/clock.rt:16:5: `search` found no proof (`invariant_of-result`)", True),
+    ("refused, as it must be", False),
+    ("refused, as it must be: ./proofs/f/Answers.antt:5:27: error: `g`: module `low.Goals` has no `g` that can be named from here", False),
+    ("refused, as it must be: ./proofs/f/Answers.antt:5:27: error: `g`: a record has no field `n`", False),
+    ("refused, as it must be: ./proofs/f/Answers.antt:5:27: error: `g`: `n` is not in scope", False),
+    ("refused, as it must be (only because a proof file names what the edit took away): ./proofs/f/Answers.antt:5:27: error: `g`", False),
+    ("refused, as it must be (only by a limit of the prover): ./proofs/f/Answers.antt:5:27: error: `g`: antt ran out of stack", False),
+    ("BAD EDIT: an 'old:' text is in src/lib.rt 0 times, and not once", False),
+    ("NOT REFUSED: the crate is still proved with this edit", False),
+    ("NOT TRIED: its check was killed, most likely for memory, so nothing is known of it: run this again", False),
 ]
 FINE = "cat >/dev/null; echo one; echo two"
 PROGRAMS = [  # what a program does, and whether its answers are the two that are wanted
@@ -105,5 +122,16 @@ def comparisons():
     yield "an answer too few on two of three sessions", program.many(two, [b"session"] * 3) == [None] * 3
 
 
+def reasons():
+    """Edits of this repository, of which `rt` says one thing, or nothing, or two things."""
+    crate, label = next((crate, label) for crate in repository.crates() for label in repository.edits(crate))
+    for verdict, fine in VERDICTS:
+        yield f"of an edit {verdict!r}", must_fail_reasons.is_for_fact(verdict) == fine
+    line = f"rt: must-fail {crate}/{label}.edit: {VERDICTS[0][0]}\n"
+    for name, text, fine in (("nothing", "", 0), ("one thing", line, 1), ("two things", line * 2, 0), ("half of it", line[:-90], 0)):
+        checks = list(must_fail_reasons.checks("rt: low proved\n" + text))
+        yield f"{name} said of one edit: {checks[:1]}", [holds for _, holds in checks].count(True) == fine and len(checks) > 1
+
+
 if __name__ == "__main__":
-    sys.exit(repository.report(list(gates()) + list(comparisons())))
+    sys.exit(repository.report(list(gates()) + list(comparisons()) + list(reasons())))

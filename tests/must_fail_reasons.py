@@ -1,8 +1,12 @@
-"""Each must-fail edit was refused because a fact no longer holds: the first error in its log, read to its end, is an answer
-that the prover does not accept, and not a proof file that no longer fits the code. Reads the logs that `rt ci` left under
-target/."""
+"""Each must-fail edit was refused because a fact no longer holds. `rt` says of each edit what its try came to. It tells itself
+where an edit could not be applied, compiled or read (BAD EDIT), where its check came to no end (NOT TRIED), where the only errors
+are of proof files that name what the edit took away, and where only a limit of the prover stopped it; each of these fails here. Of
+the others it shows how the first error begins that is no such naming: that is an answer that the prover does not accept, or a need
+that is not proved any more. Errors before that one it does not show. In the gate this reads what `rt ci` said (RT_CI_SAID); by
+itself it asks `rt must-fail`, which tries no edit again that `rt ci` tried."""
 import os
 import re
+import subprocess
 import sys
 
 sys.path.insert(0, os.path.join(os.path.dirname(os.path.abspath(__file__)), "lib"))
@@ -10,47 +14,42 @@ import repository
 
 # What says that an edit changed the code's shape, or never reached a fact. That a name is not in scope "here" is advice on how
 # a message is read, and no such word.
-SHAPE = re.compile(r"has no `Need-|has no field|that can be named from here|error: `(?:Inv|μ)-[\w-]+`|expected type `tie\.(?:Need-|Then|Else|After-)|is not in scope(?! here)|Parse|expected `[\w-]+-spec` in .*the borrow checker")
+SHAPE = re.compile(
+    r"has no field|has no `|is no name|that can be named from here|is not in scope(?! here)|was not admitted|Parse|is never closed"
+    r"|error\[|ran out of|the borrow checker"
+)
 
-# What a message begins with: a path and a place in that file, or one of the words that the checker begins a line with. Every
-# other line goes on with the message before it; most of them are indented.
-BEGIN = re.compile(r"\S.*?:\d+:\d+:|\S.*?: error|(?:note|help):|(?:fn|struct|enum|logic|library|crate) |(?:logic|holes)=")
-SHOWN = 1_000  # characters of a message that are shown where it is no reason
-
-
-def messages(log):
-    """The messages of a log, each whole and in one line."""
-    found = []
-    for line in log.split("\n"):
-        if BEGIN.match(line):
-            found.append(line)
-        elif found:
-            found[-1] += " " + line.strip()
-    return found
+# What `rt` says of an edit: its crate, its label, and what the try came to.
+SAID = re.compile(r"^rt: must-fail (\w+)/([\w.-]+)\.edit: (.*)$", re.M)
+# An error of a proof, a definition or a need, or what is not proved at a place of the code.
+REFUSED = re.compile(r"refused, as it must be: ((?:note: )?\S+:\d+:\d+: .+)")
 
 
-def reason(log):
-    """The first error of an edit's log, or the first need that the search left, where a function has no proof file. None
-    where there is neither."""
-    found = messages(log)
-    # That something was not admitted only follows from another error, or from what the search left of a callee.
-    errors = [message for message in found if ": error" in message and "was not admitted" not in message]
-    left = [message for message in found if "`search` does not close" in message]
-    return next(iter(errors + left), None)
+def said():
+    """What `rt` said of the edits."""
+    path = os.environ.get("RT_CI_SAID")
+    if path:
+        with open(path, encoding="utf-8", errors="replace") as file:
+            return file.read()
+    return subprocess.run(["rt", "must-fail"], cwd=repository.ROOT, stdin=subprocess.DEVNULL, stdout=subprocess.PIPE, text=True, errors="replace").stdout
 
 
-def log_of(crate, label):
-    """The log of an edit, empty where there is none."""
-    log = os.path.join("target", "must-fail", crate, label, ".log")
-    return repository.text(log) if os.path.exists(repository.path(log)) else ""
+def is_for_fact(verdict):
+    """Whether what `rt` said of an edit is that it was refused for a fact."""
+    first = REFUSED.fullmatch(verdict)
+    return first is not None and not SHAPE.search(first[1])
 
 
-def checks():
+def checks(text):
+    """A check for each edit of the repository, by what was said."""
+    found = {}
+    for crate, label, verdict in SAID.findall(text):
+        found.setdefault((crate, label), []).append(verdict)
     for crate in repository.crates():
         for label in repository.edits(crate):
-            first = reason(log_of(crate, label))
-            yield f"{crate}/{label}: {first!s:.{SHOWN}}", first is not None and not SHAPE.search(first)
+            verdicts = found.get((crate, label), [])
+            yield f"{crate}/{label}: {verdicts}", len(verdicts) == 1 and is_for_fact(verdicts[0])
 
 
 if __name__ == "__main__":
-    sys.exit(repository.report(list(checks())))
+    sys.exit(repository.report(list(checks(said()))))
