@@ -10,9 +10,9 @@ too few, of which the board is read and its sets worked out, and no more: so its
 works out again for 18. The plain program has no refusals; its time is less that of judging once. The chain judge's control is W 0.
 
 Each time is the least of many, those that are compared taken in turn; in brackets the least and the most ratio of single
-rounds. Run from anywhere: python3 bench/divide.py, or with the path of an older target/bin/herdspiral, which is
-compared then on the 32 relays as well (bench/before_after.py). Needs target/bin/current_cases and target/bin/herdspiral,
-which `rt check` builds, and rustc; takes a minute, and wants the machine to itself. The program is for x86-64: on
+rounds. Run from anywhere: python3 bench/divide.py, or with the path of an older crates/herdspiral/out/herdspiral, which
+is compared then on the 32 relays as well (bench/before_after.py). Needs the programs current_cases and herdspiral, which `rt ci`
+builds, or `rt run` in their folders, and rustc; takes a minute, and wants the machine to itself. The program is for x86-64: on
 another machine it runs under the kit's emulator, and only the judgements are compared."""
 import os
 import platform
