@@ -74,7 +74,8 @@ module _ {A : Type 0} (same : A → A → Bool) where
 
     pub same_walk_off : i < n → same (get_or l i d) (get_or m i d) ≡ false → false ≡ all
     same_walk_off below off =
-        sym (step below ∙ rest_apart (get_or l i d) (get_or m i d) (drop (i + 1) (take n l)) (drop (i + 1) (take n m)) off)
+        sym (step below ∙ rest_apart (get_or l i d) (get_or m i d) (drop (i + 1) (take n l)) (drop (i + 1) (take n m))
+        off)
 
     pub same_walk_on : i < n → same (get_or l i d) (get_or m i d) ≡ true
         → all ≡ alike same (drop (i + 1) (take n l)) (drop (i + 1) (take n m))

@@ -396,5 +396,8 @@ module _ (c : Counts) (ps : List Part) (few : c.relays ≤ most_relays) where
   -- and has exactly the relays that are marked
   pub start-marked : parts_fine c none_wound ps ≡ true → (r : ℕ) → member (start_of ps) r ≡ true ↔ IsMarked r ps
   start-marked fine r =
-      let sum = start_sum fine r in
-      (λ on. omega (arith, sum, ap worth on), λ marked. worth_some (member (start_of ps) r) (omega (arith, sum, marked)))
+      let sum = start_sum fine r in (
+        λ on. omega (arith, sum, ap worth on),
+        λ marked. worth_some (member (start_of ps) r)
+            (omega (arith, sum, marked)),
+      )

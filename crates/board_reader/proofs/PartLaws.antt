@@ -66,7 +66,8 @@ module _ (e : Edition) (c : Counts) (k : ℕ) (s : List ℕ) (at : ℕ) where
 -- ---- the part
 
 module _ (e : Edition) (c : Counts) (w : WoundSoFar) (s : List ℕ) (at k p : ℕ) where
-  pub kind_refused : wanted e (in_range 0 e.last_kind) no_such_kind s at ≡ refused k p → refused k p ≡ part_at e c w s at
+  pub kind_refused : wanted e (in_range 0 e.last_kind) no_such_kind s at ≡ refused k p
+      → refused k p ≡ part_at e c w s at
   unfolding part_at
   kind_refused h = rw h
 
@@ -113,7 +114,8 @@ name_below e c k s at v next m h relays buttons some = go (eqb k wire_kind) h
     limit true = buttons
     limit false = relays
 
-    go : (t : Bool) → cond t (found 0 at) (wanted e (λ n. ltb n (limit_of c k)) no_such_name s at) ≡ found v next → v < m
+    go : (t : Bool) → cond t (found 0 at) (wanted e (λ n. ltb n (limit_of c k)) no_such_name s at) ≡ found v next
+        → v < m
     go true h = omega (arith, found_value 0 v at next h)
     go false h =
         omega (

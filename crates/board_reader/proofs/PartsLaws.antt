@@ -150,12 +150,13 @@ row_went w o parts w' next e =
     }
 
 -- what the answer beside a thing says of the outcome that both tell
-module _ {A : Type 0} (o : Outcome (Found A)) (a : A) (x : ReadAnswer) (told : found_at a (told_read_answer x) ≡ o) where
-  pub answer_stopped : (r : Refusal) → x ≡ Refused r → o ≡ refused r.number r.place
-  answer_stopped r e = sym told ∙ ap (λ (y : ReadAnswer). found_at a (told_read_answer y)) e
+module _ {A : Type 0} (o : Outcome (Found A)) (a : A) (x : ReadAnswer) (told : found_at a (told_read_answer x) ≡ o)
+  where
+    pub answer_stopped : (r : Refusal) → x ≡ Refused r → o ≡ refused r.number r.place
+    answer_stopped r e = sym told ∙ ap (λ (y : ReadAnswer). found_at a (told_read_answer y)) e
 
-  pub answer_went : (next : ℕ) → x ≡ Read next → o ≡ found a next
-  answer_went next e = sym told ∙ ap (λ (y : ReadAnswer). found_at a (told_read_answer y)) e
+    pub answer_went : (next : ℕ) → x ≡ Read next → o ≡ found a next
+    answer_went next e = sym told ∙ ap (λ (y : ReadAnswer). found_at a (told_read_answer y)) e
 
 -- a refused answer beside a thing tells the refusal
 pub refused-told : {A : Type 0} (a : A) (x : ReadAnswer) (r : Refusal) → x ≡ Refused r

@@ -92,7 +92,8 @@ unfolding answered
 answered_refused (given f) k p e = absurd (refused_never k p f.next (sym e))
 answered_refused (refused m q) k p e = cc
 
-pub reading_refused : (e : Edition) (s : List ℕ) (b : Board) (k p : ℕ) → reading e s ≡ (b, refused k p) → b ≡ empty_board
+pub reading_refused : (e : Edition) (s : List ℕ) (b : Board) (k p : ℕ) → reading e s ≡ (b, refused k p)
+    → b ≡ empty_board
 unfolding reading answered
 reading_refused e s b k p is =
     sym (λ i. (is i).0)

@@ -20,7 +20,8 @@
 --     Reads s r                        promise: `read` of the bytes s answers r, by the current edition
 use Rattle.std.specs.Prelude.{ℕ, zero, suc, ◌≡◌, Bool, cond, List, [], ◌∷◌, ltb, leb, eqb, length}
 use Rattle.refusals.specs.Outcomes.{Outcome, given, refused, Found, found, ◌>>=◌, ◌>>◌, unless}
-use Rattle.refusals.specs.Refusals.{out_of_range, no_such_kind, no_such_terminal, ends_equal, no_such_name, winding_taken}
+use Rattle.refusals.specs.Refusals.{out_of_range, no_such_kind, no_such_terminal, ends_equal, no_such_name}
+use Rattle.refusals.specs.Refusals.{winding_taken}
 use Rattle.refusals.specs.Refusals.{winding_lacking, input_too_long, marked_twice}
 use Rattle.number.specs.Numbers.{number_at}
 use Rattle.windings.specs.declared.WoundSoFar.{WoundSoFar}
@@ -30,7 +31,8 @@ use Rattle.board.specs.declared.Part.{Part}
 use Rattle.board.specs.declared.Counts.{Counts}
 use Rattle.board.specs.declared.Board.{Board}
 use Rattle.board.specs.Parts.{padded, empty_board, most_parts}
-use Rattle.board.specs.Rules.{least_terminals, most_terminals, most_relays, most_buttons, in_range, terminal_fine, ends_fine}
+use Rattle.board.specs.Rules.{least_terminals, most_terminals, most_relays, most_buttons, in_range, terminal_fine}
+use Rattle.board.specs.Rules.{ends_fine}
 use Rattle.board.specs.Rules.{limit_of, start_of, all_wound}
 use Rattle.board_reader.specs.Editions.{Edition, current_edition}
 use Rattle.board_reader.specs.declared.BoardRead.{BoardRead}

@@ -13,7 +13,8 @@
 -- proofs/ChainsCorrect, ChainsComplete and ChainsSorted show that these are exactly the chains of Chains.antt, in
 -- dictionary order, each once. Document 000 gives two definitions of its available paths and leaves their equivalence
 -- as "should be proved"; ours is proved.
-use Rattle.std.specs.Prelude.{ℕ, zero, suc, ◌-◌, ◌≡◌, Bool, true, false, cond, not, ◌&&◌, ◌||◌, List, [], ◌∷◌, ◌++◌, eqb}
+use Rattle.std.specs.Prelude.{ℕ, zero, suc, ◌-◌, ◌≡◌, Bool, true, false, cond, not, ◌&&◌, ◌||◌, List, [], ◌∷◌, ◌++◌}
+use Rattle.std.specs.Prelude.{eqb}
 use Rattle.chains.specs.Chains.{plus, minus, steps, ending}
 
 abbrev pub Tested : (ℕ → ℕ → Bool) → ℕ → ℕ → Type 0

@@ -11,7 +11,8 @@ use lib.ListN.{length}
 use borrow.Author.Tests.{le-ltb}
 use Rattle.bits.proofs.BoolLaws.{by_test}
 use Rattle.refusals.specs.Outcomes.{refused, found}
-use Rattle.refusals.specs.Refusals.{out_of_range, no_such_kind, no_such_terminal, ends_equal, no_such_name, winding_taken}
+use Rattle.refusals.specs.Refusals.{out_of_range, no_such_kind, no_such_terminal, ends_equal, no_such_name}
+use Rattle.refusals.specs.Refusals.{winding_taken}
 use Rattle.refusals.specs.Refusals.{winding_lacking, marked_twice}
 use Rattle.number.specs.Numbers.{number_at}
 use Rattle.kinds.specs.Kinds.{button_kind, mark_kind, kind_of}
@@ -21,7 +22,8 @@ use Rattle.windings.proofs.EveryLaws.{every_fails}
 use Rattle.board.specs.declared.Counts.{Counts}
 use Rattle.board.specs.declared.Part.{Part}
 use Rattle.board.specs.Parts.{most_parts}
-use Rattle.board.specs.Rules.{least_terminals, most_terminals, most_relays, most_buttons, in_range, terminal_fine, limit_of}
+use Rattle.board.specs.Rules.{least_terminals, most_terminals, most_relays, most_buttons, in_range, terminal_fine}
+use Rattle.board.specs.Rules.{limit_of}
 use Rattle.board.specs.Sorts.{IsRegular, IsSteel}
 use Rattle.board.proofs.TallyLaws.{tallied-wound}
 use Rattle.board_reader.specs.Editions.{Edition}

@@ -30,7 +30,8 @@ use Rattle.board_reader.proofs.ReadLaws.{board_within, reading_answers}
 pub record Changed (n : ℕ) (old new : Edition) : Type 0 where
   pub numbers : (s : List ℕ) (at : ℕ) → Kept n (number_at old.width s at) (number_at new.width s at)
   pub kinds : (s : List ℕ) (at : ℕ) → Kept n
-      (wanted old (in_range 0 old.last_kind) no_such_kind s at) (wanted new (in_range 0 new.last_kind) no_such_kind s at)
+      (wanted old (in_range 0 old.last_kind) no_such_kind s at)
+      (wanted new (in_range 0 new.last_kind) no_such_kind s at)
 
 -- request A1: a number's answer stands unless it was 2
 pub first_changed : Changed bad_form three_byte_edition first_edition
@@ -90,7 +91,8 @@ module _ {n : ℕ} (old new : Edition) (more : Changed n old new) (s : List ℕ)
       (λ k. kept_then _ _ (ends-kept c k.value k.next)
       (λ ends. kept_then _ _ (name-kept c k.value ends.next) (λ v. stands refl)))
 
-  parts-kept : (c : Counts) (m : ℕ) (x : WoundSoFar) (at : ℕ) → Kept n (parts_at old c m x s at) (parts_at new c m x s at)
+  parts-kept : (c : Counts) (m : ℕ) (x : WoundSoFar) (at : ℕ)
+      → Kept n (parts_at old c m x s at) (parts_at new c m x s at)
   unfolding parts_at
   parts-kept c zero x at = stands refl
   parts-kept c (suc m) x at =

@@ -122,7 +122,8 @@ name-reads c k s at next range = by (eqb (kind_number k) wire_kind) refl
 
 -- and so do the ends'
 terminal-reads : (c : Counts) (s : List ℕ) (at next v : ℕ) → InRange c → v < c.terminals
-    → StandsTo s at next (number_bytes v) → wanted current_edition (terminal_fine c) no_such_terminal s at ≡ found v next
+    → StandsTo s at next (number_bytes v)
+    → wanted current_edition (terminal_fine c) no_such_terminal s at ≡ found v next
 terminal-reads c s at next v range below =
     wanted-reads (terminal_fine c) no_such_terminal s at next v
     (omega (arith, below, range.terminals_few)) (lt-ltb v c.terminals below)
@@ -150,7 +151,8 @@ ends-reads c k a b s at next range fit = by (eqb k mark_kind) refl
         fits.2)
 
 pub part-reads : (c : Counts) (w : WoundSoFar) (p : Part) (s : List ℕ) (at next : ℕ) → InRange c
-    → part_fine c w p ≡ true → StandsTo s at next (part_bytes p) → part_at current_edition c w s at ≡ found (as_read p) next
+    → part_fine c w p ≡ true → StandsTo s at next (part_bytes p)
+    → part_at current_edition c w s at ≡ found (as_read p) next
 part-reads c w p s at next range fine stands =
     let here = rw (part_bytes_lem p) at stands in
     let part = part_splits c w p fine in

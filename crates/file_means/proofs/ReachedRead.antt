@@ -23,7 +23,8 @@ use Rattle.windings.proofs.EveryLaws.{below-every}
 use Rattle.board.specs.declared.Counts.{Counts}
 use Rattle.board.specs.declared.Part.{Part}
 use Rattle.board.specs.Parts.{most_parts}
-use Rattle.board.specs.Rules.{least_terminals, most_terminals, most_relays, most_buttons, in_range, terminal_fine, limit_of}
+use Rattle.board.specs.Rules.{least_terminals, most_terminals, most_relays, most_buttons, in_range, terminal_fine}
+use Rattle.board.specs.Rules.{limit_of}
 use Rattle.board.specs.Rules.{gained_all}
 use Rattle.board.specs.Sorts.{Wound}
 use Rattle.board.proofs.RuleLaws.{gained_more}

@@ -12,7 +12,8 @@ use borrow.Author.Tests.{ltb-true, ltb-false, le-leb, leb-false, eqb-true, eqb-f
 use borrow.Author.Tests.{not-true}
 use Rattle.bits.proofs.BoolLaws.{by_test, by_less}
 use Rattle.refusals.specs.Outcomes.{Outcome, given, refused, Found, found, ◌>>=◌, ◌>>◌, unless}
-use Rattle.refusals.specs.Refusals.{input_ends, bad_form, out_of_range, no_such_kind, no_such_terminal, ends_equal, no_such_name}
+use Rattle.refusals.specs.Refusals.{input_ends, bad_form, out_of_range, no_such_kind, no_such_terminal, ends_equal}
+use Rattle.refusals.specs.Refusals.{no_such_name}
 use Rattle.refusals.specs.Refusals.{winding_taken, winding_lacking, marked_twice}
 use Rattle.number.specs.Numbers.{number_at}
 use Rattle.number.proofs.NumberLaws.{number_refusal}
@@ -23,7 +24,8 @@ use Rattle.windings.proofs.EveryLaws.{every-below, every_lacks}
 use Rattle.board.specs.declared.Counts.{Counts}
 use Rattle.board.specs.declared.Part.{Part}
 use Rattle.board.specs.Parts.{most_parts, parts_of}
-use Rattle.board.specs.Rules.{least_terminals, most_terminals, most_relays, most_buttons, in_range, terminal_fine, ends_fine}
+use Rattle.board.specs.Rules.{least_terminals, most_terminals, most_relays, most_buttons, in_range, terminal_fine}
+use Rattle.board.specs.Rules.{ends_fine}
 use Rattle.board.specs.Rules.{gained_all, start_of}
 use Rattle.board.specs.Sorts.{IsRegular, IsSteel, Wound}
 use Rattle.board.proofs.PaddedLaws.{padded_parts}

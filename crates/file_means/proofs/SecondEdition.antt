@@ -274,7 +274,8 @@ pub first_files_kept : FirstFilesKept
 unfolding answered
 first_files_kept s b n read =
     let now =
-    only_by first_edition current_edition second_changed s (accepted_never no_such_kind (reading first_edition s) b n read)
+    only_by first_edition current_edition second_changed s (accepted_never no_such_kind (reading first_edition s) b n
+    read)
     ∙ read in
     let none =
     by_test (has_mark (parts_of b))

@@ -33,7 +33,8 @@
 --                               stand before n, the parts are C, and every relay is regular or steel-core
 use Rattle.std.specs.Prelude.{ℕ, ◌+◌, ◌<◌, ◌≤◌, ◌≡◌, ◌⊎◌, ◌↔◌, List, [], ◌∷◌, ◌++◌, length}
 use Rattle.refusals.specs.Outcomes.{refused, given, found}
-use Rattle.refusals.specs.Refusals.{input_ends, bad_form, out_of_range, no_such_kind, no_such_terminal, ends_equal, no_such_name}
+use Rattle.refusals.specs.Refusals.{input_ends, bad_form, out_of_range, no_such_kind, no_such_terminal, ends_equal}
+use Rattle.refusals.specs.Refusals.{no_such_name}
 use Rattle.refusals.specs.Refusals.{winding_taken, winding_lacking, input_too_long, marked_twice}
 use Rattle.number.specs.Numbers.{number_at}
 use Rattle.kinds.specs.Kinds.{wire_kind, button_kind, regular_kind, drawing_kind, dropping_kind, mark_kind, kind_of}

@@ -47,7 +47,8 @@ FirstFilesKept =
 abbrev pub OnlyByFour : Type 0
 OnlyByFour =
     (s : List ℕ)
-    → ((p next : ℕ) → (reading first_edition s).1 ≡ refused no_such_kind p → ¬ (StandsAt first_edition s p mark_kind next))
+    → ((p next : ℕ) → (reading first_edition s).1 ≡ refused no_such_kind p
+    → ¬ (StandsAt first_edition s p mark_kind next))
     → reading current_edition s ≡ reading first_edition s
 
 abbrev pub MarklessAsBefore : Type 0

@@ -98,7 +98,8 @@ module _ (k : Sets) (t : ℕ) (v : Winding) (w : ℕ) where
 -- ---- the winding that is judged
 
 -- a winding that is asked for is asked for once
-asked-once : (o : Option Winding) → (first_no ((is_there o, no_such_winding) ∷ []) >> or_no_such_winding o) ≡ or_no_such_winding o
+asked-once : (o : Option Winding)
+    → (first_no ((is_there o, no_such_winding) ∷ []) >> or_no_such_winding o) ≡ or_no_such_winding o
 unfolding first_no
 asked-once (some v) = refl
 asked-once none = refl

@@ -53,8 +53,11 @@ carries_else j r k other = rw (ne_eqb (name_of k) r other) (none (eqb (kind_numb
 pub named_neither : (r : ℕ) (k : Kind) (m : ℕ) → m ≡ name_of k → ¬ (m ≡ r)
     → (false ≡ is_first r k) × (false ≡ is_second r k)
 named_neither r k m name other =
-    let else : ¬ (name_of k ≡ r) = λ e. other (name ∙ e) in
-    (rw (← carries_else regular_kind r k else) (carries_else drawing_kind r k else), carries_else dropping_kind r k else)
+    let else : ¬ (name_of k ≡ r) = λ e. other (name ∙ e) in (
+      rw (← carries_else regular_kind r k else) (carries_else drawing_kind r k else),
+      carries_else dropping_kind r k
+          else,
+    )
 
 -- ---- the winding among the parts
 
@@ -116,7 +119,8 @@ module _ (n : Which) (r : ℕ) (l : List Part) (k i : ℕ) (all seen : Option Wi
   unfolding winding_of
   scan_on next t below there is more =
       here ∙ ap (λ (ps : List Part). or_else seen (winding_of n r ps)) (taken_from blank l k i below there)
-      ∙ seen_on (is_winding n r (get_or l i blank).kind) seen (get_or l i blank) (winding_of n r (drop (i + 1) (take k l)))
+      ∙ seen_on (is_winding n r (get_or l i blank).kind) seen (get_or l i blank)
+      (winding_of n r (drop (i + 1) (take k l)))
       ∙ ap (λ (o : Option Winding). or_else o (winding_of n r (drop (i + 1) (take k l))))
       (sym (more ∙ ap (seen_with seen (get_or l i blank)) is))
 

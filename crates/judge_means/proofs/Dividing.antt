@@ -4,7 +4,7 @@
 use Prim.Native.Nat.{ℕ, ◌<◌, ◌≤◌}
 use native.Mathlib.Omega.{arith}
 use mathlib.Core.Path.{◌≡◌, refl, sym, ap, subst, ◌∙◌}
-use mathlib.Core.Logic.{◌⊎◌, ◌↔◌, inl, inr, ⊎_elim}
+use mathlib.Core.Logic.{◌↔◌, inl, inr, ⊎_elim}
 use mathlib.Core.Bool.{Bool, true, false, not, false≢true}
 use mathlib.Core.Option.{Option, none, some, none-ne-some}
 use borrow.Author.Tests.{not-true}
@@ -39,7 +39,8 @@ use Rattle.judge.specs.Judging as by-sets
 use Rattle.judge.specs.Judging.{winding_for, Judges}
 use Rattle.judge.proofs.JudgeLaws.{winding_for_asked, winding_for_both, winding_for_sought}
 use Rattle.divide.specs.declared.Judgement as code-judgement
-use Rattle.divide.specs.AtOnce.{divides, lowest_dividing, Judgement, live, shunted, dead, judged_at_once, told_judgement}
+use Rattle.divide.specs.AtOnce.{divides, lowest_dividing, Judgement, live, shunted, dead, judged_at_once}
+use Rattle.divide.specs.AtOnce.{told_judgement}
 use Rattle.divide.specs.AtOnce.{told_checked, checking, JudgesAtOnce}
 use Rattle.divide.proofs.AtOnceLaws.{lowest-divides, lowest-before, lowest_none, told-shunted, told_dead, told_live}
 use Rattle.divide.proofs.AtOnceLaws.{judging_of, checking_refused, checking-beyond, checking_of}

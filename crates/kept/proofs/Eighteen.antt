@@ -66,7 +66,8 @@ module _ (b : Board) (fits : BoardFits b) where
 -- ---- 18
 
 -- a call that is refused by another number, or not at all, is not refused by 18
-other_number : (n p : ℕ) → ¬ (n ≡ foreign_sets) → ¬ (◌≡◌ {A = Outcome (Unit {0})} (refused n p) (refused foreign_sets 0))
+other_number : (n p : ℕ) → ¬ (n ≡ foreign_sets)
+    → ¬ (◌≡◌ {A = Outcome (Unit {0})} (refused n p) (refused foreign_sets 0))
 other_number n p differs is = differs cc
 
 module _ (b : Board) (h : Kept) where

@@ -90,7 +90,8 @@ module _ (b : Board) where
   usable_lines_lem h ls = asks_append (usable_lines b h) ls
 
   -- what is refused, and neither by 15 nor by 14 nor by 18, is refused by what is asked next
-  pub usable_next : (h : Kept) {A : Type 0} (o : Outcome A) (k p : ℕ) → ¬ (broken_board ≡ k) → ¬ (state_beyond_board ≡ k)
+  pub usable_next : (h : Kept) {A : Type 0} (o : Outcome A) (k p : ℕ) → ¬ (broken_board ≡ k)
+      → ¬ (state_beyond_board ≡ k)
       → ¬ (foreign_sets ≡ k) → (usable b h >> o) ≡ refused k p
       → (usable b h ≡ given tt) × (o ≡ refused k p)
   unfolding usable first_no

@@ -184,7 +184,8 @@ row_kept : (c : Change) (f g : Kind → Bool) (ps : List Part) → ((k : Kind) �
     → renewed_at g ps (changed_ends c ps) (sets_at f ps) ≡ sets_at g ps
 row_kept c f g ps agree =
     renewed_all g ps (changed_ends c ps) (sets_at f ps)
-    (λ x y below apart. ap (λ (k : ℕ). member k y) (sets_at_lem f ps x below) ∙ pair_else c f g ps agree x y below apart)
+    (λ x y below apart. ap (λ (k : ℕ). member k y) (sets_at_lem f ps x below)
+    ∙ pair_else c f g ps agree x y below apart)
 
 -- so sets that belong to state s, kept up, belong to state t
 module _ (b : Board) (s t : State) (c : Change) (same : Elsewhere c s t) where
@@ -200,7 +201,8 @@ module _ (b : Board) (s t : State) (c : Change) (same : Elsewhere c s t) where
       ∙ row_kept c (conducts_bare s) (conducts_bare t) (parts_of b) bare_elsewhere ∙ sym (bare_sets b t))
 
 module _ (b : Board) (s t : State) where
-  pub relay-kept : (r : ℕ) → ((q : ℕ) → ¬ (q ≡ r) → is_drawn t q ≡ is_drawn s q) → ((n : ℕ) → is_pushed t n ≡ is_pushed s n)
+  pub relay-kept : (r : ℕ) → ((q : ℕ) → ¬ (q ≡ r) → is_drawn t q ≡ is_drawn s q)
+      → ((n : ℕ) → is_pushed t n ≡ is_pushed s n)
       → changed_to (kept_at b s) b (of.Relay r) t ≡ kept_at b t
   relay-kept r drawn pushed = changed-kept b s t (of.Relay r) (relay_elsewhere s t r drawn pushed)
 

@@ -30,7 +30,8 @@ unfolding kind_of
 kind_of_wire n = refl
 
 -- what holds of each kind's number holds of any number up to the last
-up_to_last : (P : ℕ → Type 0) → P wire_kind → P upper_kind → P lower_kind → P button_kind → P regular_kind → P drawing_kind
+up_to_last : (P : ℕ → Type 0) → P wire_kind → P upper_kind → P lower_kind → P button_kind → P regular_kind
+    → P drawing_kind
     → P dropping_kind → P mark_kind → (k : ℕ) → k ≤ last_kind → P k
 up_to_last P p₀ p₁ p₂ p₃ p₄ p₅ p₆ p₇ zero most = p₀
 up_to_last P p₀ p₁ p₂ p₃ p₄ p₅ p₆ p₇ (suc zero) most = p₁

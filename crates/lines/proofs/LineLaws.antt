@@ -167,4 +167,5 @@ module _ (n p : ℕ) (out : List ℕ) (room : longest_line ≤ length out) {at�
   pub closing_put : {at₃ : ℕ} {out₃ : List ℕ} → Put out₂ at₂ (ended (decimal p)) at₃ out₃
       → Put out 0 (line_text (closing n p)) at₃ out₃
   unfolding line_text
-  closing_put third = put_piece_next out 0 (spaced refused_text ++ spaced (decimal n)) ended_by_lem (ended (decimal p)) third
+  closing_put third =
+      put_piece_next out 0 (spaced refused_text ++ spaced (decimal n)) ended_by_lem (ended (decimal p)) third

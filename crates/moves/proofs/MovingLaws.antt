@@ -34,7 +34,8 @@ module _ (b : Board) (h : Kept) (r : ℕ) where
   -- 11 is asked after 15, 14 and 18
   movable_next : movable b h r ≡ (usable b h >> unless (ltb r b.counts.relays) no_such_winding 0)
   unfolding movable
-  movable_next = usable_lines_lem b h _ ∙ ap (λ (o : Outcome (Unit {0})). usable b h >> o) (asks_first _ no_such_winding)
+  movable_next =
+      usable_lines_lem b h _ ∙ ap (λ (o : Outcome (Unit {0})). usable b h >> o) (asks_first _ no_such_winding)
 
   pub movable_lacking : usable b h ≡ given tt → b.counts.relays ≤ r → movable b h r ≡ refused no_such_winding 0
   movable_lacking fine past = movable_next ∙ rw (fine, le-ltb r b.counts.relays past) refl

@@ -63,7 +63,8 @@ made_holds P s r conflict draws drops stays = stays
 
 pub made_other : (s : State) (r : ℕ) (m : Move) (q : ℕ) → (q ≡ r → ⊥) → is_drawn (made s r m) q ≡ is_drawn s q
 made_other s r m q other =
-    made_holds (λ t. is_drawn t q ≡ is_drawn s q) s r m (drawn_draw_other s r q other) (drawn-drop_other s r q other) refl
+    made_holds (λ t. is_drawn t q ≡ is_drawn s q) s r m (drawn_draw_other s r q other) (drawn-drop_other s r q other)
+    refl
 
 pub made_pushed : (s : State) (r : ℕ) (m : Move) (q : ℕ) → is_pushed (made s r m) q ≡ is_pushed s q
 made_pushed s r m q = made_holds (λ t. is_pushed t q ≡ is_pushed s q) s r m refl refl refl

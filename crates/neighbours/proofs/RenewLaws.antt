@@ -75,7 +75,8 @@ module _ (f : Kind → Bool) (ps : List Part) (at : ℕ) (near : List ℕ) where
   -- 64 sets that are so are these
   renewed_each : (r : List ℕ) → length r ≡ most_terminals
       → ((x : ℕ) → x < most_terminals → member at x ≡ true → get_or r x 0 ≡ chosen at (set_at f x ps) (get_or near x 0))
-      → ((x : ℕ) → x < most_terminals → member at x ≡ false → get_or r x 0 ≡ get_or near x 0) → r ≡ renewed_at f ps at near
+      → ((x : ℕ) → x < most_terminals → member at x ≡ false → get_or r x 0 ≡ get_or near x 0)
+      → r ≡ renewed_at f ps at near
   renewed_each r long here off =
       ext_get_or 0 r (renewed_at f ps at near) (long ∙ sym renewed-length)
       (λ x inside.
@@ -89,7 +90,8 @@ module _ (f : Kind → Bool) (ps : List Part) (at : ℕ) (near : List ℕ) where
       → member (get_or near x 0) y ≡ member (set_at f x ps) y) → renewed_at f ps at near ≡ sets_at f ps
   renewed_all else-so =
       sym (renewed_each (sets_at f ps) (sets-length f ps)
-      (λ x below is. sets_at_lem f ps x below ∙ members_equal (set_at f x ps) (chosen at (set_at f x ps) (get_or near x 0))
+      (λ x below is. sets_at_lem f ps x below
+      ∙ members_equal (set_at f x ps) (chosen at (set_at f x ps) (get_or near x 0))
       (λ y. by_test (member at y)
       (λ also. sym (chosen_in at (set_at f x ps) (get_or near x 0) y also))
       (λ off. sym (chosen_out at (set_at f x ps) (get_or near x 0) y off ∙ else-so x y below (inr off)))))

@@ -34,7 +34,8 @@ module _ (at : ℕ) (p : Part) (w : ℕ) {t : Bool} (same : w ≡ p.a) (is : t �
   pub among_not : t ≡ false → false ≡ among at p
   among_not off = rw (← same, ← is, off) refl
 
-pub each_same : (near : List ℕ) (f : ℕ → ℕ → ℕ) → ((x : ℕ) → x < most_terminals → f x (get_or near x 0) ≡ get_or near x 0)
+pub each_same : (near : List ℕ) (f : ℕ → ℕ → ℕ)
+    → ((x : ℕ) → x < most_terminals → f x (get_or near x 0) ≡ get_or near x 0)
     → EachSet near near f
 each_same near f same = record { many = refl; each = λ x below. sym (same x below) }
 

@@ -84,7 +84,8 @@ chosen at k l = together (remaining k (remaining k at)) (remaining l at)
 
 unfoldable pub renewed_at : (Kind → Bool) → List Part → ℕ → List ℕ → List ℕ
 renewed_at f ps at near =
-    table_from (λ (x : ℕ). cond (member at x) (chosen at (set_at f x ps) (get_or near x 0)) (get_or near x 0)) most_terminals 0
+    table_from (λ (x : ℕ). cond (member at x) (chosen at (set_at f x ps) (get_or near x 0)) (get_or near x 0))
+    most_terminals 0
 
 abbrev pub renewed : Sets → ℕ → Board → State → Sets
 renewed k at b s =

@@ -27,7 +27,8 @@
 --     NumberLength v r                promise: `number_length` of v answers r
 --     WritesNumber v out at r out'    promise: `write_number` of v into the buffer `out` at a place answers r, and
 --                                     leaves the buffer out'
-use Rattle.std.specs.Prelude.{ℕ, zero, suc, ◌+◌, ◌-◌, ◌*◌, ◌/◌, ◌%◌, ◌<◌, ◌≡◌, cond, List, [], ◌∷◌, ltb, leb, length, get_or, drop}
+use Rattle.std.specs.Prelude.{ℕ, zero, suc, ◌+◌, ◌-◌, ◌*◌, ◌/◌, ◌%◌, ◌<◌, ◌≡◌, cond, List, [], ◌∷◌, ltb, leb, length}
+use Rattle.std.specs.Prelude.{get_or, drop}
 use Rattle.std.proofs.lemmas.List.Edits.{sets}
 use Rattle.number.specs.declared.Form.{Form}
 use Rattle.number.specs.declared.Form.TheVariants.{Got, Ends, Bad}

@@ -106,13 +106,14 @@ module _ (b : Board) (h : Kept) (n : ℕ) (t u : State) (made : u ≡ t)
       (λ taken. kept_next k next (press-usable b h n q taken).0)
 
 -- sets that belong to a state belong to the state after the button was set
-module _ (b : Board) (h : Kept) (n : ℕ) (settable : Bool) (taken : first_no (press_lines b h n settable) ≡ given tt) where
-  pub pushed-kept : changed_to h b (Button n) (with_pushed h.state n) ≡ kept_at b (with_pushed h.state n)
-  pushed-kept =
-      kept_next b h n (with_pushed h.state n) (with_pushed h.state n) refl (pushed_push_other h.state n)
-      (drawn_push h.state n) _ refl (press-usable b h n settable taken).0
+module _ (b : Board) (h : Kept) (n : ℕ) (settable : Bool) (taken : first_no (press_lines b h n settable) ≡ given tt)
+  where
+    pub pushed-kept : changed_to h b (Button n) (with_pushed h.state n) ≡ kept_at b (with_pushed h.state n)
+    pushed-kept =
+        kept_next b h n (with_pushed h.state n) (with_pushed h.state n) refl (pushed_push_other h.state n)
+        (drawn_push h.state n) _ refl (press-usable b h n settable taken).0
 
-  pub released-kept : changed_to h b (Button n) (with_released h.state n) ≡ kept_at b (with_released h.state n)
-  released-kept =
-      kept_next b h n (with_released h.state n) (with_released h.state n) refl (pushed_release_other h.state n)
-      (drawn_release h.state n) _ refl (press-usable b h n settable taken).0
+    pub released-kept : changed_to h b (Button n) (with_released h.state n) ≡ kept_at b (with_released h.state n)
+    released-kept =
+        kept_next b h n (with_released h.state n) (with_released h.state n) refl (pushed_release_other h.state n)
+        (drawn_release h.state n) _ refl (press-usable b h n settable taken).0

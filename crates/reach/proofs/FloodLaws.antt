@@ -1,6 +1,6 @@
 -- The laws of the flood: it is the least set that holds the terminals of `from` and the neighbours of each that it
--- holds, those of `out` apart. Callers use `flood-begins`, `flood_on_lem` and `flood_least`; the last section is for the
--- proof of `flood`.
+-- holds, those of `out` apart. Callers use `flood-begins`, `flood_on_lem` and `flood_least`; the last section is for
+-- the proof of `flood`.
 --     Comes near out done seen r    where those of `seen` are seen and those of `done` have been looked at, the flood
 --                                   comes to r, however many terminals are left to look at
 --     Looked done seen              the neighbours of those of `done`, those of `out` apart, are seen

@@ -123,7 +123,8 @@ pub record Looking (log : List ℕ) (m d i w : ℕ) : Type 0 where
   pub within : i ≤ m
   pub same : back_from log m d m d ≡ back_from log m d i w
 
-module _ {log : List ℕ} {m d i j w c was : ℕ} (here : Looking log m d i w) (less : suc j ≡ i) (byte : c ≡ get_or log j 0)
+module _ {log : List ℕ} {m d i j w c was : ℕ} (here : Looking log m d i w) (less : suc j ≡ i)
+    (byte : c ≡ get_or log j 0)
     (back : was ≡ flipped w (relay_of c)) where
   looked : back_from log m d m d ≡ cond (eqb was d) (m - j) (back_from log m d j was)
   unfolding back_from

@@ -14,7 +14,8 @@ pub record RelayTurned (s : State) (r : ℕ) (t : State) : Type 0 where
   pub turns : is_drawn t r ≡ not (is_drawn s r)
   pub else_as_before : ElseAsBefore s r t
 
-states_equal : (s t : State) → ((q : ℕ) → is_drawn s q ≡ is_drawn t q) → ((n : ℕ) → is_pushed s n ≡ is_pushed t n) → s ≡ t
+states_equal : (s t : State) → ((q : ℕ) → is_drawn s q ≡ is_drawn t q) → ((n : ℕ) → is_pushed s n ≡ is_pushed t n)
+    → s ≡ t
 states_equal s t drawn pushed =
     λ i. record {
       drawn = members_equal s.drawn t.drawn drawn i;

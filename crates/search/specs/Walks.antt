@@ -16,7 +16,8 @@
 --                              c's own are as they were
 --     concluded o w            the verdict that a scan with the allowance w comes to
 --     LeftWithin o w           a scan with the allowance w leaves no more than w
-use Rattle.std.specs.Prelude.{ℕ, zero, suc, ◌+◌, ◌-◌, ◌≤◌, ◌<◌, ◌≡◌, Bool, false, cond, ◌||◌, List, [], ◌∷◌, ◌++◌, length, take}
+use Rattle.std.specs.Prelude.{ℕ, zero, suc, ◌+◌, ◌-◌, ◌≤◌, ◌<◌, ◌≡◌, Bool, false, cond, ◌||◌, List, [], ◌∷◌, ◌++◌}
+use Rattle.std.specs.Prelude.{length, take}
 use Rattle.bits.specs.Sets.{including}
 use Rattle.refusals.specs.Outcomes.{given}
 use Rattle.board.specs.Rules.{most_terminals}

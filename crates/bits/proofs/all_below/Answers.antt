@@ -1,7 +1,5 @@
 -- `bits::all_below` meets its contract: every member of a word is below its room, and below that the code tests that no
 -- bit is left from n on.
-use mathlib.Core.Path.{sym}
-use native.Mathlib.Omega.{arith}
 use borrow.Author.Rules.{rules}
 use Rattle.bits.proofs.SetLaws.{within-room, within_shifted}
 use Rattle.bits.proofs.all_below.Goals as goal

@@ -1,5 +1,4 @@
 -- `bits::flip` meets its contract: below a word's room the code's `^` flips the bit, and from there on nothing changes.
-use mathlib.Core.Path.{sym}
 use native.Mathlib.Omega.{arith}
 use borrow.Author.Rules.{rules}
 use Rattle.bits.proofs.SetLaws.{flip_shifted, flipped-beyond}

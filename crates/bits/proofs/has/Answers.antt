@@ -2,7 +2,6 @@
 -- definition does.
 use mathlib.Core.Path.{refl, sym}
 use native.Mathlib.Omega.{arith}
-use borrow.Author.Rules.{rules}
 use Rattle.bits.specs.Sets.{room, member}
 use Rattle.bits.proofs.SetLaws.{member-beyond}
 use Rattle.bits.proofs.has.Goals as goal

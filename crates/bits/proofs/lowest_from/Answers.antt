@@ -1,9 +1,7 @@
 -- `bits::lowest_from` meets its contract: the trailing zeros from bit n on lead to the lowest member, or past a word's
 -- room.
-use mathlib.Core.Path.{refl}
-use native.Mathlib.Omega.{arith}
 use borrow.Author.Rules.{rules}
-use Rattle.bits.proofs.LowestLaws.{trailing_fits, lowest_trailing, lowest-beyond}
+use Rattle.bits.proofs.LowestLaws.{lowest_trailing, lowest-beyond}
 use Rattle.bits.proofs.lowest_from.Goals as goal
 
 pub returns-then-n-ge-ROOM : goal.returns-then-n-ge-ROOM

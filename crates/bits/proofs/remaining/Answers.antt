@@ -1,7 +1,6 @@
 -- `bits::remaining` meets its contract.
 use mathlib.Core.Path.{refl}
 use Rattle.bits.specs.Sets.{remaining}
-use Rattle.std.proofs.Common.{arith, rules}
 use Rattle.bits.proofs.remaining.Goals as goal
 
 pub returns : goal.returns

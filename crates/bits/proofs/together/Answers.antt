@@ -1,7 +1,6 @@
 -- `bits::together` meets its contract.
 use mathlib.Core.Path.{refl}
 use Rattle.bits.specs.Sets.{together}
-use Rattle.std.proofs.Common.{arith, rules}
 use Rattle.bits.proofs.together.Goals as goal
 
 pub returns : goal.returns

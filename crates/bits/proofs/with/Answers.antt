@@ -1,7 +1,6 @@
 -- `bits::with` meets its contract: from a word's room on nothing changes, and below that the code's `|` sets the bit.
 use mathlib.Core.Path.{sym}
 use native.Mathlib.Omega.{arith}
-use borrow.Author.Rules.{rules}
 use Rattle.bits.proofs.SetLaws.{including-beyond, with_shifted}
 use Rattle.bits.proofs.with.Goals as goal
 

@@ -1,13 +1,8 @@
 -- `board::check` meets its contract: the counts first, within their ranges the parts, after the last part 9, and
 -- then the start.
 use borrow.Author.Rules.{rules}
-use mathlib.Core.Path.{◌≡◌, sym, ap, ◌∙◌}
-use mathlib.Core.Bool.{true}
-use borrow.Author.Tests.{not-true, not-false}
-use Rattle.board.specs.Rules.{counts_fine, told_row}
 use Rattle.board.proofs.RuleLaws.{counts-in_range}
 use Rattle.board.proofs.FineLaws.{check_counts, check_row, check_lacking, check_start}
-use Rattle.std.proofs.Common.{arith}
 use Rattle.board.proofs.check.Goals as goal
 
 pub returns-then-not-counts_fine : goal.returns-then-not-counts_fine

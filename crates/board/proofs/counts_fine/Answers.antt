@@ -2,7 +2,7 @@
 use borrow.Author.Tests.{le-leb, lt-leb}
 use lib.Dec.{leb-zero}
 use Rattle.board.specs.Rules.{counts_fine, in_range}
-use Rattle.std.proofs.Common.{arith, rules}
+use Rattle.std.proofs.Common.{rules}
 use Rattle.board.proofs.counts_fine.Goals as goal
 
 pub returns-then-counts-lt-LEAST_TERMINALS : goal.returns-then-counts-lt-LEAST_TERMINALS

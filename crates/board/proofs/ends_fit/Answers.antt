@@ -1,12 +1,7 @@
 -- `board::ends_fit` meets its contract: a mark passes, and else its tests are those of `ends_fit`, in that order.
 use borrow.Author.Rules.{rules}
-use mathlib.Core.Path.{◌≡◌, sym, ◌∙◌}
-use mathlib.Core.Bool.{false}
-use lib.Dec.{eqb}
-use borrow.Author.Tests.{lt-ltb, le-ltb, eq-eqb, ne_eqb}
-use Rattle.kinds.specs.Kinds.{kind_number, mark_kind}
+use borrow.Author.Tests.{lt-ltb, le-ltb, eq-eqb}
 use Rattle.board.specs.Rules.{ends_fit}
-use Rattle.std.proofs.Common.{arith}
 use Rattle.board.proofs.ends_fit.Goals as goal
 
 pub returns-then-number-eq-MARK_KIND : goal.returns-then-number-eq-MARK_KIND

@@ -1,9 +1,7 @@
 -- `board::names_one` meets its contract: a wire names nothing, and any other kind's name is compared with its limit.
 use borrow.Author.Rules.{rules}
-use borrow.Author.Tests.{eq-eqb, ne_eqb}
-use mathlib.Core.Path.{sym, ◌∙◌}
+use borrow.Author.Tests.{eq-eqb}
 use Rattle.board.specs.Rules.{name_fine}
-use Rattle.std.proofs.Common.{arith}
 use Rattle.board.proofs.names_one.Goals as goal
 
 pub returns-then-number-eq-WIRE_KIND : goal.returns-then-number-eq-WIRE_KIND

@@ -2,13 +2,11 @@
 use borrow.Author.Rules.{rules}
 use mathlib.Core.Path.{◌≡◌, sym, ◌∙◌}
 use mathlib.Core.Bool.{true}
-use borrow.Author.Tests.{not-true, not-false}
 use Rattle.windings.specs.declared.WoundSoFar.{WoundSoFar}
 use Rattle.windings.specs.Windings.{winding_free, unmarked}
 use Rattle.board.specs.declared.Part.{Part}
 use Rattle.board.specs.declared.Counts.{Counts}
 use Rattle.board.specs.Rules.{ends_fit, name_fine, part_fine, part_fits}
-use Rattle.std.proofs.Common.{arith}
 use Rattle.board.proofs.part_fine.Goals as goal
 
 last-decides : (c : Counts) (w : WoundSoFar) (p : Part) → ends_fit c p ≡ true → name_fine c p.kind ≡ true

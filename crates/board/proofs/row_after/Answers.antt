@@ -1,13 +1,6 @@
 -- `board::row_after` meets its contract. The invariant: all the parts come to what those from i on come to after the
 -- windings and marks so far.
 use borrow.Author.Rules.{rules}
-use native.Mathlib.Omega.{arith}
-use Prim.Native.Nat.{◌≤◌, ◌-◌}
-use mathlib.Core.Path.{◌≡◌, refl, sym, ◌∙◌}
-use borrow.Author.Tests.{not-true, not-false}
-use lib.ListN.{length, take, drop}
-use Rattle.board.specs.Parts.{most_parts}
-use Rattle.board.specs.Rules.{row_after}
 use Rattle.board.proofs.RuleLaws.{row_walk_off, row_walk_on, row_walk_end}
 use Rattle.board.proofs.row_after.Goals as goal
 

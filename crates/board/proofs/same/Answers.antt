@@ -1,10 +1,7 @@
 -- `board::same` meets its contract: the counts first, then as many parts as the count says and the array has.
 use borrow.Author.Rules.{rules}
-use mathlib.Core.Path.{sym, ◌∙◌}
-use borrow.Author.Tests.{not-true, not-false}
 use Rattle.board.proofs.SameLaws.{board_counts_differ, board-same_last, board-same_all}
 use lib.ListN.{length-map}
-use Rattle.std.proofs.Common.{arith}
 use Rattle.board.proofs.same.Goals as goal
 
 pub returns-then-not-same_counts : goal.returns-then-not-same_counts

@@ -1,7 +1,7 @@
 -- `board::same_counts` meets its contract: its tests are those of `same_counts`, in that order.
 use borrow.Author.Tests.{eq-eqb, ne_eqb}
 use Rattle.board.specs.Same.{same_counts}
-use Rattle.std.proofs.Common.{arith, rules}
+use Rattle.std.proofs.Common.{rules}
 use Rattle.board.proofs.same_counts.Goals as goal
 
 pub returns-then-x-y : goal.returns-then-x-y

@@ -1,14 +1,10 @@
 -- `board::same_fields` meets its contract. The invariant: the fields are the same exactly if those from i on are.
-use native.Mathlib.Omega.{arith}
-use Prim.Native.Nat.{ℕ, ◌≤◌, ◌-◌}
-use mathlib.Core.Path.{◌≡◌, refl, sym, ap, ◌∙◌}
-use borrow.Author.Tests.{eq-eqb, ne_eqb}
+use Prim.Native.Nat.{◌≤◌, ◌-◌}
+use mathlib.Core.Path.{◌≡◌}
 use lib.Dec.{eqb}
-use lib.ListN.{length, take, drop, length-map}
+use lib.ListN.{length, take, drop}
 use Rattle.kinds.specs.Kinds.{most_fields}
 use Rattle.board.specs.Same.{alike}
-use Rattle.board.proofs.SameLaws.{taken_apart, same_walk_off, same_walk_on, same_walk_end}
-use Rattle.std.proofs.Common.{rules}
 use Rattle.board.proofs.same_fields.Given as goal
 
 abbrev pub invariant-loop-i : goal.invariant-loop-i

@@ -1,8 +1,6 @@
 -- `board::same_part` meets its contract: the kinds' numbers first, and then the fields decide.
 use borrow.Author.Rules.{rules}
-use mathlib.Core.Path.{sym, ◌∙◌}
-use Rattle.board.proofs.SameLaws.{kinds_differ, fields_decide, fields-room}
-use Rattle.std.proofs.Common.{arith}
+use Rattle.board.proofs.SameLaws.{kinds_differ, fields_decide}
 use Rattle.board.proofs.same_part.Goals as goal
 
 pub returns-then-number : goal.returns-then-number

@@ -1,12 +1,5 @@
 -- `board::same_parts` meets its contract. The invariant: the first parts are the same exactly if those from i on are.
 use borrow.Author.Rules.{rules}
-use native.Mathlib.Omega.{arith}
-use Prim.Native.Nat.{◌≤◌, ◌-◌}
-use mathlib.Core.Path.{◌≡◌, refl, sym, ◌∙◌}
-use borrow.Author.Tests.{not-true, not-false}
-use lib.ListN.{length, take, drop}
-use Rattle.board.specs.Parts.{most_parts, blank}
-use Rattle.board.specs.Same.{same_part, same_parts}
 use Rattle.board.proofs.SameLaws.{same_walk_off, same_walk_on, same_walk_end}
 use Rattle.board.proofs.same_parts.Goals as goal
 

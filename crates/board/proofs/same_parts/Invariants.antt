@@ -1,19 +1,16 @@
 -- `board::same_parts` meets its contract. The invariant: the first parts are the same exactly if those from i on are.
-use borrow.Author.Rules.{rules}
-use native.Mathlib.Omega.{arith}
 use Prim.Native.Nat.{◌≤◌, ◌-◌}
-use mathlib.Core.Path.{◌≡◌, refl, sym, ◌∙◌}
-use borrow.Author.Tests.{not-true, not-false}
+use mathlib.Core.Path.{◌≡◌}
 use lib.ListN.{length, take, drop}
-use Rattle.board.specs.Parts.{most_parts, blank}
-use Rattle.board.specs.Same.{same_part, same_parts}
-use Rattle.board.proofs.SameLaws.{same_walk_off, same_walk_on, same_walk_end}
+use Rattle.board.specs.Parts.{most_parts}
+use Rattle.board.specs.Same.{same_parts}
 use Rattle.board.proofs.same_parts.Given as goal
 
 abbrev pub invariant-loop-i : goal.invariant-loop-i
 invariant-loop-i l =
     (l.count ≤ most_parts) × (length l.x ≡ most_parts) × (length l.y ≡ most_parts) × (l.i ≤ l.count)
-    × (same_parts (take l.count l.x) (take l.count l.y) ≡ same_parts (drop l.i (take l.count l.x)) (drop l.i (take l.count l.y)))
+    × (same_parts (take l.count l.x) (take l.count l.y)
+    ≡ same_parts (drop l.i (take l.count l.x)) (drop l.i (take l.count l.y)))
 
 abbrev pub decreases-loop-i : goal.decreases-loop-i
 decreases-loop-i l =

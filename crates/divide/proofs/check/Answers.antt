@@ -1,8 +1,5 @@
 -- `divide::check` meets its contract: refused as the judge is, then by 19, else by what the test says.
 use borrow.Author.Rules.{rules}
-use native.Mathlib.Omega.{arith}
-use mathlib.Core.Path.{sym, ap, ◌∙◌}
-use Rattle.judge.specs.RelayWindings.{told_asked}
 use Rattle.divide.proofs.AtOnceLaws.{checking_refused, checking-beyond, checking_given}
 use Rattle.divide.proofs.check.Goals as goal
 

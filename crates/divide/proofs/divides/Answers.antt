@@ -1,8 +1,6 @@
 -- `divide::divides` meets its contract: neither end is reached without that terminal.
 use borrow.Author.Rules.{rules}
-use mathlib.Core.Path.{sym, ◌∙◌}
 use Rattle.divide.proofs.AtOnceLaws.{divides_not, divides_by}
-use Rattle.std.proofs.Common.{arith}
 use Rattle.divide.proofs.divides.Goals as goal
 
 pub returns-then-has : goal.returns-then-has

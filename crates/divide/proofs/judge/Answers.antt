@@ -1,9 +1,6 @@
 -- `divide::judge` meets its contract: the winding it asks for is judged by the sets, or the call is refused.
 use borrow.Author.Rules.{rules}
-use mathlib.Core.Path.{sym, ap, ◌∙◌}
-use Rattle.judge.specs.RelayWindings.{told_asked}
 use Rattle.divide.proofs.AtOnceLaws.{judging-told, judging_refused}
-use Rattle.std.proofs.Common.{arith}
 use Rattle.divide.proofs.judge.Goals as goal
 
 pub returns-in-Given : goal.returns-in-Given

@@ -1,9 +1,6 @@
 -- `divide::judge_sets` meets its contract: shunted first, else live, else dead with the lowest terminal that divides.
 use borrow.Author.Rules.{rules}
-use mathlib.Core.Path.{sym, ap, ◌∙◌}
-use Rattle.refusals.specs.Outcomes.{given}
 use Rattle.divide.proofs.AtOnceLaws.{told-shunted, told_dead, told_live}
-use Rattle.std.proofs.Common.{arith}
 use Rattle.divide.proofs.judge_sets.Goals as goal
 
 pub returns-then-is_shunted : goal.returns-then-is_shunted

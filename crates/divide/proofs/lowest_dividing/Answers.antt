@@ -1,8 +1,6 @@
 -- `divide::lowest_dividing` meets its contract. The invariant: none below x divides.
 use borrow.Author.Rules.{rules}
-use native.Mathlib.Omega.{arith}
-use Prim.Native.Nat.{◌-◌}
-use Rattle.divide.proofs.AtOnceLaws.{NoneBelow, none_starts, none_found, none_on, none-ends}
+use Rattle.divide.proofs.AtOnceLaws.{none_starts, none_found, none_on, none-ends}
 use Rattle.divide.proofs.lowest_dividing.Goals as goal
 
 pub loop-x-init : goal.loop-x-init

@@ -1,6 +1,5 @@
 -- `feed::is_linked` meets its contract: the set of one end is asked for the other.
 use borrow.Author.Rules.{rules}
-use native.Mathlib.Omega.{arith}
 use Rattle.feed.proofs.FeedLaws.{shunted-beyond, shunted-within}
 use Rattle.feed.proofs.is_linked.Goals as goal
 

@@ -1,9 +1,6 @@
 -- `feed::is_live` meets its contract: not shunted, and both ends served.
 use borrow.Author.Rules.{rules}
-use mathlib.Core.Path.{sym, ap, ◌∙◌}
-use Rattle.bits.specs.Sets.{member}
 use Rattle.feed.proofs.FeedLaws.{live-shunted, live_one, live_both}
-use Rattle.std.proofs.Common.{arith}
 use Rattle.feed.proofs.is_live.Goals as goal
 
 pub returns-then-is_linked : goal.returns-then-is_linked

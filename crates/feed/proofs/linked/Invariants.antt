@@ -1,13 +1,9 @@
 -- `feed::linked` meets its contract. The invariant: the sets of the terminals below x are made, and the others are
 -- empty.
-use borrow.Author.Rules.{rules}
-use native.Mathlib.Omega.{arith}
 use Prim.Native.Nat.{ℕ, ◌-◌}
-use mathlib.Core.Logic.{inl, inr}
-use Rattle.lists.proofs.TableLaws.{FilledTo, filled_starts, filled_next}
+use Rattle.lists.proofs.TableLaws.{FilledTo}
 use Rattle.board.specs.Rules.{most_terminals}
 use Rattle.feed.specs.Feeds.{linked_to}
-use Rattle.feed.proofs.FeedLaws.{linked_here, lower_known, linked-ends}
 use Rattle.feed.proofs.linked.Given as goal
 
 abbrev pub invariant-loop-x : goal.invariant-loop-x

@@ -1,7 +1,5 @@
 -- `feed::reached_without` meets its contract: the flood from the poles, with that terminal taken out.
-use borrow.Author.Rules.{rules}
 use Rattle.feed.proofs.FeedLaws.{reached_by}
-use Rattle.std.proofs.Common.{arith}
 use Rattle.feed.proofs.reached_without.Goals as goal
 
 pub returns : goal.returns

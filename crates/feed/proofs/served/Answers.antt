@@ -1,10 +1,7 @@
 -- `feed::served` meets its contract. The invariant: those are served so far that are not lost without one below x.
 use borrow.Author.Rules.{rules}
 use native.Mathlib.Omega.{arith}
-use Prim.Native.Nat.{◌-◌, ◌≤◌}
-use mathlib.Core.Path.{◌≡◌, sym, ap, ◌∙◌}
-use Rattle.board.specs.Rules.{most_terminals}
-use Rattle.feed.proofs.FeedLaws.{served_below, served_starts, below_at, served-ends, served_full}
+use Rattle.feed.proofs.FeedLaws.{served_starts, served-ends, served_full}
 use Rattle.feed.proofs.served.Goals as goal
 
 pub loop-x-init : goal.loop-x-init

@@ -1,9 +1,6 @@
 -- `feed::served_without` meets its contract: what is lost without the terminal is taken away, or it is passed over.
 use borrow.Author.Rules.{rules}
-use mathlib.Core.Path.{sym, ap, ◌∙◌}
-use Rattle.bits.specs.Sets.{remaining}
 use Rattle.feed.proofs.FeedLaws.{taken_out, passed_over}
-use Rattle.std.proofs.Common.{arith}
 use Rattle.feed.proofs.served_without.Goals as goal
 
 pub returns-then-has : goal.returns-then-has

@@ -1,8 +1,6 @@
 -- `judge::carries` meets its contract: the kind's number is tested first, then its name.
 use borrow.Author.Rules.{rules}
-use mathlib.Core.Path.{◌∙◌}
 use Rattle.judge.proofs.ScannedLaws.{carries_same, carries_other}
-use Rattle.std.proofs.Common.{arith}
 use Rattle.judge.proofs.carries.Goals as goal
 
 pub returns-then-number : goal.returns-then-number

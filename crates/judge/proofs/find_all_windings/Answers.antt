@@ -1,13 +1,11 @@
 -- `judge::find_all_windings` meets its contract. The invariant: the windings of the relays below this one are found,
 -- and the others absent.
 use borrow.Author.Rules.{rules}
-use native.Mathlib.Omega.{arith}
-use Prim.Native.Nat.{◌-◌}
 use mathlib.Core.Logic.{inl, inr}
-use Rattle.lists.proofs.TableLaws.{FilledTo, filled_starts, filled_next}
+use Rattle.lists.proofs.TableLaws.{filled_starts, filled_next}
 use Rattle.board.specs.Rules.{most_relays}
 use Rattle.judge.specs.declared.Windings.TheVariants.{Absent}
-use Rattle.judge.specs.RelayWindings.{windings_if, told_windings}
+use Rattle.judge.specs.RelayWindings.{told_windings}
 use Rattle.judge.proofs.AllLaws.{windings_there, windings_filled}
 use Rattle.judge.proofs.find_all_windings.Goals as goal
 

@@ -2,14 +2,10 @@
 -- it is the one seen so far, or else the one among those from i on.
 use borrow.Author.Rules.{rules}
 use native.Mathlib.Omega.{arith}
-use Prim.Native.Nat.{◌-◌}
-use mathlib.Core.Path.{◌≡◌, refl, sym, ◌∙◌}
-use mathlib.Core.Logic.{inl, inr}
-use lib.ListN.{length, length-map, take, drop}
-use Rattle.board.specs.Parts.{most_parts}
+use mathlib.Core.Path.{◌∙◌}
 use Rattle.judge.specs.declared.Which.TheVariants.{First, Second}
-use Rattle.judge.specs.RelayWindings.{winding_of, told_seen}
-use Rattle.judge.proofs.ScannedLaws.{named_neither, or_else, scan_on, scan_past, scan_windings}
+use Rattle.judge.specs.RelayWindings.{told_seen}
+use Rattle.judge.proofs.ScannedLaws.{named_neither, scan_on, scan_past, scan_windings}
 use Rattle.judge.proofs.find_windings.Goals as goal
 
 pub returns-then-i-ge-MOST_PARTS : goal.returns-then-i-ge-MOST_PARTS

@@ -1,15 +1,12 @@
 -- `judge::find_windings` meets its contract. The invariant, of the first winding and of the second: among all the parts
 -- it is the one seen so far, or else the one among those from i on.
-use borrow.Author.Rules.{rules}
-use native.Mathlib.Omega.{arith}
 use Prim.Native.Nat.{◌-◌}
-use mathlib.Core.Path.{◌≡◌, refl, sym, ◌∙◌}
-use mathlib.Core.Logic.{inl, inr}
-use lib.ListN.{length, length-map, take, drop}
+use mathlib.Core.Path.{◌≡◌}
+use lib.ListN.{length, take, drop}
 use Rattle.board.specs.Parts.{most_parts}
 use Rattle.judge.specs.declared.Which.TheVariants.{First, Second}
 use Rattle.judge.specs.RelayWindings.{winding_of, told_seen}
-use Rattle.judge.proofs.ScannedLaws.{named_neither, or_else, scan_on, scan_past, scan_windings}
+use Rattle.judge.proofs.ScannedLaws.{or_else}
 use Rattle.judge.proofs.find_windings.Given as goal
 
 abbrev pub invariant-loop-i : goal.invariant-loop-i

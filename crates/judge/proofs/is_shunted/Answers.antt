@@ -1,7 +1,6 @@
 -- `judge::is_shunted` meets its contract: the flood starts at one end, and is asked for the other.
 use borrow.Author.Rules.{rules}
 use Rattle.judge.proofs.JudgeLaws.{shunted_by_lem}
-use Rattle.std.proofs.Common.{arith}
 use Rattle.judge.proofs.is_shunted.Goals as goal
 
 pub returns : goal.returns

@@ -3,7 +3,6 @@ use borrow.Author.Rules.{rules}
 use mathlib.Core.Path.{sym, ap, ◌∙◌}
 use Rattle.judge.specs.RelayWindings.{told_asked}
 use Rattle.judge.proofs.JudgeLaws.{judging_by, judging-kept}
-use Rattle.std.proofs.Common.{arith}
 use Rattle.judge.proofs.judge.Goals as goal
 
 pub returns-in-Given : goal.returns-in-Given

@@ -1,8 +1,6 @@
 -- `judge::judge_by` meets its contract: a shunted winding is dead at once, any other goes by the search.
 use borrow.Author.Rules.{rules}
-use mathlib.Core.Path.{sym, ◌∙◌}
 use Rattle.judge.proofs.JudgeLaws.{judged-shunted, judged_else}
-use Rattle.std.proofs.Common.{arith}
 use Rattle.judge.proofs.judge_by.Goals as goal
 
 pub returns-then-is_shunted : goal.returns-then-is_shunted

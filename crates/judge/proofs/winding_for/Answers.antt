@@ -2,7 +2,6 @@
 -- it.
 use borrow.Author.Rules.{rules}
 use Rattle.judge.proofs.JudgeLaws.{asked-usable, asked_unusable}
-use Rattle.std.proofs.Common.{arith}
 use Rattle.judge.proofs.winding_for.Goals as goal
 
 pub returns-in-Nothing : goal.returns-in-Nothing

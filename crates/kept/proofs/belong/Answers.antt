@@ -1,7 +1,6 @@
 -- `kept::belong` meets its contract: both rows are compared with those worked out.
 use borrow.Author.Rules.{rules}
 use Rattle.kept.proofs.KeptLaws.{belongs_second, belongs_not}
-use Rattle.std.proofs.Common.{arith}
 use Rattle.kept.proofs.belong.Goals as goal
 
 pub returns-then-same_row : goal.returns-then-same_row

@@ -1,12 +1,9 @@
 -- `kept::same_row` meets its contract. The invariant: the rows are the same exactly if they are so from place i on.
-use native.Mathlib.Omega.{arith}
 use Prim.Native.Nat.{◌-◌}
-use mathlib.Core.Path.{◌≡◌, refl}
+use mathlib.Core.Path.{◌≡◌}
 use lib.ListN.{length, drop}
 use Rattle.board.specs.Rules.{most_terminals}
 use Rattle.kept.specs.Kept.{same_row}
-use Rattle.kept.proofs.KeptLaws.{rows_same, rows_differ, rows_end}
-use Rattle.std.proofs.Common.{rules}
 use Rattle.kept.proofs.same_row.Given as goal
 
 abbrev pub invariant-loop-i : goal.invariant-loop-i

@@ -1,7 +1,6 @@
 -- `moves::after` meets its contract: a relay that moved changes the state and what is kept beside it.
 use borrow.Author.Rules.{rules}
 use Rattle.moves.proofs.StepLaws.{after_drew, after_dropped}
-use Rattle.std.proofs.Common.{arith}
 use Rattle.moves.proofs.after.Goals as goal
 
 pub returns-in-Drew : goal.returns-in-Drew

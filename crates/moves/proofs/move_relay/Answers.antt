@@ -4,7 +4,6 @@ use borrow.Author.Rules.{rules}
 use mathlib.Core.Path.{ap}
 use lib.Dec.{ltb}
 use Rattle.moves.proofs.MovingLaws.{movable_nothing, movable_refused, moving_refused, moving_moved}
-use Rattle.std.proofs.Common.{arith}
 use Rattle.moves.proofs.move_relay.Goals as goal
 
 pub returns-in-Nothing : goal.returns-in-Nothing

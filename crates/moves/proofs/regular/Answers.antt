@@ -1,8 +1,6 @@
 -- `moves::regular` meets its contract.
-use borrow.Author.Rules.{rules}
 use mathlib.Core.Path.{◌∙◌}
 use Rattle.moves.proofs.MoveLaws.{regular_live, regular_dead}
-use Rattle.std.proofs.Common.{arith}
 use Rattle.moves.proofs.regular.Goals as goal
 
 pub returns-then-live : goal.returns-then-live

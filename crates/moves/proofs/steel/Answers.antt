@@ -1,8 +1,6 @@
 -- `moves::steel` meets its contract.
 use borrow.Author.Rules.{rules}
-use mathlib.Core.Path.{◌∙◌}
 use Rattle.moves.proofs.MoveLaws.{steel_conflict, steel_draws, steel_drops, steel_rests}
-use Rattle.std.proofs.Common.{arith}
 use Rattle.moves.proofs.steel.Goals as goal
 
 pub returns-then-dropping : goal.returns-then-dropping

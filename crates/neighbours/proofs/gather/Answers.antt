@@ -1,12 +1,7 @@
 -- `neighbours::gather` meets its contract. The invariant: both rows, by all parts that conduct and by those of them
 -- that are no winding, have besides what the parts from i on join between the terminals.
-use native.Mathlib.Omega.{arith}
-use mathlib.Core.Path.{sym, ◌∙◌}
-use mathlib.Core.Logic.{⊎_map}
 use lib.ListN.{length-map}
-use Rattle.neighbours.specs.Conduction.{conducts, conducts_bare}
-use Rattle.neighbours.specs.Rows.{among_by}
-use Rattle.neighbours.proofs.RowLaws.{RowFrom, row_starts, row_on, row_long, row_ends}
+use Rattle.neighbours.proofs.RowLaws.{row_starts, row_on, row_long}
 use Rattle.std.proofs.Common.{rules}
 use Rattle.neighbours.proofs.gather.Goals as goal
 

@@ -1,11 +1,7 @@
 -- `neighbours::neighbours` meets its contract: the pairs of all terminals, joined from none.
 use borrow.Author.Rules.{rules}
-use Prim.Native.Nat.{ℕ}
-use mathlib.Core.Path.{refl, sym, ap₂, ◌∙◌}
-use mathlib.Core.List.{List}
 use Rattle.neighbours.proofs.SetAtLaws.{neighbours_sets, bare_sets}
 use Rattle.neighbours.proofs.RenewLaws.{gathered_all}
-use Rattle.std.proofs.Common.{arith}
 use Rattle.neighbours.proofs.neighbours.Goals as goal
 
 pub returns : goal.returns

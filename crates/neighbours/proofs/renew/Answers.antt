@@ -1,12 +1,8 @@
 -- `neighbours::renew` meets its contract: these terminals are taken apart, then joined again.
-use borrow.Author.Rules.{rules}
 use Prim.Native.Nat.{ℕ}
-use mathlib.Core.Path.{◌≡◌, ap₂, ◌∙◌}
+use mathlib.Core.Path.{ap₂, ◌∙◌}
 use mathlib.Core.List.{List}
-use lib.ListN.{length}
-use Rattle.board.specs.Rules.{most_terminals}
 use Rattle.neighbours.proofs.RenewLaws.{gathered-renewed}
-use Rattle.std.proofs.Common.{arith}
 use Rattle.neighbours.proofs.renew.Goals as goal
 
 pub returns : goal.returns

@@ -1,6 +1,5 @@
 -- The proof of the cycle of calls {read_form}. The measure is `left`, the bytes that the number may still have.
-use denote.Slice.{shr_slice_at}
-use Prim.Native.Nat.{ℕ, ◌+◌, ◌-◌, ◌^◌, ◌≤◌, ◌<◌}
+use Prim.Native.Nat.{◌+◌, ◌-◌, ◌^◌, ◌≤◌, ◌<◌}
 use native.Mathlib.Omega.{arith}
 use borrow.Author.Rules.{rules}
 use Rattle.number.specs.Numbers.{current_width}
@@ -25,7 +24,8 @@ returns-then-above-eq0 t c = search (rules, form_not_shortest)
 
 pub overflow_mul-result : goal.overflow_mul-result
 overflow_mul-result t c =
-    let rest-bounds : (c.in-Got.above < 128 ^ (current_width.longest - 1)) × (c.in-Got.bytes ≤ current_width.longest - 1) =
+    let rest-bounds : (c.in-Got.above < 128 ^ (current_width.longest - 1))
+    × (c.in-Got.bytes ≤ current_width.longest - 1) =
     let bounds =
     form_bounds (current_width.longest - 1) _ (c.args.at + 1) c.args.s.now c.type_inv.s
     (omega arith) _ c.read_form-rest.ensures _ _ c.in-Got.is in (bounds.small, bounds.few) in
@@ -33,7 +33,8 @@ overflow_mul-result t c =
 
 pub overflow_add-result : goal.overflow_add-result
 overflow_add-result t c =
-    let rest-bounds : (c.in-Got.above < 128 ^ (current_width.longest - 1)) × (c.in-Got.bytes ≤ current_width.longest - 1) =
+    let rest-bounds : (c.in-Got.above < 128 ^ (current_width.longest - 1))
+    × (c.in-Got.bytes ≤ current_width.longest - 1) =
     let bounds =
     form_bounds (current_width.longest - 1) _ (c.args.at + 1) c.args.s.now c.type_inv.s
     (omega arith) _ c.read_form-rest.ensures _ _ c.in-Got.is in (bounds.small, bounds.few) in
@@ -41,7 +42,8 @@ overflow_add-result t c =
 
 pub overflow_add-result-2 : goal.overflow_add-result-2
 overflow_add-result-2 t c =
-    let rest-bounds : (c.in-Got.above < 128 ^ (current_width.longest - 1)) × (c.in-Got.bytes ≤ current_width.longest - 1) =
+    let rest-bounds : (c.in-Got.above < 128 ^ (current_width.longest - 1))
+    × (c.in-Got.bytes ≤ current_width.longest - 1) =
     let bounds =
     form_bounds (current_width.longest - 1) _ (c.args.at + 1) c.args.s.now c.type_inv.s
     (omega arith) _ c.read_form-rest.ensures _ _ c.in-Got.is in (bounds.small, bounds.few) in

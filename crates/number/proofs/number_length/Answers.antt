@@ -1,7 +1,5 @@
 -- `number_length` counts the groups of a number of the longest form.
-use native.Mathlib.Omega.{arith}
 use Rattle.number.specs.Numbers.{number_bytes}
-use Rattle.std.proofs.Common.{rules}
 use Rattle.number.proofs.number_length.Goals as goal
 
 pub returns : goal.returns

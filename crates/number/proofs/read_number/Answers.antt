@@ -1,7 +1,6 @@
 -- `read_number` answers the form that `read_form` finds, as the rule book does.
 use Prim.Native.Nat.{◌+◌, ◌≤◌}
 use native.Mathlib.Omega.{arith}
-use mathlib.Core.Path.{◌∙◌}
 use borrow.Author.Rules.{rules}
 use lib.ListN.{length}
 use Rattle.number.specs.Numbers.{current_width}

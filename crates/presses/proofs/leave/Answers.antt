@@ -1,7 +1,5 @@
 -- `presses::leave` meets its contract: done, the state is the next; refused, it is the state as given.
-use borrow.Author.Rules.{rules}
 use Rattle.presses.proofs.PressLaws.{leave_done, leave_refused}
-use Rattle.std.proofs.Common.{arith}
 use Rattle.presses.proofs.leave.Goals as goal
 
 pub returns-in-Nothing : goal.returns-in-Nothing

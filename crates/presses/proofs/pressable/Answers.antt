@@ -1,9 +1,6 @@
 -- `presses::pressable` meets its contract: its lines are those of the definition, in that order.
 use borrow.Author.Rules.{rules}
-use mathlib.Core.Path.{ap}
-use lib.Dec.{ltb}
 use Rattle.presses.proofs.PressLaws.{pressable_asked}
-use Rattle.std.proofs.Common.{arith}
 use Rattle.presses.proofs.pressable.Goals as goal
 
 pub returns : goal.returns

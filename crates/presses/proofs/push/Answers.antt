@@ -1,11 +1,9 @@
 -- `presses::push` meets its contract: `leave` is given the answer of `pressable`, and what is kept after the push.
-use borrow.Author.Rules.{rules}
 use mathlib.Core.Path.{ap, ◌∙◌}
 use mathlib.Core.Bool.{not}
 use Rattle.state.proofs.StateLaws.{pushed_push_other, drawn_push}
 use Rattle.presses.specs.Presses.{pushing}
 use Rattle.presses.proofs.PressLaws.{left_asked}
-use Rattle.std.proofs.Common.{arith}
 use Rattle.presses.proofs.push.Goals as goal
 
 pub returns : goal.returns

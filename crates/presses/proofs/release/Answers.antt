@@ -1,11 +1,9 @@
 -- `presses::release` meets its contract: `leave` is given the answer of `pressable`, and what is kept after the
 -- release.
-use borrow.Author.Rules.{rules}
 use mathlib.Core.Path.{◌∙◌}
 use Rattle.state.proofs.StateLaws.{pushed_release_other, drawn_release}
 use Rattle.presses.specs.Presses.{releasing}
 use Rattle.presses.proofs.PressLaws.{left_asked}
-use Rattle.std.proofs.Common.{arith}
 use Rattle.presses.proofs.release.Goals as goal
 
 pub returns : goal.returns

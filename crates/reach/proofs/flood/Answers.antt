@@ -1,11 +1,7 @@
 -- `reach::flood` meets its contract. The invariant: from those seen and those done, the flood comes to its result. The
 -- measure falls because the set of those done grows.
-use Prim.Native.Nat.{◌-◌, ◌^◌}
-use native.Mathlib.Omega.{arith}
 use borrow.Author.Rules.{rules}
-use Rattle.bits.specs.Sets.{room}
-use Rattle.reach.specs.Floods.{flooded}
-use Rattle.reach.proofs.FloodLaws.{Comes, comes_begin, done_grows, comes_on, comes_end}
+use Rattle.reach.proofs.FloodLaws.{comes_begin, done_grows, comes_on, comes_end}
 use Rattle.reach.proofs.flood.Goals as goal
 
 pub loop-from-init : goal.loop-from-init

@@ -1,11 +1,9 @@
 -- `reach::flood` meets its contract. The invariant: from those seen and those done, the flood comes to its result. The
 -- measure falls because the set of those done grows.
 use Prim.Native.Nat.{◌-◌, ◌^◌}
-use native.Mathlib.Omega.{arith}
-use borrow.Author.Rules.{rules}
 use Rattle.bits.specs.Sets.{room}
 use Rattle.reach.specs.Floods.{flooded}
-use Rattle.reach.proofs.FloodLaws.{Comes, comes_begin, done_grows, comes_on, comes_end}
+use Rattle.reach.proofs.FloodLaws.{Comes}
 use Rattle.reach.proofs.flood.Given as goal
 
 abbrev pub invariant-loop-from : goal.invariant-loop-from

@@ -1,8 +1,6 @@
 -- `search::search` meets its contract: of more terminals than the sets have, only those are looked at.
 use borrow.Author.Rules.{rules}
-use mathlib.Core.Path.{◌∙◌}
 use Rattle.search.proofs.VerdictLaws.{in_sets_most, in_sets_all}
-use Rattle.std.proofs.Common.{arith}
 use Rattle.search.proofs.search.Goals as goal
 
 pub returns-then-terminals-gt-MOST_TERMINALS : goal.returns-then-terminals-gt-MOST_TERMINALS

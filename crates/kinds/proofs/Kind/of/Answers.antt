@@ -1,7 +1,6 @@
 -- `kinds::Kind::of` meets its contract: each arm's number picks the same case of `kind_of`.
-use Rattle.kinds.specs.Kinds.{button_kind, regular_kind, drawing_kind, dropping_kind, kind_of}
-use borrow.Author.Tests.{ne_eqb}
-use Rattle.std.proofs.Common.{arith, rules}
+use Rattle.kinds.specs.Kinds.{kind_of}
+use Rattle.std.proofs.Common.{rules}
 use Rattle.kinds.proofs.Kind.of.Goals as goal
 
 pub returns-in-0 : goal.returns-in-0

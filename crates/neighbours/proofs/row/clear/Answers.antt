@@ -1,10 +1,7 @@
 -- `neighbours::row::clear` meets its contract. The invariant: the sets of the terminals below x are done, and the
 -- others are as they were.
 use borrow.Author.Rules.{rules}
-use native.Mathlib.Omega.{arith}
-use Prim.Native.Nat.{◌-◌}
-use Rattle.bits.specs.Sets.{room}
-use Rattle.neighbours.proofs.RowLaws.{ClearedBelow, clear_starts, clear_after, clear_on, clear-ends}
+use Rattle.neighbours.proofs.RowLaws.{clear_starts, clear_after, clear_on}
 use Rattle.neighbours.proofs.row.clear.Goals as goal
 
 pub loop-x-init : goal.loop-x-init

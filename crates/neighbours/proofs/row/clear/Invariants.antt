@@ -1,10 +1,8 @@
 -- `neighbours::row::clear` meets its contract. The invariant: the sets of the terminals below x are done, and the
 -- others are as they were.
-use borrow.Author.Rules.{rules}
-use native.Mathlib.Omega.{arith}
 use Prim.Native.Nat.{◌-◌}
 use Rattle.bits.specs.Sets.{room}
-use Rattle.neighbours.proofs.RowLaws.{ClearedBelow, clear_starts, clear_after, clear_on, clear-ends}
+use Rattle.neighbours.proofs.RowLaws.{ClearedBelow}
 use Rattle.neighbours.proofs.row.clear.Given as goal
 
 abbrev pub invariant-loop-x : goal.invariant-loop-x

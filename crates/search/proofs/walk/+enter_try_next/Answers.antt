@@ -1,10 +1,9 @@
 -- `search::walk::enter` and `search::walk::try_next`, which call each other, meet their contracts. The measure that
 -- falls at each call: a hundred for each terminal that the chain has still room for, then 99 where a terminal is
 -- entered, or the numbers not yet tried where a neighbour is.
-use Prim.Native.Nat.{ℕ, ◌+◌, ◌-◌, ◌*◌, ◌<◌}
 use borrow.Author.Rules.{rules}
 use native.Mathlib.Omega.{arith}
-use Rattle.search.proofs.WalkLaws.{enter_spent, enter_showing, enter-ended, enter_full, enter_on, tries_fall}
+use Rattle.search.proofs.WalkLaws.{enter_spent, enter_showing, enter-ended, enter_full, enter_on}
 use Rattle.search.proofs.WalkLaws.{Trying, try_none, next-carries, carries_still, try_on, try_back}
 use Rattle.search.proofs.WalkLaws.{visits_fall, numbers_fall}
 use Rattle.search.proofs.walk.+enter_try_next.Goals as goal
@@ -26,7 +25,8 @@ enter-returns t c = search (rules, enter_on)
 
 pub try_next-returns-then-terminals-next : goal.try_next-returns-then-terminals-next
 try_next-returns-then-terminals-next t c =
-    let trying : Trying c.args.near.now c.args.terminals c.args.n c.args.winding c.args.chain c.args.places.now c.remaining-unmet.result c.next_member-next.result =
+    let trying : Trying c.args.near.now c.args.terminals c.args.n c.args.winding c.args.chain c.args.places.now
+    c.remaining-unmet.result c.next_member-next.result =
     record {
       carries = c.requires.carries;
       unmet = c.remaining-unmet.ensures;
@@ -42,7 +42,8 @@ try_next-enter-walked-requires t c = search (rules, next-carries, visits_fall)
 
 pub try_next-try_next-requires : goal.try_next-try_next-requires
 try_next-try_next-requires t c =
-    let trying : Trying c.args.near.now c.args.terminals c.args.n c.args.winding c.args.chain c.args.places.now c.remaining-unmet.result c.next_member-next.result =
+    let trying : Trying c.args.near.now c.args.terminals c.args.n c.args.winding c.args.chain c.args.places.now
+    c.remaining-unmet.result c.next_member-next.result =
     record {
       carries = c.requires.carries;
       unmet = c.remaining-unmet.ensures;
@@ -55,13 +56,17 @@ try_next-try_next-requires t c =
       numbers_fall here c.on_to-longer.ensures c.if-terminals-next.false c.decreases,
       (
         here.most,
-        (carries_still here c.on_to-longer.ensures c.if-terminals-next.false _ c.enter-walked.ensures, (here.short, omega (arith, c.if-terminals-next.false))),
+        (
+          carries_still here c.on_to-longer.ensures c.if-terminals-next.false _ c.enter-walked.ensures,
+          (here.short, omega (arith, c.if-terminals-next.false)),
+        ),
       ),
     )
 
 pub try_next-returns-in-ShowingNone : goal.try_next-returns-in-ShowingNone
 try_next-returns-in-ShowingNone t c =
-    let trying : Trying c.args.near.now c.args.terminals c.args.n c.args.winding c.args.chain c.args.places.now c.remaining-unmet.result c.next_member-next.result =
+    let trying : Trying c.args.near.now c.args.terminals c.args.n c.args.winding c.args.chain c.args.places.now
+    c.remaining-unmet.result c.next_member-next.result =
     record {
       carries = c.requires.carries;
       unmet = c.remaining-unmet.ensures;
@@ -75,7 +80,8 @@ try_next-returns-in-ShowingNone t c =
 
 pub try_next-returns-in_default : goal.try_next-returns-in_default
 try_next-returns-in_default t c =
-    let trying : Trying c.args.near.now c.args.terminals c.args.n c.args.winding c.args.chain c.args.places.now c.remaining-unmet.result c.next_member-next.result =
+    let trying : Trying c.args.near.now c.args.terminals c.args.n c.args.winding c.args.chain c.args.places.now
+    c.remaining-unmet.result c.next_member-next.result =
     record {
       carries = c.requires.carries;
       unmet = c.remaining-unmet.ensures;

@@ -1,12 +1,7 @@
 -- `search::walk::enter` and `search::walk::try_next`, which call each other, meet their contracts. The measure that
 -- falls at each call: a hundred for each terminal that the chain has still room for, then 99 where a terminal is
 -- entered, or the numbers not yet tried where a neighbour is.
-use Prim.Native.Nat.{ℕ, ◌+◌, ◌-◌, ◌*◌, ◌<◌}
-use borrow.Author.Rules.{rules}
-use native.Mathlib.Omega.{arith}
-use Rattle.search.proofs.WalkLaws.{enter_spent, enter_showing, enter-ended, enter_full, enter_on, tries_fall}
-use Rattle.search.proofs.WalkLaws.{Trying, try_none, next-carries, carries_still, try_on, try_back}
-use Rattle.search.proofs.WalkLaws.{visits_fall, numbers_fall}
+use Prim.Native.Nat.{◌+◌, ◌-◌, ◌*◌}
 use Rattle.search.proofs.walk.+enter_try_next.Given as goal
 
 abbrev pub decreases-enter : goal.decreases-enter

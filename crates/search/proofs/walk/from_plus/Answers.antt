@@ -1,8 +1,6 @@
 -- `search::walk::from_plus` meets its contract.
 use borrow.Author.Rules.{rules}
-use mathlib.Core.Path.{refl, ◌∙◌}
 use Rattle.search.proofs.WalkLaws.{begun_path, begun-carries, entered-left, entered_verdict}
-use Rattle.std.proofs.Common.{arith}
 use Rattle.search.proofs.walk.from_plus.Goals as goal
 
 pub enter-walked-requires : goal.enter-walked-requires

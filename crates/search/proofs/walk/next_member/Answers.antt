@@ -1,7 +1,6 @@
 -- `search::walk::next_member` meets its contract.
 use borrow.Author.Rules.{rules}
 use Rattle.search.proofs.NextLaws.{next_none, next_some}
-use Rattle.std.proofs.Common.{arith}
 use Rattle.search.proofs.walk.next_member.Goals as goal
 
 pub returns-then-wide-next : goal.returns-then-wide-next

@@ -1,7 +1,6 @@
 -- `search::walk::verdict` meets its contract: in each arm it is known what the walk found.
 use borrow.Author.Rules.{rules}
-use Rattle.search.proofs.ScanLaws.{left_within, concluded_showing, concluded_none, concluded_spent}
-use Rattle.std.proofs.Common.{arith}
+use Rattle.search.proofs.ScanLaws.{concluded_none, concluded_spent}
 use Rattle.search.proofs.walk.verdict.Goals as goal
 
 pub returns-in-ShowingNone : goal.returns-in-ShowingNone

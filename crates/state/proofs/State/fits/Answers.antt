@@ -1,8 +1,6 @@
 -- `state::State::fits` meets its contract: its two tests are those of `state_fine`, in that order.
 use borrow.Author.Rules.{rules}
-use mathlib.Core.Path.{sym, ◌∙◌}
 use Rattle.state.proofs.StateLaws.{state_fits_last, state_relay_beyond}
-use Rattle.std.proofs.Common.{arith}
 use Rattle.state.proofs.State.fits.Goals as goal
 
 pub returns-then-all_below : goal.returns-then-all_below

@@ -1,11 +1,9 @@
 -- `windings::WoundSoFar::complete` meets its contract. The invariant: every relay passed is wound.
 use borrow.Author.Rules.{rules}
 use native.Mathlib.Omega.{arith}
-use Prim.Native.Nat.{◌<◌, ◌≤◌, ◌-◌}
 use mathlib.Core.Path.{◌≡◌, sym, ◌∙◌}
-use mathlib.Core.Bool.{true, false}
-use borrow.Author.Tests.{not-true, not-false}
-use Rattle.windings.specs.Windings.{wound, every, complete}
+use mathlib.Core.Bool.{false}
+use Rattle.windings.specs.Windings.{wound, complete}
 use Rattle.windings.proofs.EveryLaws.{every_none, every_more, every_fails}
 use Rattle.windings.proofs.WoundSoFar.complete.Goals as goal
 

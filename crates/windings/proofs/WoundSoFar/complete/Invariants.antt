@@ -1,12 +1,8 @@
 -- `windings::WoundSoFar::complete` meets its contract. The invariant: every relay passed is wound.
-use borrow.Author.Rules.{rules}
-use native.Mathlib.Omega.{arith}
 use Prim.Native.Nat.{◌<◌, ◌≤◌, ◌-◌}
-use mathlib.Core.Path.{◌≡◌, sym, ◌∙◌}
-use mathlib.Core.Bool.{true, false}
-use borrow.Author.Tests.{not-true, not-false}
-use Rattle.windings.specs.Windings.{wound, every, complete}
-use Rattle.windings.proofs.EveryLaws.{every_none, every_more, every_fails}
+use mathlib.Core.Path.{◌≡◌}
+use mathlib.Core.Bool.{true}
+use Rattle.windings.specs.Windings.{wound, every}
 use Rattle.windings.proofs.WoundSoFar.complete.Given as goal
 
 abbrev pub invariant-loop-relay : goal.invariant-loop-relay
