@@ -29,7 +29,6 @@ ELSEWHERE = {
     "head": "a command of the system",
     "ladder": "a sample of before, in the note on request A1",
     "ladder-w2097151": "a sample of before, in the note on request A1",
-    "lost-files": "a part of `rt ci`",
     "open": "a word of the proof language",
     "proof": "a column of a table",
     "repeats": "a script that is handed to the developers",
