@@ -1,8 +1,8 @@
 """What the documents name in backquotes must be there. A name by itself is a word of the crates' code, definitions or proofs,
 comments left out, or a crate, a must-fail edit, a file or a sample; one with a hyphen or an underscore is besides declared, as a
 law is, a definition or a function. `a::b` begins with a crate or a type. A path is one below the repository, its folder second/ or
-samples/, crates/, or a crate. What comes after the word crate, after `rt ci` or `rt must-fail`, or before a file of definitions, is
-a crate. Text that is no name, such as bytes, lines and commands, is not looked at."""
+samples/, crates/, or a crate. What comes after the words crate and program, after `rt ci` or `rt must-fail`, or before a file of
+definitions, is a crate. Text that is no name, such as bytes, lines and commands, is not looked at."""
 import glob
 import os
 import re
@@ -109,7 +109,7 @@ def is_path(name):
 
 def named_crates(text):
     """The names in a document that must be crates."""
-    for words in re.findall(rf"\b[Cc]rates? ((?:{QUOTED}(?:, and |, | and )?)+)", text):
+    for words in re.findall(rf"\b(?:[Cc]rates?|[Pp]rograms?) ((?:{QUOTED}(?:, and |, | and )?)+)", text):
         yield from re.findall(r"`(\w+)`", words)
     for words in re.findall(r"`rt (?:check|ci|lib|must-fail|run|test|tidy|verdict) ([\w ]+)`", text):
         yield from words.split()
