@@ -1,7 +1,7 @@
-"""Prints the table of docs/COST.md: for each crate its lines of code, definitions and proof, and the time and memory that
-its check takes alone. Run from anywhere: python3 bench/cost.py. Proves what is not proved yet, then each crate once more, over
-libraries that are built; takes as long. `rt check` begins with what checks of the same crate kept in other checkouts on this
-machine, if there are any: such a row says so, and is no time of a first check."""
+"""Prints the table of docs/COST.md: for each crate its lines of code, definitions and proof, and the time and memory
+that its check takes alone. Run from anywhere: python3 bench/cost.py. Proves what is not proved yet, then each crate
+once more, over libraries that are built; takes as long. `rt check` begins with what checks of the same crate kept in
+other checkouts on this machine, if there are any: such a row says so, and is no time of a first check."""
 import os
 import re
 import resource

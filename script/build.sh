@@ -1,5 +1,5 @@
-# Proves and builds the program by `rt run` in its folder, and keeps it in built/. The script `herdspiral` reads this file
-# where the program is missing or old; it has found the kit, and has say, fail, content and is_built.
+# Proves and builds the program by `rt run` in its folder, and keeps it in built/. The script `herdspiral` reads this
+# file where the program is missing or old; it has found the kit, and has say, fail, content and is_built.
 # shellcheck shell=sh disable=SC2154
 #
 # One start builds at a time: it holds a lock on crates.txt, which the system takes back when whoever holds it has ended, in
@@ -21,7 +21,8 @@ lock() {
     fi
 }
 
-# Whether some rt is at work on a crate that is to be proved. Without flock that is not seen here; rt then waits by itself.
+# Whether some rt is at work on a crate that is to be proved. Without flock that is not seen here; rt then waits by
+# itself.
 rt_at_work() {
     command -v flock >/dev/null || return
     for crate in $crates; do
@@ -40,8 +41,8 @@ wait_for_rt() {
     while rt_at_work; do sleep 1; done
 }
 
-# Prints the crates that are proved for the program, in the order in which rt goes, worked out as rt does: each after those that
-# it needs. Where another rt goes otherwise, what is said of the progress is off, and nothing else.
+# Prints the crates that are proved for the program, in the order in which rt goes, worked out as rt does: each after
+# those that it needs. Where another rt goes otherwise, what is said of the progress is off, and nothing else.
 crates_to_prove() {
     awk '
         { sub(/#.*/, "") }
@@ -70,8 +71,9 @@ progress() { # CRATE
 # Clears that line.
 no_progress() { [ ! -t 2 ] || printf '\r%-50s\r' '' >&2; }
 
-# Takes what rt says line by line, and tells of the progress. Where rt fails, all that it said is shown, unless another rt
-# came between. Answers whether it proved and built the program: it then goes on to run it, and nothing is asked of that run.
+# Takes what rt says line by line, and tells of the progress. Where rt fails, all that it said is shown, unless another
+# rt came between. Answers whether it proved and built the program: it then goes on to run it, and nothing is asked of
+# that run.
 follow() {
     log='' proved='' waiting=''
     while IFS= read -r line; do

@@ -1,8 +1,8 @@
-"""That the gate and the comparisons can fail. The gate, `.ci/run`, over a repository that stands in for the real one, with an `rt`
-that passes, fails or has bad must-fail edits, with tests that pass, fail, crash or say nothing, and with an exported CDPATH; the
-comparisons (tests/lib/program.py) over programs that print a line too many or too few, or inside a line, that say a word on
-standard error, and that do not end well; the reading of a must-fail edit's refusal (tests/must_fail_reasons.py) over what `rt` can
-say of one."""
+"""That the gate and the comparisons can fail. The gate, `.ci/run`, over a repository that stands in for the real one,
+with an `rt` that passes, fails or has bad must-fail edits, with tests that pass, fail, crash or say nothing, and with
+an exported CDPATH; the comparisons (tests/lib/program.py) over programs that print a line too many or too few, or
+inside a line, that say a word on standard error, and that do not end well; the reading of a must-fail edit's refusal
+(tests/must_fail_reasons.py) over what `rt` can say of one."""
 import os
 import subprocess
 import sys
@@ -75,8 +75,8 @@ PROGRAMS = [  # what a program does, and whether its answers are the two that ar
 
 
 def gate(folder, test, said=OK + SHARE + COUNT, ended=0, **more):
-    """How the gate comes out over a repository with this test, started from above it by a path without a dot in front, and with
-    an `rt` that says this and ends so, if it is called as `rt ci` at the top of the repository."""
+    """How the gate comes out over a repository with this test, started from above it by a path without a dot in front,
+    and with an `rt` that says this and ends so, if it is called as `rt ci` at the top of the repository."""
     stand_in.put(os.path.join(folder, "root", ".ci", "run"), repository.text(".ci", "run"))
     stand_in.put(os.path.join(folder, "root", "crates.txt"), "")
     stand_in.put(os.path.join(folder, "root", "tests", "one.py"), test)

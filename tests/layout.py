@@ -1,5 +1,5 @@
-"""Every Rattle and antt file is in the formatter's layout, and no line of it has more than 120 characters. `rt fmt` has no
-way to ask, so it lays out a copy of each crate in a folder of its own: it says nothing, and changes nothing."""
+"""Every Rattle and antt file is in the formatter's layout, and no line of it has more than 120 characters. `rt fmt` has
+no way to ask, so it lays out a copy of each crate in a folder of its own: it says nothing, and changes nothing."""
 import os
 import shutil
 import subprocess
@@ -14,7 +14,8 @@ PARTS = ("src", "specs", "proofs")
 
 
 def laid_out(crate, names):
-    """What `rt fmt` says of a copy of the crate, its status, and the files there afterwards that are not as they were."""
+    """What `rt fmt` says of a copy of the crate, its status, and the files there afterwards that are not as they
+    were."""
     with tempfile.TemporaryDirectory() as folder:
         for part in PARTS:
             if os.path.isdir(repository.path("crates", crate, part)):

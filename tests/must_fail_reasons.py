@@ -1,9 +1,10 @@
-"""Each must-fail edit was refused because a fact no longer holds. `rt` says of each edit what its try came to. It tells itself
-where an edit could not be applied, compiled or read (BAD EDIT), where its check came to no end (NOT TRIED), where the only errors
-are of proof files that name what the edit took away, and where only a limit of the prover stopped it; each of these fails here. Of
-the others it shows how the first error begins that is no such naming: that is an answer that the prover does not accept, or a need
-that is not proved any more. Errors before that one it does not show. In the gate this reads what `rt ci` said (RT_CI_SAID); by
-itself it asks `rt must-fail`, which tries no edit again that `rt ci` tried."""
+"""Each must-fail edit was refused because a fact no longer holds. `rt` says of each edit what its try came to. It tells
+itself where an edit could not be applied, compiled or read (BAD EDIT), where its check came to no end (NOT TRIED),
+where the only errors are of proof files that name what the edit took away, and where only a limit of the prover stopped
+it; each of these fails here. Of the others it shows how the first error begins that is no such naming: that is an
+answer that the prover does not accept, or a need that is not proved any more. Errors before that one it does not show.
+In the gate this reads what `rt ci` said (RT_CI_SAID); by itself it asks `rt must-fail`, which tries no edit again that
+`rt ci` tried."""
 import os
 import re
 import subprocess

@@ -200,8 +200,9 @@ def page_lengths(own):
 
 
 def unwritten_lines(own, name, out, *words):
-    """The checks of a program that prints this and then cannot write: into a file, and into a pipe with the signal for a pipe that
-    is left ignored, it is said; into another pipe nothing is said, since only a reader that left can be why."""
+    """The checks of a program that prints this and then cannot write: into a file, and into a pipe with the signal for
+    a pipe that is left ignored, it is said; into another pipe nothing is said, since only a reader that left can be
+    why."""
     with tempfile.TemporaryFile() as file:
         told = own.start(*words, streams={"stdout": file})
         file.seek(0)

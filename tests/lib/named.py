@@ -1,8 +1,9 @@
-"""What the documents name in backquotes must be there. A name by itself is a word of the crates' code, definitions or proofs,
-comments left out, or a crate, a must-fail edit, a file or a sample; one with a hyphen or an underscore is besides declared, as a
-law is, a definition or a function. `a::b` begins with a crate or a type. A path is one below the repository, its folder second/ or
-samples/, crates/, or a crate. What comes after the words crate and program, after `rt ci` or `rt must-fail`, or before a file of
-definitions, is a crate. Text that is no name, such as bytes, lines and commands, is not looked at."""
+"""What the documents name in backquotes must be there. A name by itself is a word of the crates' code, definitions or
+proofs, comments left out, or a crate, a must-fail edit, a file or a sample; one with a hyphen or an underscore is
+besides declared, as a law is, a definition or a function. `a::b` begins with a crate or a type. A path is one below the
+repository, its folder second/ or samples/, crates/, or a crate. What comes after the words crate and program, after
+`rt ci` or `rt must-fail`, or before a file of definitions, is a crate. Text that is no name, such as bytes, lines and
+commands, is not looked at."""
 import glob
 import os
 import re

@@ -1,6 +1,6 @@
-"""Starting a proved program by its name: `rt ci`, or `rt run` in its folder, builds it as crates/NAME/out/NAME; and what a run of
-it comes to. A test holds all of that to what is wanted: the whole output, standard error and the exit status. Used by the
-comparisons and the measurements."""
+"""Starting a proved program by its name: `rt ci`, or `rt run` in its folder, builds it as crates/NAME/out/NAME; and
+what a run of it comes to. A test holds all of that to what is wanted: the whole output, standard error and the exit
+status. Used by the comparisons and the measurements."""
 import itertools
 import os
 import shutil

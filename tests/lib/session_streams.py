@@ -84,8 +84,8 @@ def failing_writes():
 
 
 def left_by_its_reader():
-    """Output that takes some lines and then no more: the reader of a pipe ends. What it was given are the first lines; the program
-    ignores the signal for it, however it was started, and says that it cannot write."""
+    """Output that takes some lines and then no more: the reader of a pipe ends. What it was given are the first lines;
+    the program ignores the signal for it, however it was started, and says that it cannot write."""
     data = holding(LONGEST)
     lines = second_program.answer(data).out
     for name, ignoring in (("ignored", "trap '' PIPE; "), ("not ignored", "")):

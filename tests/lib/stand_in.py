@@ -10,10 +10,11 @@ import program
 import repository
 from program import Told
 
-# It takes its standard input and writes to both outputs, so that a session lost or a line too many is seen. It locks the folders
-# of the crates that it is at, and says so where it has to wait for another. A file in the kit's folder has it edit a crate
-# meanwhile, go on only when another file says so, say that it waits, refuse, be killed, or remove what it built. As `rt ci` it
-# removes the crates' out/. As `rt run` it goes on to run what it built, on its own input; a file has that run fail.
+# It takes its standard input and writes to both outputs, so that a session lost or a line too many is seen. It locks
+# the folders of the crates that it is at, and says so where it has to wait for another. A file in the kit's folder has
+# it edit a crate meanwhile, go on only when another file says so, say that it waits, refuse, be killed, or remove what
+# it built. As `rt ci` it removes the crates' out/. As `rt run` it goes on to run what it built, on its own input; a
+# file has that run fail.
 RT = """#!/bin/sh
 echo "$* in ${PWD##*/}" >>"$KIT/calls"
 cat >/dev/null
