@@ -1,10 +1,10 @@
 -- Parts and boards. Rule book, "Parts of a board".
---     fields_of p      the fields that the table gives a part, in its order: its bytes and its comparison go by them
+--     fields_of p     the fields that the table gives a part, in its order: its bytes and its comparison go by them
 --     is_mark p       part p is a mark, which joins nothing (request A2)
---     parts_of b       a board's first C parts: nothing here or above looks at the places past them
+--     parts_of b      a board's first C parts: nothing here or above looks at the places past them
 --     most_parts      the most parts that a board can have
 --     blank           what fills the places past C of a board that was read
---     padded ps      parts as an array of `most_parts` places
+--     padded ps       parts as an array of `most_parts` places
 --     empty_board     "the empty board (T 2, else 0)"
 --     BlankPart r     promise: `blank` answers r
 --     EmptyBoard r    promise: `empty` answers r

@@ -2,7 +2,7 @@
 -- files goes by the same tests, each where its field comes.
 --     least_terminals, most_terminals  the range of T
 --     most_relays, most_buttons        the most that R and B can be
---     inRange low high x               x is from low to high, both among them
+--     in_range low high x              x is from low to high, both among them
 --     counts_fine c                    3: T is 2 to 64, R 0 to 32, B 0 to 32 and C 0 to 256
 --     terminal_fine c x                5: terminal x is below T
 --     ends_fine a b                    6: the two ends differ
@@ -13,7 +13,7 @@
 --     part_fine c w p                  5 to 8 and 17 of the part p after parts that gave the windings and marks w
 --     gained_all w ps                  the windings and marks once the parts ps have come too
 --     parts_fine c w ps                5 to 8 and 17 of each of the parts ps after parts that gave w
---     start_of ps                       the start that the marks among the parts ps give: the relays that they name
+--     start_of ps                      the start that the marks among the parts ps give: the relays that they name
 --     all_wound c ps                   9: after the parts ps no relay lacks a winding. It is asked once, after the last
 --                                      part
 --     board_fine b                     a board breaks no rule of refusals 3 to 9 and 17, and "the board record carries
@@ -22,7 +22,7 @@
 --     Checks b r                       promise: `check` of board b answers r
 -- What the functions of this crate promise each other:
 --     row_after c w ps                 the windings and marks after the parts ps, if 5 to 8 and 17 hold of none of them
---     told_row                        the cases of a row that was checked, as `row_after` has them
+--     told_row                         the cases of a row that was checked, as `row_after` has them
 use Rattle.std.specs.Prelude.{ℕ, ◌≡◌, Bool, true, cond, not, ◌&&◌, ◌||◌, List, [], ◌∷◌, ltb, leb, eqb}
 use Rattle.std.proofs.Math.Option.{Option, none, some}
 use Rattle.kinds.specs.declared.Kind.{Kind}

@@ -3,7 +3,7 @@
 -- relay number, says 'starts drawn'" (request A2). No code of this crate goes by these: they say the sentences
 -- themselves, and `proofs/WindingLaws.antt` shows that rules 8, 9 and 17 stand for them.
 --     carries j r k        kind k has number j and carries relay r
---     count_of j r ps       how many of the parts ps are of kind number j and carry relay r
+--     count_of j r ps      how many of the parts ps are of kind number j and carry relay r
 --     IsRegular r ps       relay r is regular: one part of kind 4, none of 5 and 6
 --     IsSteel r ps         relay r is steel-core: one part of kind 5 and one of kind 6, none of 4
 --     Wound n ps           every relay below n is regular or steel-core

@@ -1,6 +1,6 @@
 -- Editions of the rule book: what the definitions of reading take from it, so that the reading of two editions is two
 -- instances of one definition.
---     Edition            what an edition says of a file: `width`, how wide its numbers are, and `last_kind`, the
+--     Edition             what an edition says of a file: `width`, how wide its numbers are, and `last_kind`, the
 --                         highest kind number that it has
 --     three_byte_edition  the rule book before request A1: numbers of at most three bytes, kinds 0 to 6
 --     first_edition       the rule book before request A2, which makes the second edition of it: numbers as today,

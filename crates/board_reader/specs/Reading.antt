@@ -7,8 +7,8 @@
 --     name_at e c k s at               the relay or button of a part of kind number k; a wire has none
 --     no_ends                          what a mark that was read has for ends: a filler, which means nothing
 --     ends_at e c k s at               the ends of a part of kind number k; a mark has none
---     part_at e c w s at                a part, after parts that gave the windings and marks w
---     parts_at e c n w s at             n parts one after the other, after parts that gave the windings and marks w
+--     part_at e c w s at               a part, after parts that gave the windings and marks w
+--     parts_at e c n w s at            n parts one after the other, after parts that gave the windings and marks w
 --     board_of c ps                    the board of counts c and parts ps, with the start that its marks give
 --     board_from c o                   the board of counts c with the parts that were read, and after them 9
 --     board_at e s                     the board at the start of the input, and the place just after it

@@ -1,6 +1,6 @@
 -- What the reader's inner functions answer: a thing beside an answer that says where it ends or why it is refused, told
 -- as an outcome.
---     found_at a o                     the thing a, which ends where o says; a refusal leaves a aside
+--     found_at a o                    the thing a, which ends where o says; a refusal leaves a aside
 --     place_of o                      where a thing that was read ends
 --     row_from w o                    the parts that were read, in their places, and the windings and marks after them,
 --                                     where the parts before them gave w

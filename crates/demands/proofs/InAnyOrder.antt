@@ -52,9 +52,9 @@ both_relays P here there (suc (suc r)) below = absurd (omega arith)
 -- what the relays of both boards come to, computed
 computed : Crossed × Pair
 unfolding member including excluding remaining together first_from lowest_from within every complete padded in_range
-    counts_fine name_fine ends_fit part_fits part_fine gained_all parts_fine board_fine carries state_fine set_from set_at
-    table_from sets_at neighbours bare_neighbours next_seen flood_on flooded reached_without served_on served linked_to linked
-    shunted_by live_by in_sets winding_of windings_at regular_move taken_live step_by step_of
+    counts_fine name_fine ends_fit part_fits part_fine gained_all parts_fine board_fine carries state_fine set_from
+    set_at table_from sets_at neighbours bare_neighbours next_seen flood_on flooded reached_without served_on served
+    linked_to linked shunted_by live_by in_sets winding_of windings_at regular_move taken_live step_by step_of
 computed = (
   record {
     first = record { fine = refl; fits = refl; below = omega arith; steps = refl; leads = refl };

@@ -75,10 +75,10 @@ record H1 : Type 0 where
 
 h1_judged : H1
 unfolding first_no member including excluding remaining together first_from lowest_from within every complete padded
-    in_range counts_fine name_fine ends_fit part_fits part_fine gained_all parts_fine board_fine carries state_fine set_from set_at
-    table_from sets_at neighbours bare_neighbours same_row belongs next_seen flood_on flooded is_in can_follow tries beyond
-    chains crosses some_crosses beside shows first_shown effort places weighed verdict_by in_sets winding_of shunted judged_by
-    winding_for judging
+    in_range counts_fine name_fine ends_fit part_fits part_fine gained_all parts_fine board_fine carries state_fine
+    set_from set_at table_from sets_at neighbours bare_neighbours same_row belongs next_seen flood_on flooded is_in
+    can_follow tries beyond chains crosses some_crosses beside shows first_shown effort places weighed verdict_by
+    in_sets winding_of shunted judged_by winding_for judging
 h1_judged = record { pushed_taken = refl; rest_taken = refl; pushed = refl; rest = refl }
 
 pushed_live : IsLive h1 pushed0 ends × (effort_of h1 pushed0 ends ≤ 100)

@@ -49,16 +49,16 @@ a & b = (a, b)
 
 pub starred_boards : Starred
 unfolding first_no kind_of below form placed number_at encode number_bytes member including excluding remaining together
-    first_from lowest_from within every complete padded in_range counts_fine name_fine ends_fit part_fits part_fine gained_all
-    parts_fine board_fine carries state_fine left pushing releasing wanted counts_at name_at ends_at part_at parts_at board_from
-    board_at answered reading set_from set_at table_from sets_at neighbours bare_neighbours same_row belongs next_seen flood_on
-    flooded is_in can_follow tries beyond chains crosses some_crosses beside shows first_shown effort places weighed
-    verdict_by in_sets winding_of windings_at shunted judged_by winding_for judging reached_without served_on served linked_to
-    linked shunted_by live_by divides lowest_dividing judged_at_once judging_at_once checking regular_move steel_move taken_live
-    step_by step_of movable moving look_from same_state met_from run_from runnable ran running all_runs ended_with total_moves
-    most_moves first_with figures_of reportable reporting digits_of decimal line_text
-    event_at pressing ran_line pressed_line event_line past_allowance head_at lines_from head_lines session_lines line_texts
-    printed session_text
+    first_from lowest_from within every complete padded in_range counts_fine name_fine ends_fit part_fits part_fine
+    gained_all parts_fine board_fine carries state_fine left pushing releasing wanted counts_at name_at ends_at part_at
+    parts_at board_from board_at answered reading set_from set_at table_from sets_at neighbours bare_neighbours same_row
+    belongs next_seen flood_on flooded is_in can_follow tries beyond chains crosses some_crosses beside shows
+    first_shown effort places weighed verdict_by in_sets winding_of windings_at shunted judged_by winding_for judging
+    reached_without served_on served linked_to linked shunted_by live_by divides lowest_dividing judged_at_once
+    judging_at_once checking regular_move steel_move taken_live step_by step_of movable moving look_from same_state
+    met_from run_from runnable ran running all_runs ended_with total_moves most_moves first_with figures_of reportable
+    reporting digits_of decimal line_text event_at pressing ran_line pressed_line event_line past_allowance head_at
+    lines_from head_lines session_lines line_texts printed session_text
 starred_boards =
     (λ x told. told) & (λ a k told. told) & (λ v told. told) & (λ v told. told) & (λ v told. told)
     & (λ a k told. told) & (λ a k told. told) & (λ v told. told) & (λ v told. told) & (λ v told. told)

@@ -17,7 +17,7 @@
 --                                 number for no; `usable_lines` are the three that every call on a board and a state
 --                                 with kept sets has first. `first_no` of them is the first whose test fails, by its
 --                                 number at place 0, or nothing
---     word_of l                    the word of the run that a line tells of, or what refused it
+--     word_of l                   the word of the run that a line tells of, or what refused it
 --     InOrder                     what stands against each call is the first of its lines whose test fails; a file is
 --                                 refused exactly by the first line of the table that holds, from left to right, and a
 --                                 number by itself exactly by its form (1, 2); 11, 14, 15, 18, 19 and 20 are given

@@ -76,7 +76,8 @@ use Rattle.std.proofs.Math.Option.{none, some}
 use Rattle.lists.specs.Members.{All}
 use Rattle.refusals.specs.Outcomes.{Outcome, given, refused}
 use Rattle.refusals.specs.Refusals.{input_ends, bad_form, out_of_range, no_such_kind, no_such_name, winding_lacking}
-use Rattle.refusals.specs.Refusals.{no_such_winding, already_so, state_beyond_board, broken_board, marked_twice, foreign_sets}
+use Rattle.refusals.specs.Refusals.{no_such_winding, already_so, state_beyond_board, broken_board, marked_twice}
+use Rattle.refusals.specs.Refusals.{foreign_sets}
 use Rattle.refusals.specs.Refusals.{terminal_beyond, log_too_long, too_many_buttons}
 use Rattle.number.specs.Numbers.{current_width}
 use Rattle.kinds.specs.declared.Kind.{Kind}
@@ -305,7 +306,15 @@ runs b s log e m t r l =
 abbrev pub buzzed : Board → State → List ℕ → ℕ → ℕ → State → List ℕ → Row
 buzzed b s log i d t l =
     ran b (kept_at b s) log
-    (record { word = given buzz; moves = i + d; kept = kept_at b t; relay = no_relay; earlier = i; between = d; log = l })
+    (record {
+      word = given buzz;
+      moves = i + d;
+      kept = kept_at b t;
+      relay = no_relay;
+      earlier = i;
+      between = d;
+      log = l;
+    })
 
 abbrev pub figures : ℕ → ℕ → ℕ → ℕ → ℕ → ℕ → ℕ → ℕ → Figures
 figures k i z c s m t f =
@@ -391,7 +400,8 @@ marks =
     ∷ reads (2 ∷ 1 ∷ 0 ∷ 1 ∷ 8 ∷ 0 ∷ []) empty_board (refused no_such_kind 4)
     ∷ judges (started 1 h1) pushed0 First 100 (unanswered broken_board 0)
     ∷ judges (started 0 taken_over) empty_state First 100 (unanswered broken_board 0)
-    ∷ judges (started 1 (board 3 1 0 (part (Regular 0) 2 1 ∷ part (Mark 0) 0 2 ∷ []))) empty_state First 100 (dead_with 1)
+    ∷ judges (started 1 (board 3 1 0 (part (Regular 0) 2 1 ∷ part (Mark 0) 0 2 ∷ []))) empty_state First 100
+    (dead_with 1)
     ∷ judges (started 1 (board 2 1 0 (part (Regular 0) 0 1 ∷ part (Mark 0) 200 200 ∷ []))) empty_state First 100
     (live_with 2 (0 ∷ 1 ∷ []))
     ∷ runs taken_over (fresh_state taken_over) (lent 2) idle 1 (drawn0 empty_state) no_relay (1 ∷ 7 ∷ [])
@@ -417,7 +427,8 @@ shunts =
 abbrev pub kept : List Row
 kept =
     pressed true h1 (kept_at h1 empty_state) 0 (with_sets pushed0 (4 ∷ 4 ∷ 3 ∷ []) (4 ∷ 0 ∷ 1 ∷ [])) (given tt)
-    ∷ pressed false h1 (with_sets pushed0 (4 ∷ 4 ∷ 3 ∷ []) (4 ∷ 0 ∷ 1 ∷ [])) 0 (with_sets empty_state (0 ∷ 4 ∷ 2 ∷ []) [])
+    ∷ pressed false h1 (with_sets pushed0 (4 ∷ 4 ∷ 3 ∷ []) (4 ∷ 0 ∷ 1 ∷ [])) 0
+    (with_sets empty_state (0 ∷ 4 ∷ 2 ∷ []) [])
     (given tt)
     ∷ pressed false doubled (kept_at doubled (drawn0 pushed0)) 0
     (with_sets (drawn0 empty_state) (4 ∷ 4 ∷ 3 ∷ []) (4 ∷ 0 ∷ 1 ∷ [])) (given tt)
@@ -533,4 +544,5 @@ all_set =
     ∷ []
 
 abbrev pub Starred : Type 0
-Starred = All RowHolds (starred ++ besides ++ marks ++ shunts ++ kept ++ divided ++ ignored ++ met ++ ordered ++ all_set)
+Starred =
+    All RowHolds (starred ++ besides ++ marks ++ shunts ++ kept ++ divided ++ ignored ++ met ++ ordered ++ all_set)

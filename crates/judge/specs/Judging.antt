@@ -17,7 +17,7 @@
 -- What the functions of this crate promise each other:
 --     JudgesBy k t v w r    `judge_by` of winding v by the sets k of t terminals, within the allowance w, answers r;
 --                           `AsAfresh` of `judge_means` cites it
---     at_once f              the finding f without effort, and no chain shown
+--     at_once f             the finding f without effort, and no chain shown
 -- `judge_means` shows that `shunted` says what the request says, of a board whose counts and parts fit.
 use Rattle.std.specs.Prelude.{ℕ, ◌≡◌, Bool, cond, [], ◌∷◌, ◌++◌}
 use Rattle.std.proofs.Math.Option.{none}

@@ -6,7 +6,7 @@
 --     place p i                       p(i), from place 0 on
 --     actual_connections s p          the connections that part p makes in state s: (a, b) and (b, a) if it
 --                                     conducts, else none
---     AreConnected b s x y           "(∃ cm : Component • cm ∈ components(n) ∧ (c1, c2) ∈ actual_connections(cm))"
+--     AreConnected b s x y            "(∃ cm : Component • cm ∈ components(n) ∧ (c1, c2) ∈ actual_connections(cm))"
 --     Available b s p                 "len p ≥ 2 ∧ (∀ i : Nat • i ∈ {1 .. len p - 1} ⇒ areConnected(p(i), p(i+1), n))
 --                                     ∧ (∀ i, j : Nat • {i, j} ⊆ {1 .. len p} ⇒ (i ≠ j ⇒ p(i) ≠ p(j)))"
 --     AvailablePath b s from to p     p is in "availablePaths(from, to, n)":

@@ -2,7 +2,7 @@
 -- for each terminal the set of terminals joined to it, beside the state"; "After any calls the kept sets equal those
 -- worked out from board and state"; "Refusals: 18, kept sets that don't belong to this board and state, after 14." So a
 -- call that is not refused leaves the sets of the state that it leaves.
---     kept_at b s             the state s with the sets of board b in it beside it
+--     kept_at b s            the state s with the sets of board b in it beside it
 --     kept_fresh b           the fresh state of board b likewise
 --     same_row xs ys         two rows of sets are the same, set by set
 --     belongs b h            18 does not hold: the sets of h are those of board b in its state

@@ -11,8 +11,8 @@
 --     mark_kind             the number of a mark, which says that its relay starts drawn; it has no ends
 --     last_kind             the highest kind number
 --     kind_number k         the number of a kind in the rule book's table
---     name_of k              the relay or button that a kind carries; 0 for a wire, which carries none
---     kind_of k n            the kind of number k that carries n; above the last kind there is none (4), and it is
+--     name_of k             the relay or button that a kind carries; 0 for a wire, which carries none
+--     kind_of k n           the kind of number k that carries n; above the last kind there is none (4), and it is
 --                            taken
 --                           for a mark
 --     fields k a b          the fields that the table gives a part of kind k with the ends a and b, in its order

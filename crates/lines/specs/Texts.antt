@@ -4,7 +4,7 @@
 --     most_digits        20: no 64-bit number has more
 --     digits_of k n      the decimal digits of n, highest first, of which there are at most k
 --     decimal n          n in decimal, with no zero in front
---     value_of v s        the number that a row of digits stands for, read after v
+--     value_of v s       the number that a row of digits stands for, read after v
 --     spaced, ended x    x and a space; x and a line end
 --     refused_text       the word `refused`
 --     word_text w        the word of a run, or `refused`

@@ -11,7 +11,7 @@
 --     taken_live k t v          winding v is taken for live, by the sets k of t terminals: by the served terminals and
 --                               those linked to each
 --     step_by k b s r           what relay r of board b does in state s, by the sets k
---     step_of b s r              the same by the sets of the board in that state. Runs know it by its laws alone
+--     step_of b s r             the same by the sets of the board in that state. Runs know it by its laws alone
 --     made s r m                the state after relay r came to m: "A move changes that relay and nothing else"
 --     kept_made b h r m         the same with the kept sets: where it moved, they are kept up with it (request A5)
 --     told_move                 the answer's cases in the rule book's words

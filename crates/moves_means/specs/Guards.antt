@@ -5,7 +5,7 @@
 -- "no current can propagate from input to input through the relay" is not a rule of our boards. Neither paper's guards
 -- go by an allowance. Neither has shunts: that a shunted winding has no current of its own is request A4's, "here our
 -- rule decides".
---     CurrentThrough b s r k   "∃ cn : Connection • cn ∈ actual_connections(r) ∧ currentCarrying(cn, n)", of winding k
+--     CurrentThrough b s r k    "∃ cn : Connection • cn ∈ actual_connections(r) ∧ currentCarrying(cn, n)", of winding k
 --                               of relay r, its first winding, regular or drawing, or its second, the dropping one;
 --                               and that winding is not shunted
 --     CanDrawRegular b s r      000: can_draw, "~ drawn(r) ∧ (∃ cn : Connection • …)"; 002: canDrawRegularRelay,

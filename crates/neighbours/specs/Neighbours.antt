@@ -8,7 +8,7 @@
 --     with_part t p x k      the set k of terminal x, with the other end of part p besides, if t and p has x as an end
 --     set_from g x k ps      the set k of terminal x, with those besides that the parts ps join to x, of them those
 --                            that pass the test g
---     set_at f x ps           the set of the terminals that the parts ps join to terminal x, of them those of the kinds
+--     set_at f x ps          the set of the terminals that the parts ps join to terminal x, of them those of the kinds
 --                            that pass the test f
 --     sets_at f ps           the set at each of 64 terminals, by the parts ps, likewise
 --     neighbours b s         the sets of board b in state s, by all parts that conduct

@@ -12,7 +12,7 @@
 --                                     length; ends, if s ends inside or before it; bad, if it is longer or not shortest
 --     placed w len at f               the form f at place `at` of an input of len bytes, as the rule book answers it
 --                                     where numbers have the width w: by 2 too where its value is too large
---     number_at w s at                 the number of the width w at place `at` of the input s: its value and the next
+--     number_at w s at                the number of the width w at place `at` of the input s: its value and the next
 --                                     place, or 1 or 2
 --     encode k v                      the shortest form of v, where it has at most k bytes; else the k lowest groups of
 --                                     v, each with its top bit set

@@ -47,7 +47,8 @@ module _ (b : Board) (n : ℕ) where
   unfolding reportable first_no
   reportable_asked board long many first second third =
       asks_then ((board_fine b, broken_board) ∷ (leb n longest_log, log_too_long) ∷ []) too_many_buttons
-      (asks_then ((board_fine b, broken_board) ∷ []) log_too_long (asks_then [] broken_board refl board first) long second)
+      (asks_then ((board_fine b, broken_board) ∷ []) log_too_long (asks_then [] broken_board refl board first) long
+      second)
       many third
 
   -- where nothing stands against it, all settings can be made
@@ -153,7 +154,8 @@ module _ (b : Board) (s : State) (k n : ℕ) where
       rw (off, on, sym at, pushed, same, next)
       (figures-followed (both_ways (run_on b n) j s) (both_ways (run_on b n) j (with_pushed s j)))
 
-  pub both_ways-within : CanSet b s k n → (x : Figures) → x ≡ figures_of (both_ways (run_on b n) k s) → Within (2 ^ 32) x
+  pub both_ways-within : CanSet b s k n → (x : Figures) → x ≡ figures_of (both_ways (run_on b n) k s)
+      → Within (2 ^ 32) x
   both_ways-within can x is = rw is (figures-within (both_ways (run_on b n) k s) many all)
     where
       many : length (both_ways (run_on b n) k s) ≤ 2 ^ most_reported

@@ -2,8 +2,8 @@
 -- length given as a number"; "settings counted as the sum of 2 to the button number". So a setting is the set of the
 -- buttons that are pushed in it, as a number.
 --     settings b          how many settings the buttons of board b have: they are the numbers below 2 to the B
---     start_at b k         the start state of board b with exactly the buttons of setting k pushed
---     run_at b n k         the run of the board from there, with a log of length n
+--     start_at b k        the start state of board b with exactly the buttons of setting k pushed
+--     run_at b n k        the run of the board from there, with a log of length n
 --     all_runs b n        the runs of all settings, in order: that of setting 0, of setting 1, and so on
 --     most_reported       "boards of up to 12 buttons"
 use Rattle.std.specs.Prelude.{ℕ, ◌^◌, List}

@@ -23,7 +23,6 @@ use Rattle.state.proofs.StateLaws.{state_fits_members, members-state_fits, fresh
 use Rattle.kept.specs.Kept.{kept_at}
 use Rattle.kept.proofs.KeptLaws.{usable_fine}
 use Rattle.moves.specs.Steps.{step_of}
-use Rattle.runs.specs.declared.Ran.{Ran}
 use Rattle.runs.specs.Runs.{Ending, idle, conflict, buzz, Run}
 use Rattle.runs.specs.Running.{longest_log}
 use Rattle.runs.proofs.RunningLaws.{runnable_log}
@@ -34,7 +33,7 @@ use Rattle.report.specs.Settings.{most_reported, settings, start_at, run_at, all
 use Rattle.report.specs.Figures.{moves_in, ended_with, most_moves, figures_of}
 use Rattle.report.specs.Reporting.{report_lines, Reports}
 use Rattle.report.proofs.ReportLaws.{reportable_can, reporting_by, report-stands}
-use Rattle.report_means.specs.AllSettings.{AcceptedReport, SettingRun, EachFigure, EachRun}
+use Rattle.report_means.specs.AllSettings.{EachFigure, EachRun}
 use Rattle.report_means.specs.AllSettings.{TwentyExactly, RefusedZeros, SettingsCounted, AddUp, MostSays}
 use Rattle.report_means.specs.AllSettings.{MostMoves, LargerLog}
 use Rattle.report_means.proofs.GrowLaws.{words_add, ended_grows, total_grows, most_grows}

@@ -45,7 +45,8 @@ word_at_lem conflict = refl
 word_at_lem buzz = refl
 
 same_word_lem : (e f : Ending) → same_word e f ≡ true → f ≡ e
-same_word_lem e f same = sym (word_at_lem f) ∙ ap word_at (sym (eqb-true (word_place e) (word_place f) same)) ∙ word_at_lem e
+same_word_lem e f same =
+    sym (word_at_lem f) ∙ ap word_at (sym (eqb-true (word_place e) (word_place f) same)) ∙ word_at_lem e
 
 -- ---- runs that go on
 
@@ -57,7 +58,8 @@ module _ (f g : ℕ → Run) (on : (k : ℕ) → GoesOn (f k) (g k)) where
       let again = (on k).stands (subst Final (sym here) stands) in
       eq-eqb (word_place e) (word_place (g k).word) (ap word_place (sym (ap (λ (x : Run). x.word) again ∙ here)))
 
-  pub ended_grows : (e : Ending) → Final e → (k n : ℕ) → ended_with e (table_from f k n) ≤ ended_with e (table_from g k n)
+  pub ended_grows : (e : Ending) → Final e → (k n : ℕ)
+      → ended_with e (table_from f k n) ≤ ended_with e (table_from g k n)
   unfolding table_from ended_with
   ended_grows e stands zero n = omega arith
   ended_grows e stands (suc k) n =

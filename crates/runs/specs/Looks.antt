@@ -4,7 +4,7 @@
 --     Look                what a look comes to: quiet, every relay rests; halts r, relay r is in conflict; makes m r,
 --                         relay r makes the move m
 --     draw_mark           128
---     byte_of r m          "Each log byte is the relay number, plus 128 for a draw"
+--     byte_of r m         "Each log byte is the relay number, plus 128 for a draw"
 --     decides m r next    relay r came to m; where it rests, the next relays decide
 --     look_from f s k r   the look at k relays from r up, in state s
 use Rattle.std.specs.Prelude.{ℕ, zero, suc, ◌+◌}

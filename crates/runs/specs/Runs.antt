@@ -21,8 +21,8 @@
 --     turn f k ss s go       one turn of the run that came through the states ss to s, whatever room there is: unless
 --                            it met s it looks at k relays from 0 up
 --     logged c x             a run that first logs the byte c and then goes on as x
---     run_from f k ss n s     the run of k relays that came through the states ss to s, with room for n moves more
---     run_of f k n s          the run of k relays from state s, with room for n moves
+--     run_from f k ss n s    the run of k relays that came through the states ss to s, with room for n moves more
+--     run_of f k n s         the run of k relays from state s, with room for n moves
 use Rattle.std.specs.Prelude.{ℕ, zero, suc, ◌-◌, Bool, cond, ◌&&◌, List, [], ◌∷◌, eqb, length}
 use Rattle.state.specs.declared.State.{State}
 use Rattle.moves.specs.Steps.{Move, made}

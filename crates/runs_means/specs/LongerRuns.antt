@@ -4,7 +4,7 @@
 -- same moves. Request A7: "for runs demand 3 now speaks of the log alone". Request A8: "Demand 3 lists buzz with idle
 -- and conflict as endings that stand."
 --     AcceptedRun b h log    the call is not refused
---     moves_of a l            the moves made: the log's bytes up to their number
+--     moves_of a l           the moves made: the log's bytes up to their number
 --     IsStart xs ys          ys starts with xs
 --     Stands a               a ended idle, in conflict or with buzz
 --     Extends a l c k        the run that answered c and left k starts with every move of the one that answered a and

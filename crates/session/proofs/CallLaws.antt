@@ -52,7 +52,8 @@ module _ (z : code-session.Session) (s out out' : List ℕ) (r : code-handed.Han
 
   module _ (room : longest_line ≤ length out) (y : Ahead) where
     -- the answer is what comes next
-    next_by : (c : Coming) → next_in z s ≡ (y, c) → told_handed r out' ≡ carrying (told_session z) (handed_by (y, c) out)
+    next_by : (c : Coming) → next_in z s ≡ (y, c)
+        → told_handed r out' ≡ carrying (told_session z) (handed_by (y, c) out)
     next_by c is =
         call_hands (
         sym (line_handed-room _ (told_ahead z.ahead) s out room)

@@ -289,7 +289,8 @@ module _ (b : Board) (a₀ : Ahead) (s out₀ : List ℕ) (a : Ahead) (out : Lis
       why : Why (length out₀ - used) (told_hand_out r.answer)
 
     ends_with : (y : Ahead) (o : Outcome HandOut) → f.rest ≡ (y, []) → Why (length out₀ - used) o
-        → told_handed_ahead r out' ≡ behind (take used out) (record { ahead = y; answer = o; out = drop used out }) → Ends
+        → told_handed_ahead r out' ≡ behind (take used out) (record { ahead = y; answer = o; out = drop used out })
+        → Ends
     ends_with y o none why told =
         record {
           none =

@@ -157,7 +157,8 @@ module _ (z : code-session.Session) (s out out' : List ℕ) (r : code-handed.Han
       fitting_next _ (told_ahead z.ahead) s (length out) (length out) room (omega arith) (w, line l) next in
       absurd (omega (arith, ap (λ (x : Ahead × List Line). length x.1) (sym fits ∙ goes)))
   over_by is (y, m ∷ ls) fits (w, line l) next =
-      absurd (line_not_nothing (sym (told_answer _ (filled_by_lem nothing (ap told_hand_out is) _ fits)) ∙ ap told_hand_out is))
+      absurd (line_not_nothing (sym (told_answer _ (filled_by_lem nothing (ap told_hand_out is) _ fits))
+      ∙ ap told_hand_out is))
 
   pub filled_over : r.answer ≡ said.Over → (c : Ahead × Coming) → next_in z s ≡ c → c.1 ≡ no_line
   filled_over is = over_by is (fits_in) refl
@@ -168,7 +169,8 @@ module _ (z : code-session.Session) (s out out' : List ℕ) (r : code-handed.Han
   unfolding filled_by
   lent_by is (y, []) fits = ap (λ (h : Handed). h.out) (filled_by_lem nothing (ap told_hand_out is) _ fits)
   lent_by is (y, m ∷ ls) fits =
-      absurd (line_not_nothing (sym (told_answer _ (filled_by_lem nothing (ap told_hand_out is) _ fits)) ∙ ap told_hand_out is))
+      absurd (line_not_nothing (sym (told_answer _ (filled_by_lem nothing (ap told_hand_out is) _ fits))
+      ∙ ap told_hand_out is))
 
   pub filled-lent : r.answer ≡ said.Over → out' ≡ out
   filled-lent is = lent_by is (fits_in) refl
@@ -180,7 +182,8 @@ module _ (z : code-session.Session) (s out out' : List ℕ) (r : code-handed.Han
   unfolding filled_by
   stays_by is x fits (w, line l) next = absurd (line_never l (sym (filled_over is (w, line l) next)))
   stays_by is (y, m ∷ ls) fits (w, no_line) next =
-      absurd (line_not_nothing (sym (told_answer _ (filled_by_lem nothing (ap told_hand_out is) _ fits)) ∙ ap told_hand_out is))
+      absurd (line_not_nothing (sym (told_answer _ (filled_by_lem nothing (ap told_hand_out is) _ fits))
+      ∙ ap told_hand_out is))
   stays_by is (y, []) fits (w, no_line) next =
       let room = filled-room nothing (ap told_hand_out is) in
       let goes =

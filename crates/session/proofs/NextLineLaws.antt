@@ -29,7 +29,8 @@ module _ (b : Board) (a : Ahead) (s out : List ℕ) where
   unfolding line_handed
   line_handed_short short = rw (line_short out short)
 
-  pub line_handed-room : longest_line ≤ length out → handed_by (next_of current_edition b a s) out ≡ line_handed b a s out
+  pub line_handed-room : longest_line ≤ length out
+      → handed_by (next_of current_edition b a s) out ≡ line_handed b a s out
   unfolding line_handed
   line_handed-room room = rw (line-room out room)
 
@@ -59,7 +60,8 @@ module _ (b : Board) (a : Ahead) (s out : List ℕ) where
         ∙ line_handed_by (line (told_line l)) (ap told_coming is)
 
 -- the session is the one given, with what is handed on ahead
-pub handed-carried : (z : Session) (x : HandedAhead) (out' : List ℕ) {o : told.HandedAhead} → told_handed_ahead x out' ≡ o
+pub handed-carried : (z : Session) (x : HandedAhead) (out' : List ℕ) {o : told.HandedAhead}
+    → told_handed_ahead x out' ≡ o
     → told_handed
     (record {
       session = record { board = z.board; ahead = x.ahead };

@@ -2,7 +2,7 @@
 -- number.
 --     to_come_at k n      how many at the stage k, where n bytes of the input are left
 --     to_come a s         how many with a ahead on the input s
---     left_of z s          how many of the code's session z
+--     left_of z s         how many of the code's session z
 --     Advances z s n r    where the answer r to a call on z hands out lines, they fit a buffer of n bytes, and less is
 --                         to come after them
 use Prim.Native.Nat.{ℕ, suc, ◌-◌, ◌<◌, ◌≤◌}

@@ -18,8 +18,8 @@
 --                                 that and is over
 --     next_event ed b a s         it tells of the event at its place of the input s, by the edition ed; at the input's
 --                                 end nothing comes
---     next_at ed k b a s           its next line at the stage k
---     next_of ed b a s             the next line of the session with the board b and a ahead on the input s, and what
+--     next_at ed k b a s          its next line at the stage k
+--     next_of ed b a s            the next line of the session with the board b and a ahead on the input s, and what
 --                                 is ahead after it
 --     told_stage, told_ahead      the code's stage and what is ahead in these words
 --     told_session                the code's session in these words

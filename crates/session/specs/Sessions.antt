@@ -8,7 +8,7 @@
 --                                  board, and the place of its first event, or the refusal
 --     event_lines o tell go        the lines from an event on: `tell` is the event's own, `go` the lines after it; a
 --                                  refused event ends the session
---     lines_from ed k b s t e at    the lines of the events from place `at` on, the first of them event e from the
+--     lines_from ed k b s t e at   the lines of the events from place `at` on, the first of them event e from the
 --                                  state and the kept sets t; of at most k events
 --     head_lines ed o s            the lines of the session s with the head o
 --     session_lines ed s           the lines of the session s: there are no more events than bytes

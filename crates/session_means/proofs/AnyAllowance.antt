@@ -24,7 +24,8 @@ use Rattle.file_means.proofs.BytesAfter.{bytes_after}
 use Rattle.lines.specs.Lines.{Line}
 use Rattle.events.specs.declared.Event.{Event}
 use Rattle.events.specs.Events.{Shown, event_of, event_at}
-use Rattle.session.specs.Sessions.{past_allowance, head_at, event_lines, lines_from, head_lines, session_lines, line_texts}
+use Rattle.session.specs.Sessions.{past_allowance, head_at, event_lines, lines_from, head_lines, session_lines}
+use Rattle.session.specs.Sessions.{line_texts}
 use Rattle.session.specs.Sessions.{printed, session_text}
 use Rattle.session_means.specs.SessionsKept.{Unclosed}
 use Rattle.session_means.specs.AnyAllowance.{session_of, SameLines, none, both, closed, AnyAllowance}

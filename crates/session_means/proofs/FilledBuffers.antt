@@ -38,7 +38,8 @@ FirstIn s z ls y = (still_in z s ≡ ls ++ still_in y s) × NumberedIn y s
 
 module _ (s : List ℕ) where
   first_line : (b : Board) (a y x : Ahead) (l : Line) (ls : List Line) → Numbered a s
-      → next_of current_edition b a s ≡ (y, line l) → (Numbered y s → FirstLines b s y ls x) → FirstLines b s a (l ∷ ls) x
+      → next_of current_edition b a s ≡ (y, line l) → (Numbered y s → FirstLines b s y ls x)
+      → FirstLines b s a (l ∷ ls) x
   first_line b a y x l ls numbered is rest =
       let so = rest (numbered_next current_edition b a s numbered y l is) in
       (still_next current_edition b a s numbered (y, line l) is ∙ ap {B = List Line} (λ ms. l ∷ ms) so.0, so.1)

@@ -1,8 +1,6 @@
 -- `lines::write_line` meets its contract: 16 without room for the longest line, else the line is put at the start.
-use mathlib.Core.Path.{sym}
 use native.Mathlib.Omega.{arith}
 use borrow.Author.Rules.{rules}
-use Rattle.lines.specs.Lines.{told_line}
 use Rattle.lines.proofs.LineLaws.{line_refused, line_put}
 use Rattle.lines.proofs.write_line.Goals as goal
 

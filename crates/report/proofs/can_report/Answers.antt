@@ -1,8 +1,6 @@
 -- `report::can_report` meets its contract: its lines are those of the definition, in that order.
 use borrow.Author.Rules.{rules}
-use mathlib.Core.Path.{refl}
 use Rattle.report.proofs.ReportLaws.{reportable_asked}
-use Rattle.std.proofs.Common.{arith}
 use Rattle.report.proofs.can_report.Goals as goal
 
 pub returns : goal.returns

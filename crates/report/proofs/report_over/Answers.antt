@@ -1,8 +1,6 @@
 -- `report::report_over` meets its contract: both ways of every button, from the start state, are all settings.
 use borrow.Author.Rules.{rules}
-use mathlib.Core.Path.{sym}
 use Rattle.report.proofs.ReportLaws.{reportable_can, log_cut, all_reported}
-use Rattle.std.proofs.Common.{arith}
 use Rattle.report.proofs.report_over.Goals as goal
 
 pub slice_bounds-report_from-end : goal.slice_bounds-report_from-end

@@ -1,10 +1,5 @@
 -- `lines::text::put_digits` meets its contract: the digits of a tenth of the value, then the last digit. The measure is
 -- the value.
-use native.Mathlib.Omega.{arith}
-use lib.ListN.{length-set}
-use Rattle.lines.proofs.PieceLaws.{digit_room, digit_put, tenth-room, last-room, last_put}
-use Prim.Native.Nat.{ℕ, ◌<◌}
-use Rattle.std.proofs.Common.{rules}
 use Rattle.lines.proofs.text.+put_digits.Given as goal
 
 abbrev pub decreases-put_digits : goal.decreases-put_digits

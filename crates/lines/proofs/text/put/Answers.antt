@@ -1,12 +1,7 @@
 -- `lines::text::put` meets its contract: after i turns of the loop the first i bytes are put. The measure is the bytes
 -- left.
-use mathlib.Core.Path.{◌≡◌, ap, ◌∙◌}
-use Prim.Native.Nat.{◌≤◌, ◌-◌}
-use native.Mathlib.Omega.{arith}
 use borrow.Author.Rules.{rules}
-use lib.ListN.{length, take}
-use lib.Seq.{sets, length-sets}
-use Rattle.lines.proofs.PieceLaws.{bytes_next, bytes_all}
+use Rattle.lines.proofs.PieceLaws.{bytes_next}
 use Rattle.lines.proofs.text.put.Goals as goal
 
 pub loop-i-preserved : goal.loop-i-preserved

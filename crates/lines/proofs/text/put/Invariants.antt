@@ -1,12 +1,9 @@
 -- `lines::text::put` meets its contract: after i turns of the loop the first i bytes are put. The measure is the bytes
 -- left.
-use mathlib.Core.Path.{◌≡◌, ap, ◌∙◌}
+use mathlib.Core.Path.{◌≡◌}
 use Prim.Native.Nat.{◌≤◌, ◌-◌}
-use native.Mathlib.Omega.{arith}
-use borrow.Author.Rules.{rules}
 use lib.ListN.{length, take}
-use lib.Seq.{sets, length-sets}
-use Rattle.lines.proofs.PieceLaws.{bytes_next, bytes_all}
+use lib.Seq.{sets}
 use Rattle.lines.proofs.text.put.Given as goal
 
 abbrev pub invariant-loop-i : goal.invariant-loop-i

@@ -1,7 +1,6 @@
 -- `lines::text::put_closing` meets its contract: the pieces of the closing line, each where the one before it ended.
 use borrow.Author.Rules.{rules}
 use Rattle.lines.proofs.LineLaws.{place-room, closing_put}
-use Rattle.std.proofs.Common.{arith}
 use Rattle.lines.proofs.text.put_closing.Goals as goal
 
 pub put_number-requires : goal.put_number-requires

@@ -1,7 +1,6 @@
 -- `lines::text::put_event` meets its contract: the pieces of an event's line, each where the one before it ended.
 use borrow.Author.Rules.{rules}
 use Rattle.lines.proofs.LineLaws.{word_room, field_room, drawn-room, event_text_refused, event_ran}
-use Rattle.std.proofs.Common.{arith}
 use Rattle.lines.proofs.text.put_event.Goals as goal
 
 pub put_word-next-requires : goal.put_word-next-requires

@@ -1,7 +1,5 @@
 -- `lines::text::put_number` meets its contract: the digits, of which there are at most 20, and then one byte.
-use native.Mathlib.Omega.{arith}
 use borrow.Author.Rules.{rules}
-use Rattle.lines.specs.Texts.{decimal}
 use Rattle.lines.proofs.PieceLaws.{digits-room, after-room, put_after}
 use Rattle.lines.proofs.text.put_number.Goals as goal
 

@@ -1,9 +1,7 @@
 -- `report::settings::report_from`, which calls itself for a button off and on, meets its contract. What falls is the
 -- number of buttons left.
-use Prim.Native.Nat.{ℕ, ◌<◌}
 use borrow.Author.Rules.{rules}
 use native.Mathlib.Omega.{arith}
-use mathlib.Core.Path.{◌∙◌}
 use Rattle.report.proofs.ReportLaws.{can_set_fewer, can_set_on}
 use Rattle.report.proofs.ReportLaws.{both_ways_one, both_ways-followed, both_ways-within}
 use Rattle.report.proofs.settings.+report_from.Goals as goal
@@ -19,7 +17,8 @@ followed-requires t c =
     record {
       some_within = both_ways-within _ _ _ _ ((can_set_fewer _ _ _ _ c.requires _ (omega arith))) _
           c.report_from-off.ensures;
-      others_within = both_ways-within _ _ _ _ ((can_set_on _ _ _ _ c.requires c.if-left-eq0.false _ _ _ c.wide.ensures.0
+      others_within =
+          both_ways-within _ _ _ _ ((can_set_on _ _ _ _ c.requires c.if-left-eq0.false _ _ _ c.wide.ensures.0
           c.push.ensures c.report_from-off.auto.log)) _
           c.report_from-on.ensures;
     }

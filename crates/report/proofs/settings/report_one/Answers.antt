@@ -1,9 +1,7 @@
 -- `report::settings::report_one` meets its contract: the run is not refused, and its figures are those of its word and
 -- its moves.
-use borrow.Author.Rules.{rules}
 use mathlib.Core.Path.{◌∙◌}
 use Rattle.report.proofs.ReportLaws.{one_run-told}
-use Rattle.std.proofs.Common.{arith}
 use Rattle.report.proofs.settings.report_one.Goals as goal
 
 pub returns : goal.returns

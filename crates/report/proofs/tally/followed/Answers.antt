@@ -1,7 +1,5 @@
 -- `report::tally::followed` meets its contract: no sum is too large, and the most moves are those of the others only
 -- where these have more.
-use borrow.Author.Rules.{rules}
-use native.Mathlib.Omega.{arith}
 use Rattle.report.proofs.FigureLaws.{followed_more, followed_rest}
 use Rattle.report.proofs.tally.followed.Goals as goal
 

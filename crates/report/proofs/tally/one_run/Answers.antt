@@ -1,7 +1,5 @@
 -- `report::tally::one_run` meets its contract: in each arm it is known how the run ended.
-use borrow.Author.Rules.{rules}
 use Rattle.report.specs.BothWays.{one_run}
-use Rattle.std.proofs.Common.{arith}
 use Rattle.report.proofs.tally.one_run.Goals as goal
 
 pub returns-in-Idle : goal.returns-in-Idle
