@@ -23,6 +23,7 @@ ELSEWHERE = {
     "SteelByChains": "a statement of before, in the notes on requests A4 to A7",
     "board.hex": "a file of the reader's own",
     "board_cases": "a program of before, in a comparison of docs/COST.md",
+    "crates/neighbours/proofs/conducts/Proof.antt": "a proof of before, in the note on request A3",
     "definitions": "a column of a table",
     "flock": "a command of the system",
     "h1-w2": "a sample of before, in the note on request A6",
@@ -39,15 +40,20 @@ ELSEWHERE = {
 NAME = r"[^\W\d](?:[\w-]*\w)?"
 QUOTED = r"`[^`\n]+`"
 
-# What code declares: a function, a constant, a variable, a field or parameter, a type's alias or a module.
-DECLARED = (r"\b(?:fn|const|static|mod|type|let|let mut) (\w+)", r"\b(\w+): ")
+# What code declares: a function, a constant, a variable, a field or parameter, a type's alias, a module or a clause.
+DECLARED = (r"\b(?:fn|const|static|mod|type|let|let mut) (\w+)", r"\b(\w+): ", r"\b(?:requires|ensures) (\w+) \{")
 ENDINGS = ("py", "md", "txt", "antt", "rt", "rs", "hex", "lines", "words", "page", "edit", "awk", "sh")
 
 
+# Pages that set names of before beside today's.
+RECORDS = ("docs/PORT.md",)
+
+
 def documents():
-    """The documents, as paths below the repository."""
+    """The documents whose names are looked at, as paths below the repository."""
     pages = glob.glob(repository.path("docs", "**", "*.md"), recursive=True)
-    return ["README.md", "samples/README.md", "second/README.md"] + sorted(os.path.relpath(page, repository.ROOT) for page in pages)
+    names = sorted(os.path.relpath(page, repository.ROOT) for page in pages)
+    return ["README.md", "samples/README.md", "second/README.md"] + [name for name in names if name not in RECORDS]
 
 
 def code():
