@@ -58,6 +58,14 @@ VERDICTS = [  # what `rt` says of an edit, and whether it is refused for a fact
     ("NOT REFUSED: the crate is still proved with this edit", False),
     ("NOT TRIED: its check was killed, most likely for memory, so nothing is known of it: run this again", False),
 ]
+RENAMED = [  # a need, another one, the words that an edit took and gave, and whether it renamed the second to the first
+    ("returns-then-n-ge-ROOM", "returns-then-n-gt-ROOM", "if n > ROOM {", "if n >= ROOM {", True),
+    ("returns-then-n-ge-LEAST", "returns-then-n-ge-MOST", "if n >= MOST {", "if n >= LEAST {", True),
+    ("returns-then-n-ge-LEAST", "returns-then-n-ge-MOST", "let m = 1;", "let m = 2;", False),
+    ("returns-then-not-fits", "returns-then-fits", "if fits {", "if !fits {", True),
+    ("returns", "returns-then-n-ge-ROOM", "if n > ROOM {", "if n >= ROOM {", False),
+    ("returns-else-n-ge-ROOM", "returns-then-n-ge-ROOM", "n", "m", False),
+]
 FINE = "cat >/dev/null; echo one; echo two"
 PROGRAMS = [  # what a program does, and whether its answers are the two that are wanted
     ("prints the two lines", FINE, True),
@@ -127,6 +135,9 @@ def reasons():
     crate, label = next((crate, label) for crate in repository.crates() for label in repository.edits(crate))
     for verdict, fine in VERDICTS:
         yield f"of an edit {verdict!r}", must_fail_reasons.is_for_fact(verdict) == fine
+    for need, other, old, new, renamed in RENAMED:
+        found = must_fail_reasons.is_renamed(need, other, *(set(words.split()) for words in (old, new)))
+        yield f"{need} is {other} renamed by {new!r} for {old!r}: {found}", found == renamed
     line = f"rt: must-fail {crate}/{label}.edit: {VERDICTS[0][0]}\n"
     for name, text, fine in (("nothing", "", 0), ("one thing", line, 1), ("two things", line * 2, 0), ("half of it", line[:-90], 0)):
         checks = list(must_fail_reasons.checks("rt: low proved\n" + text))
