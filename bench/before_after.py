@@ -1,9 +1,10 @@
 """Prints what two sessions cost in two builds of the session program, taken in turn in one run: an older one, kept from
-another checkout, and that of this checkout. The sessions are the longest one on the board of 20 relays, and one on a board of
-32 relays that move one after the other, of which it tells the moves a second. First their lines are compared. Run from
-anywhere: python3 bench/before_after.py PATH, where PATH is the older target/bin/herdspiral. On x86-64 it prints the least of
-several times for the whole session. Elsewhere the programs run under the kit's emulator, where a time says nothing: there it
-counts the x86-64 instructions that a session's first events take, which is no time, but does not change from run to run."""
+another checkout, and that of this checkout. The sessions are the longest one on the board of 20 relays, and one on a
+board of 32 relays that move one after the other, of which it tells the moves a second. First their lines are compared.
+Run from anywhere: python3 bench/before_after.py PATH, where PATH is the older crates/herdspiral/out/herdspiral. On
+x86-64 it prints the least of several times for the whole session. Elsewhere the programs run under the kit's emulator,
+where a time says nothing: there it counts the x86-64 instructions that a session's first events take, which is no time,
+but does not change from run to run."""
 import os
 import random
 import subprocess

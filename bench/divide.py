@@ -1,19 +1,22 @@
-"""Prints how long the judge without chains (`divide::judge`) takes on a ladder of 64 terminals beside the same method in plain
-Rust (bench/divide.rs), and on ladders of 16 to 40 beside the chain judge, all in one run, and checks first that they judge the
-same. The winding hangs on the ladder at a terminal that divides it, or is live in line with a second one, where all 64
-floods are made. Then how many moves a second the session program makes with 32 relays that move one after the other.
+"""Prints how long the judge without chains (`divide::judge`) takes on a ladder of 64 terminals beside the same method
+in plain Rust (bench/divide.rs), and on ladders of 16 to 40 beside the chain judge, all in one run, and checks first
+that they judge the same. The winding hangs on the ladder at a terminal that divides it, or is live in line with a
+second one, where all 64 floods are made. Then how many moves a second the session program makes with 32 relays that
+move one after the other.
 
 A time is that of a text of cases less that of a control, the same text with another number at the end of each case.
-*Judging* is less the same cases asking for a second winding, which the relay lacks: all refusals are asked for, the parts
-scanned, and 11, the last of them, given, so that what is left is the floods. *The call* is less the same cases with a number
-too few, of which the board is read and its sets worked out, and no more: so its refusals are counted, and the sets, which it
-works out again for 18. The plain program has no refusals; its time is less that of judging once. The chain judge's control is W 0.
+*Judging* is less the same cases asking for a second winding, which the relay lacks: all refusals are asked for, the
+parts scanned, and 11, the last of them, given, so that what is left is the floods. *The call* is less the same cases
+with a number too few, of which the board is read and its sets worked out, and no more: so its refusals are counted, and
+the sets, which it works out again for 18. The plain program has no refusals; its time is less that of judging once. The
+chain judge's control is W 0.
 
-Each time is the least of many, those that are compared taken in turn; in brackets the least and the most ratio of single
-rounds. Run from anywhere: python3 bench/divide.py, or with the path of an older target/bin/herdspiral, which is
-compared then on the 32 relays as well (bench/before_after.py). Needs target/bin/current_cases and target/bin/herdspiral,
-which `rt check` builds, and rustc; takes a minute, and wants the machine to itself. The program is for x86-64: on
-another machine it runs under the kit's emulator, and only the judgements are compared."""
+Each time is the least of many, those that are compared taken in turn; in brackets the least and the most ratio of
+single rounds. Run from anywhere: python3 bench/divide.py, or with the path of an older
+crates/herdspiral/out/herdspiral, which is compared then on the 32 relays as well (bench/before_after.py). Needs the
+programs current_cases and herdspiral, which `rt ci` builds, or `rt run` in their folders, and rustc; takes a minute,
+and wants the machine to itself. The program is for x86-64: on another machine it runs under the kit's emulator, and
+only the judgements are compared."""
 import os
 import platform
 import subprocess

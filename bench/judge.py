@@ -1,9 +1,9 @@
-"""Prints how many chains a second `judge` goes through on ladders of 8 to 64 terminals, beside the same search in plain Rust
-(bench/ladder.rs), both in one run, and checks that both count the same effort. Each time is the least of several, less that
-of a run with no search: of `judge` the same judgements with W 0, which read the boards and ask for the refusals as well, and
-walk no chain. Run from anywhere: python3 bench/judge.py. Needs target/bin/current_cases, which `rt check current_cases`
-builds, and rustc; takes about a minute. The program is for x86-64: on another machine it runs under the kit's emulator, and
-only the efforts are compared."""
+"""Prints how many chains a second `judge` goes through on ladders of 8 to 64 terminals, beside the same search in plain
+Rust (bench/ladder.rs), both in one run, and checks that both count the same effort. Each time is the least of several,
+less that of a run with no search: of `judge` the same judgements with W 0, which read the boards and ask for the
+refusals as well, and walk no chain. Run from anywhere: python3 bench/judge.py. Needs the program current_cases, which
+`rt ci` builds, or `rt run` in its folder, and rustc; takes about a minute. The program is for x86-64: on another
+machine it runs under the kit's emulator, and only the efforts are compared."""
 import os
 import platform
 import subprocess

@@ -1,10 +1,11 @@
 """Prints what looking back costs a run that is long and meets no state again (request A8): the counter of 14 stages in
-tests/lib/counter_boards.py (T 59, R 29, C 114) fills a session's log and the longest one, and after each of its moves the run
-looks back over those before. Beside it stands what its looks at the relays take alone, by an older build that makes the same
-moves and does not look back. Both by `run_cases`, taken in turn, each time the least of several, less that of the same case with
-a log of 0. First their lines are compared, but for the two numbers of a buzz, which the older build does not print. Run from
-anywhere: python3 bench/looking_back.py PATH, where PATH is the older target/bin/run_cases, of the commit before A8. The programs
-are for x86-64: on another machine they run under the kit's emulator, and only the lines are compared."""
+tests/lib/counter_boards.py (T 59, R 29, C 114) fills a session's log and the longest one, and after each of its moves
+the run looks back over those before. Beside it stands what its looks at the relays take alone, by an older build that
+makes the same moves and does not look back. Both by `run_cases`, taken in turn, each time the least of several, less
+that of the same case with a log of 0. First their lines are compared, but for the two numbers of a buzz, which the
+older build does not print. Run from anywhere: python3 bench/looking_back.py PATH, where PATH is the older program
+run_cases, of the commit before A8. The programs are for x86-64: on another machine they run under the kit's emulator,
+and only the lines are compared."""
 import os
 import re
 import sys
@@ -54,7 +55,7 @@ def times(timed, before, after, moves):
 
 def main():
     if len(sys.argv) != 2:
-        print("usage: python3 bench/looking_back.py PATH, the older target/bin/run_cases")
+        print("usage: python3 bench/looking_back.py PATH, the older program run_cases")
         return 2
     with tempfile.TemporaryDirectory() as folder:
         timed = sessions.Sessions(folder)

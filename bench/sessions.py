@@ -1,11 +1,12 @@
-"""Prints what the session program `herdspiral` costs to run, the second program in plain Rust (second/) beside it in the same
-run: sessions a second, the longest sessions, and the memory and the stack (bench/session_stack.py). Each time is the least of
-several, with the input in a file and the lines thrown away; those that are compared are taken in turn. Every measured session's
-lines are checked first against the second program's, and those with 2 MiB of stack against these. No session walks chains: how
-judging by chains grows is in bench/judge.py, and judging without them in bench/divide.py. Run from anywhere: python3
-bench/sessions.py. Needs cargo, and target/bin/herdspiral and target/bin/session_cases, which `rt check` builds; takes some four
-minutes, and wants the machine to itself. The program is for x86-64: on another machine it runs under the kit's emulator, and only
-the lines are compared."""
+"""Prints what the session program `herdspiral` costs to run, the second program in plain Rust (second/) beside it in
+the same run: sessions a second, the longest sessions, and the memory and the stack (bench/session_stack.py). Each time
+is the least of several, with the input in a file and the lines thrown away; those that are compared are taken in turn.
+Every measured session's lines are checked first against the second program's, and those with 2 MiB of stack against
+these. No session walks chains: how judging by chains grows is in bench/judge.py, and judging without them in
+bench/divide.py. Run from anywhere: python3 bench/sessions.py. Needs cargo, and the programs herdspiral and
+session_cases, which `rt ci` builds, or `rt run` in their folders; takes some four minutes, and wants the machine to
+itself. The program is for x86-64: on another machine it runs under the kit's emulator, and only the lines are
+compared."""
 import os
 import platform
 import random

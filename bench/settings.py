@@ -1,9 +1,9 @@
-"""Prints what a report on all button settings costs, the second program in plain Rust (second/) beside it in the same run, and the
-stack of the page (bench/session_stack.py). Each time is the least of several, from the start of a process to its end, and both
-programs are taken in turn; each report is checked first against the second program's. Run from anywhere: python3
-bench/settings.py. Needs cargo, and target/bin/herdspiral and target/bin/run_cases, which `rt check` builds; takes some two
-minutes, and wants the machine to itself. The program is for x86-64: on another machine it runs under the kit's emulator, and only
-the reports are compared."""
+"""Prints what a report on all button settings costs, the second program in plain Rust (second/) beside it in the same
+run, and the stack of the page (bench/session_stack.py). Each time is the least of several, from the start of a process
+to its end, and both programs are taken in turn; each report is checked first against the second program's. Run from
+anywhere: python3 bench/settings.py. Needs cargo, and the programs herdspiral and run_cases, which `rt ci` builds, or
+`rt run` in their folders; takes some two minutes, and wants the machine to itself. The program is for x86-64: on
+another machine it runs under the kit's emulator, and only the reports are compared."""
 import os
 import platform
 import sys

@@ -2,8 +2,8 @@
 generated cases: good files, damaged files, files with a part twice, cut files, random bytes, boards handed in with and without
 a fault. Those are moved and run as well, and their buttons pushed and released, by `run_cases`, with the board's own kept sets
 and with sets of no board. Seeded, so each run tries the same cases;
-`python3 tests/board_files.py SEED CASES` tries others, or more (it is 1 and 10,500 else). Needs target/bin/file_cases and
-target/bin/run_cases, which `rt check file_cases run_cases` builds."""
+`python3 tests/board_files.py SEED CASES` tries others, or more (it is 1 and 10,500 else). Needs the programs
+file_cases and run_cases, which `rt ci` builds, or `rt run` in their folders."""
 import itertools
 import os
 import random

@@ -8,8 +8,8 @@ logs of 0, 1 and around the moves; relays that count (tests/lib/counter_boards.p
 handed in that break a rule; boards worked out by hand, some with more chains than any allowance (tests/lib/feed_boards.py). The
 kept sets are the board's own, and must be so afterwards. No answer is compared with a model in Python, which only tells which
 damaged files are read at all; what is around an effort is asked of the second program. Seeded, so each run tries the same cases;
-`python3 tests/calls.py SEED BOARDS` tries others, or more (it is 1 and 540 else). Needs cargo, and target/bin/current_cases and
-target/bin/run_cases, which `rt check current_cases run_cases` builds."""
+`python3 tests/calls.py SEED BOARDS` tries others, or more (it is 1 and 540 else). Needs cargo, and the programs
+current_cases and run_cases, which `rt ci` builds, or `rt run` in their folders."""
 import collections
 import concurrent.futures
 import os

@@ -7,7 +7,7 @@ numbers for no. On a share of the boards every terminal is checked. On every boa
 enough, is compared with the new one: the one says live exactly if the other does, and dead exactly if that says shunted or dead.
 The boards of tests/lib/feed_boards.py, worked out by hand, some with more chains than any allowance, are answered at once. Seeded,
 so each run tries the same cases; `python3 tests/dividing.py SEED BOARDS` tries others, or more (it is 1 and 1,500 else). Needs
-target/bin/current_cases, which `rt check current_cases` builds."""
+the program current_cases, which `rt ci` builds, or `rt run` in its folder."""
 import collections
 import itertools
 import os

@@ -3,7 +3,7 @@ random boards of 2 to 10 terminals, rings, ladders, paths through all 64 termina
 that are live, dead and shunted, each with allowances around the effort, states within and beyond the board, relays that are
 there and that are not; on the boards with shunts in tests/lib/shunt_boards.py; and on searches that nest deeply, these two
 with 2 MiB of stack. Seeded, so each run tries the same cases; `python3 tests/judging.py SEED BOARDS` tries others, or more
-(it is 1 and 650 else). Needs target/bin/current_cases, which `rt check current_cases` builds."""
+(it is 1 and 650 else). Needs the program current_cases, which `rt ci` builds, or `rt run` in its folder."""
 import collections
 import os
 import random

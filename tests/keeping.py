@@ -7,8 +7,8 @@ the state; others are taken, and those handed back are the board's own in the st
 tests/running.py, half of them with terminals more that no part touches, in states within and beyond them, with relays, buttons
 and logs that are refused and not. The calls of `run_cases` are tried once more with a number of terminals that breaks a rule;
 judgements are not, since `current_cases` reads its boards from files. Seeded, so each run tries the same cases; `python3
-tests/keeping.py SEED BOARDS` tries others, or more (it is 1 and 150 else). Needs target/bin/current_cases and
-target/bin/run_cases, which `rt check current_cases run_cases` builds."""
+tests/keeping.py SEED BOARDS` tries others, or more (it is 1 and 150 else). Needs the programs current_cases and
+run_cases, which `rt ci` builds, or `rt run` in their folders."""
 import collections
 import functools
 import os

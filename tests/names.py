@@ -12,12 +12,16 @@ DEFINITION = re.compile(r"^(?:(?:abbrev|unfoldable|pub) )+(?:(?:record|data) )?(
 LAW = re.compile(r"^\s*pub ([a-z][^\s:]*) :", re.M)
 
 
+# What is written of a function's proof, in a folder of its name; a law's file stands right in proofs/.
+OWN = re.compile(r"crates/\w+/proofs/.+/(?:Proof|Invariants|Answers)\.antt")
+
+
 def places(part, names_of):
     """Where each name of that part of the crates stands; the proof of a function has no name that another file can cite."""
     found = {}
     for crate in repository.crates():
         for file in repository.files(crate, part):
-            if not file.endswith("/Proof.antt"):
+            if not OWN.fullmatch(file):
                 for name in names_of(repository.text(file)):
                     found.setdefault(name, []).append(file)
     return found

@@ -12,7 +12,8 @@ worked out by hand. They are walked from the start, from where a run ends once o
 It prints how often the supposition holds and fails, and how often it would be wrong to ask it of the first state alone, to suppose
 no order that ends idle, to leave out the clause on conflict for runs or ask it of the first state alone, or to give runs room for
 one move fewer; each of these must occur often. Seeded, so each run tries the same cases; `python3 tests/orders.py SEED BOARDS`
-tries others, or more (it is 1 and 250 else). Needs target/bin/run_cases, which `rt check run_cases` builds."""
+tries others, or more (it is 1 and 250 else). Needs the program run_cases, which `rt ci` builds, or `rt run` in its
+folder."""
 import collections
 import itertools
 import os

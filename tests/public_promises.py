@@ -22,14 +22,14 @@ for line in page.split("\n"):
 # The list is the last of its file. A line of it may go on below, further in.
 statements = repository.text("crates", "demands", "specs", "OneAnswer.antt").partition("pub record OneAnswer ")[2]
 listed = dict(re.findall(r"^  pub ([\w-]+) : (.*(?:\n    .*)*)$", statements, re.M))
-answers = repository.text("crates", "demands", "proofs", "OneAnswer.antt").partition("pub one-answer ")[2]
+answers = repository.text("crates", "demands", "proofs", "OneAnswer.antt").partition("pub one_answer ")[2]
 proved = re.findall(r"^  ([\w-]+) = ", answers, re.M)
 
 
 def line_of(name):
     """A function's line in the list: the crate's name and its own."""
     words = name.split("::")
-    return f"{words[0]}-{words[-1]}".replace("_", "-")
+    return f"{words[0]}_{words[-1]}"
 
 
 def parameters(contract):
@@ -42,9 +42,9 @@ def parameters(contract):
 def promise_of(contract):
     """The name of the relation that a contract promises, if it is of just the call's arguments, its answer and what it lends."""
     lent = [name for name, kind in parameters(contract) if kind.startswith("&mut ")]
-    given = [f"(now ({name} .entry))" if kind.startswith("&") else name for name, kind in parameters(contract)]
-    rest = " ".join(given + ["r"] + [f"(now ({name} .exit))" for name in lent])
-    made = re.search(r"\n\s*ensures \{ λ r\. ⌜ (\w+) (.*) ⌝ \}\s*\{$", contract, re.S)
+    held = [(name, ".old" if name in lent else ".now" if kind.startswith("&") else "") for name, kind in parameters(contract)]
+    rest = " ".join([name + when for name, when in held] + ["result"] + [f"{name}.new" for name in lent])
+    made = re.search(r"\n\s*ensures \{ (\w+) (.*) \}\s*\{$", contract, re.S)
     return made.group(1) if made and " ".join(made.group(2).split()) == rest else None
 
 

@@ -9,7 +9,7 @@ too (tests/lib/report_pages.py).
 
 It prints how often each sort of report occurs, and how often models that are wrong by one slip are refuted; each must be often.
 Seeded, so each run tries the same cases; `python3 tests/reports.py SEED BOARDS` tries others, or more (it is 1 and 260 else).
-Needs cargo, and target/bin/run_cases and target/bin/herdspiral, which `rt check run_cases herdspiral` builds."""
+Needs cargo, and the programs run_cases and herdspiral, which `rt ci` builds, or `rt run` in their folders."""
 import collections
 import itertools
 import os

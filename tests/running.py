@@ -1,14 +1,14 @@
 """Compares the proved program `run_cases` with the model of moving and running in tests/lib/run_model.py on generated
 pushes, releases, single moves and runs, with the kept sets that each hands back: relays that feed each other by their
-contacts, in sequence and in rings, rings that go round once other relays have drawn, relays that hold themselves, steel relays
-fed by buttons and contacts, relays that are shunted, relays that count (tests/lib/counter_boards.py), and the boards of
-tests/judging.py, with marks and without; states within and beyond the board, relays that are there and that are not, logs around
-the number of moves; the longest log, filled and not; the boards of tests/lib/shunt_boards.py; and boards worked out by hand, some
-with more chains than any allowance (tests/lib/feed_boards.py). Of the program's own answers it compares any two runs from one
-board and state: the one with the longer log starts with every move of the other, and is the same if that one ended idle, in
-conflict or with buzz; and no run whose log has room for as many moves as the board has states is spent. Seeded, so each run tries
-the same cases; `python3 tests/running.py SEED BOARDS` tries others, or more (it is 1 and 130 else). Needs target/bin/run_cases,
-which `rt check run_cases` builds."""
+contacts, in sequence and in rings, rings that go round once other relays have drawn, relays that hold themselves, steel
+relays fed by buttons and contacts, relays that are shunted, relays that count (tests/lib/counter_boards.py), and the
+boards of tests/judging.py, with marks and without; states within and beyond the board, relays that are there and that
+are not, logs around the number of moves; the longest log, filled and not; the boards of tests/lib/shunt_boards.py; and
+boards worked out by hand, some with more chains than any allowance (tests/lib/feed_boards.py). Of the program's own
+answers it compares any two runs from one board and state: the one with the longer log starts with every move of the
+other, and is the same if that one ended idle, in conflict or with buzz; and no run whose log has room for as many moves
+as the board has states is spent. Seeded, so each run tries the same cases; `python3 tests/running.py SEED BOARDS` tries
+others, or more (it is 1 and 130 else). Needs the program run_cases, which `rt ci` builds, or `rt run` in its folder."""
 import itertools
 import os
 import random

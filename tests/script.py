@@ -28,11 +28,13 @@ EVERY_BYTE = bytes(range(256))
 NO_DIGIT, NO_SECOND = "is not a hex digit", "has no second hex digit right after it"
 MARK = b"\xef\xbb\xbf"  # a byte order mark
 MORE = "./herdspiral --help says more"
-NOT_BUILT = "the program could not be proved and built: rt check herdspiral says why, above"
+NOT_BUILT = "the program could not be proved and built: rt run in crates/herdspiral says why, above"
 NO_KIT = "rt is not found: this needs the Rattle kit, with rt on the PATH or RATTLE_HOME set to the kit's folder"
 NO_FLOCK = "flock is not found, and nothing keeps two starts apart: begin no other until this one has built"
 WAITING = "the program is being built already, or the gate is running: waiting for it"
-RT_SAID = b"rt: said on standard output\nrt: said on standard error\nrt: one proved (unchanged since it was last proved)\n"
+RT_SAID = b"rt: said on standard output\nrt: said on standard error\n"
+RT_SAID += b"rt: chose --jobs 2 for one\nlogic=proved functions=1\nrt: chose --jobs 2 for herdspiral\n"
+RUN = "run in herdspiral"  # the call of rt
 UNWRITTEN = said("standard output cannot be written")
 UNREAD = said("standard input cannot be read")
 NOBODY = 65_534
@@ -197,6 +199,20 @@ def page_lengths(own):
     return checks + [same("what a session is started with", told, (well(b"\x03\xff"), well(b"session"), ["started", "started"]))]
 
 
+def unwritten_lines(own, name, out, *words):
+    """The checks of a program that prints this and then cannot write: into a file, and into a pipe with the signal for
+    a pipe that is left ignored, it is said; into another pipe nothing is said, since only a reader that left can be
+    why."""
+    with tempfile.TemporaryFile() as file:
+        told = own.start(*words, streams={"stdout": file})
+        file.seek(0)
+        yield same(f"{name}, a file", told._replace(out=file.read()), Told(out, UNWRITTEN, 4))
+    ignoring = ["sh", "-c", "trap '' PIPE; exec \"$@\"", "sh", *own.command(*words)]
+    told = program.run(ignoring, cwd=own.folder, env=own.environment())
+    yield same(f"{name}, a pipe, the signal ignored", told._replace(errors=timeless(told.errors)), Told(out, UNWRITTEN, 4))
+    yield same(f"{name}, a pipe", own.start(*words), Told(out, b"", 4))
+
+
 def refused_pages(own):
     """What the program says of a page that is refused comes out in words, typed and as bytes, with status 3."""
     checks, typed, raw = [], os.path.join(own.folder, "typed.hex"), os.path.join(own.folder, "bytes")
@@ -219,8 +235,7 @@ def refused_pages(own):
     own.program("#!/bin/sh\ncat >/dev/null\necho settings: 1; echo 'herdspiral: standard output cannot be written' >&2\n")
     own.start()
     for file in (typed, raw):
-        told = own.start("--settings", file)
-        checks.append(same(f"a page that cannot be written, {os.path.basename(file)}", told, Told(b"settings: 1\n", UNWRITTEN, 4)))
+        checks += unwritten_lines(own, f"a page that cannot be written, {os.path.basename(file)}", b"settings: 1\n", "--settings", file)
     return checks
 
 
@@ -248,7 +263,7 @@ def refusals(own):
     own.program("#!/bin/sh\ncat >/dev/null\necho line; echo 'herdspiral: standard output cannot be written' >&2\n")
     own.start()
     for name, words in (("typed", ["typed.hex"]), ("on standard input", [])):
-        checks.append(same(f"lines that cannot be written, {name}", own.start(*words), Told(b"line\n", UNWRITTEN, 4)))
+        checks += unwritten_lines(own, f"lines that cannot be written, {name}", b"line\n", *words)
     return checks
 
 
@@ -325,7 +340,7 @@ def ways_to_start(own):
     os.close(reading)
     checks.append(same("--help whose reader left", own.start("--help", streams={"stdout": writing}), Told(b"", b"", 4)))
     os.close(writing)
-    checks.append(same("all of these are built once", own.noted("calls"), ["check herdspiral"]))
+    checks.append(same("all of these are built once", own.noted("calls"), [RUN]))
     own.program(stand_in.ECHO)
     told = program.run(["sh", "-c", "sh -c 'rt version >/dev/null 2>&1 && ../herdspiral /dev/null; true' /x/rt "], cwd=os.path.join(own.root, "crates"), env=own.environment())
     return checks + [same("started by one that names rt, which is not waited for", timeless(told.errors), built(b"").errors)]
@@ -336,7 +351,7 @@ def starts(own, name, *calls):
     for number, times in enumerate(calls, 1):
         before, told = len(own.noted("calls")), own.session(b"\0session\xff")
         yield same(f"{name}, start {number}: what is printed, and said of building", told, (built if times else well)(b"\0session\xff"))
-        yield same(f"{name}, start {number}: calls of rt", own.noted("calls")[before:], ["check herdspiral"] * times)
+        yield same(f"{name}, start {number}: calls of rt", own.noted("calls")[before:], [RUN] * times)
 
 
 def building(own):
@@ -354,15 +369,21 @@ def building(own):
         ("another kit", lambda: stand_in.put(os.path.join(own.kit, "KIT-ID"), "another kit\n")),
         ("the program removed", lambda: os.remove(file("built", "herdspiral"))),
         ("the stamp removed", lambda: os.remove(file("built", "stamp"))),
-        ("both programs removed", lambda: [os.remove(file(folder, "herdspiral")) for folder in ("built", os.path.join("target", "bin"))]),
+        ("both programs removed", lambda: [os.remove(file(*folder, "herdspiral")) for folder in (["built"], ["crates", "herdspiral", "out"])]),
         ("built/ removed", lambda: shutil.rmtree(file("built"))),
+        ("a folder of a crate removed", lambda: shutil.rmtree(file("crates", "one", "specs"))),
+        ("a folder called out in a crate's src/", lambda: stand_in.put(file("crates", "one", "src", "out", "a.rt"), "a\n")),
     ):
         own.age()
         checks += starts(own, f"before {name}", 0)
         change()
         checks += starts(own, name, 1, 0)
-    shutil.rmtree(file("target"))
-    checks += starts(own, "target/ removed", 0)
+    for crate in ("one", "herdspiral"):
+        shutil.rmtree(file("crates", crate, "out"))
+    checks += starts(own, "the folders out/ removed", 0)
+    for crate in ("one", "herdspiral"):
+        stand_in.put(file("crates", crate, "out", "rlib", "stamp"), "new\n")
+    checks += starts(own, "the folders out/ filled by another rt", 0)
     return checks + [same("in built/ there are the program and the stamp", sorted(os.listdir(file("built"))), ["herdspiral", "stamp"])]
 
 
@@ -399,9 +420,12 @@ def not_built(own):
     checks.append(same("a check that is killed", own.session(b"session"), told))
     own.forget("killed")
     own.note("remove")
-    left = f"rt check herdspiral left no {own.root}/target/bin/herdspiral"
+    left = f"rt run in crates/herdspiral left no {own.root}/crates/herdspiral/out/herdspiral"
     checks.append(same("a check that leaves no program", own.session(b"session"), Told(b"", said(BUILDING, *PROGRESS, left), 1)))
     own.forget("remove")
+    own.note("fail")
+    checks.append(same("a program that is built, and that rt could not run", own.session(b"session"), built(b"session")))
+    own.forget("fail")
     return checks
 
 
@@ -473,7 +497,7 @@ def two_at_once(own):
     stand_in.put(os.path.join(own.root, "a.hex"), "03 ff")
     stand_in.put(os.path.join(own.root, ".ci", "run"), repository.text(".ci", "run"))
     gate, rt = ["bash", ".ci/run"], [os.path.join(own.kit, "bin", "rt"), "ci"]
-    checking, testing = ["check herdspiral", "check herdspiral ended"], ["ci", "ci ended"]
+    checking, testing = [RUN, "run ended"], ["ci in the root", "ci ended"]
     checks = []
 
     first, second, calls = meeting(own, None, None, said(WAITING))
@@ -485,6 +509,13 @@ def two_at_once(own):
 
     _, second, calls = meeting(own, gate, None, said(WAITING))
     checks.append(same("a start during the gate", (second, calls), (after(said(WAITING)), testing + checking)))
+
+    own.program(stand_in.ECHO)
+    own.note("wait")
+    told = own.start("a.hex", folder=own.root)
+    waiting = Told(b"\x03\xff", said(BUILDING) + at_work + said(*PROGRESS, BUILT), 0)
+    checks.append(same("an rt that waits for another, and says so of two crates", told, waiting))
+    own.forget("wait", "calls")
 
     own.note("hold")
     bare = Begun(own, rt)
@@ -506,7 +537,7 @@ def killed(own):
     until(lambda: said(WAITING) in second.said())
     own.note("go")
     told = second.end(), own.noted("calls")
-    return [same("a start after one that was killed", told, (after(said(WAITING)), ["check herdspiral", "check herdspiral ended"] * 2))]
+    return [same("a start after one that was killed", told, (after(said(WAITING)), [RUN, "run ended"] * 2))]
 
 
 def gate_waits(own):
@@ -520,7 +551,7 @@ def gate_waits(own):
     until(lambda: os.fstat(gate.out.fileno()).st_size)
     own.note("go")
     checks = [same("the build", first.end(), built(b"\x03\xff")), same("the gate", gate.end().out.split(b"\n")[0], b"waiting: ./herdspiral is building")]
-    return checks + [same("one after the other", own.noted("calls"), ["check herdspiral", "check herdspiral ended", "ci", "ci ended"])]
+    return checks + [same("one after the other", own.noted("calls"), [RUN, "run ended", "ci in the root", "ci ended"])]
 
 
 def on_a_terminal(own):

@@ -5,8 +5,8 @@ word and every refusal that a session can come to must occur. Both are also held
 at each place (tests/lib/number_sessions.py). Some sessions must print the same at several W, places apart. Also builds the
 second program and runs its unit tests, and tries how `herdspiral` reads and writes (tests/lib/session_streams.py). Seeded, so
 each run tries the same sessions; `python3 tests/sessions.py SEED SESSIONS` tries others, or more (it is 1 and 5,000 else; those
-that are much work are always as many). Needs cargo, and target/bin/herdspiral and target/bin/session_cases, which
-`rt check herdspiral session_cases` builds."""
+that are much work are always as many). Needs cargo, and the programs herdspiral and session_cases, which
+`rt ci` builds, or `rt run` in their folders."""
 import collections
 import concurrent.futures
 import os
@@ -196,7 +196,7 @@ def compare(seed, count):
     checks = [(f"the second program builds: {built.stderr}", built.returncode == 0)]
     checks.append((f"its unit tests pass: {tested.stdout}{tested.stderr}", tested.returncode == 0))
     for name in ("herdspiral", "session_cases"):
-        checks.append((f"target/bin/{name} is there", os.path.exists(program.path(name))))
+        checks.append((f"crates/{name}/out/{name} is there", os.path.exists(program.path(name))))
     if not all(holds for _, holds in checks):
         return checks
     sessions = [(f"seed {seed}, {sort}, {number}", sort, session) for sort, number, session in session_sorts.sessions(seed, count)]

@@ -1,10 +1,11 @@
-"""What the script `herdspiral` says of a refusal (script/words.awk). Typed sessions with each slip, whole, with the real program
-and each awk of stand_in.AWKS that this machine has: the exact words. Pages of all button settings that are refused by 13 and by
-20, typed and as bytes; those whose board is refused are refused in the words of the session. The hint that typed text was taken as
-bytes. Refusals that are not the session's. Then refused sessions of every sort of tests/lib/session_sorts.py, and those of
-tests/lib/number_sessions.py that are not cut: number, place, the bytes quoted and the numbers that the words name are held to
-the session's own bytes. Seeded; `python3 tests/words.py SEED SESSIONS` tries others, or more (it is 1 and 1,500 else). Needs
-the kit, and target/bin/session_cases, which `rt check session_cases` builds; the script builds the program if it is missing."""
+"""What the script `herdspiral` says of a refusal (script/words.awk). Typed sessions with each slip, whole, with the
+real program and each awk of stand_in.AWKS that this machine has: the exact words. Pages of all button settings that are
+refused by 13 and by 20, typed and as bytes; those whose board is refused are refused in the words of the session. The
+hint that typed text was taken as bytes. Refusals that are not the session's. Then refused sessions of every sort of
+tests/lib/session_sorts.py, and those of tests/lib/number_sessions.py that are not cut: number, place, the bytes quoted
+and the numbers that the words name are held to the session's own bytes. Seeded; `python3 tests/words.py SEED SESSIONS`
+tries others, or more (it is 1 and 1,500 else). Needs the kit, and the program session_cases, which `rt ci` builds, or
+`rt run` in its folder; the script builds the program if it is missing."""
 import concurrent.futures
 import os
 import re

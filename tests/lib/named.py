@@ -1,8 +1,9 @@
-"""What the documents name in backquotes must be there. A name by itself, with a hyphen or without, is a word of the crates'
-code, definitions or proofs, comments left out, or a crate, a must-fail edit, a file or a sample; one with a hyphen is besides
-declared, as a law is. `a::b` begins with a crate or a type. A path is one below the repository, its folder second/ or samples/,
-crates/, or a crate. What comes after the word crate, after `rt check` or `rt dev`, or before a file of definitions, is a
-crate. Text that is no name, such as bytes, lines and commands, is not looked at."""
+"""What the documents name in backquotes must be there. A name by itself is a word of the crates' code, definitions or
+proofs, comments left out, or a crate, a must-fail edit, a file or a sample; one with a hyphen or an underscore is
+besides declared, as a law is, a definition or a function. `a::b` begins with a crate or a type. A path is one below the
+repository, its folder second/ or samples/, crates/, or a crate. What comes after the words crate and program, after
+`rt ci` or `rt must-fail`, or before a file of definitions, is a crate. Text that is no name, such as bytes, lines and
+commands, is not looked at."""
 import glob
 import os
 import re
@@ -22,6 +23,7 @@ ELSEWHERE = {
     "SteelByChains": "a statement of before, in the notes on requests A4 to A7",
     "board.hex": "a file of the reader's own",
     "board_cases": "a program of before, in a comparison of docs/COST.md",
+    "crates/neighbours/proofs/conducts/Proof.antt": "a proof of before, in the note on request A3",
     "definitions": "a column of a table",
     "flock": "a command of the system",
     "h1-w2": "a sample of before, in the note on request A6",
@@ -29,7 +31,6 @@ ELSEWHERE = {
     "head": "a command of the system",
     "ladder": "a sample of before, in the note on request A1",
     "ladder-w2097151": "a sample of before, in the note on request A1",
-    "lost-files": "a part of `rt ci`",
     "open": "a word of the proof language",
     "proof": "a column of a table",
     "repeats": "a script that is handed to the developers",
@@ -38,13 +39,21 @@ ELSEWHERE = {
 
 NAME = r"[^\W\d](?:[\w-]*\w)?"
 QUOTED = r"`[^`\n]+`"
+
+# What code declares: a function, a constant, a variable, a field or parameter, a type's alias, a module or a clause.
+DECLARED = (r"\b(?:fn|const|static|mod|type|let|let mut) (\w+)", r"\b(\w+): ", r"\b(?:requires|ensures) (\w+) \{")
 ENDINGS = ("py", "md", "txt", "antt", "rt", "rs", "hex", "lines", "words", "page", "edit", "awk", "sh")
 
 
+# Pages that set names of before beside today's.
+RECORDS = ("docs/PORT.md",)
+
+
 def documents():
-    """The documents, as paths below the repository."""
+    """The documents whose names are looked at, as paths below the repository."""
     pages = glob.glob(repository.path("docs", "**", "*.md"), recursive=True)
-    return ["README.md", "samples/README.md", "second/README.md"] + sorted(os.path.relpath(page, repository.ROOT) for page in pages)
+    names = sorted(os.path.relpath(page, repository.ROOT) for page in pages)
+    return ["README.md", "samples/README.md", "second/README.md"] + [name for name in names if name not in RECORDS]
 
 
 def code():
@@ -55,7 +64,7 @@ def code():
 
 def tracked():
     """Every file below the repository but those that were built, as a path."""
-    skipped = ("target", "built", ".git", "__pycache__")
+    skipped = ("target", "out", "built", ".git", "__pycache__")
     found = []
     for folder, folders, names in os.walk(repository.ROOT):
         folders[:] = [name for name in folders if name not in skipped]
@@ -72,10 +81,11 @@ class Known:
         self.files = set(files) | {os.path.splitext(name)[0] for name in files if name.endswith((".edit", ".hex", ".antt", ".rt"))}
         self.words = set(re.findall(NAME, text))
         self.declared = set(re.findall(rf"^\s*(?:\w+ )*({NAME}) :", text, re.M))
+        self.declared.update(*(re.findall(form, text) for form in DECLARED))
         self.types = {word for word in self.words if word[0].isupper()}
 
     def has_name(self, name):
-        return name in self.crates or name in self.files or name in (self.declared if "-" in name else self.words)
+        return name in self.crates or name in self.files or name in (self.declared if re.search("[-_]", name.strip("_")) else self.words)
 
     def has_parts(self, name):
         first, *others = name.split("::")
@@ -99,14 +109,16 @@ class Known:
 def is_path(name):
     """Whether a path is there, or is built."""
     folders = ("", "second", "samples", "crates", os.path.join("crates", "*"))
-    return name.startswith(("target/", "built/")) or any(glob.glob(repository.path(folder, name)) for folder in folders)
+    if name == "target/second" or re.match(r"(?:(?:crates/\w+/)?out|built)/", name):
+        return True
+    return any(glob.glob(repository.path(folder, name)) for folder in folders)
 
 
 def named_crates(text):
     """The names in a document that must be crates."""
-    for words in re.findall(rf"\b[Cc]rates? ((?:{QUOTED}(?:, and |, | and )?)+)", text):
+    for words in re.findall(rf"\b(?:[Cc]rates?|[Pp]rograms?) ((?:{QUOTED}(?:, and |, | and )?)+)", text):
         yield from re.findall(r"`(\w+)`", words)
-    for words in re.findall(r"`rt (?:check|dev|must-fail) ([\w ]+)`", text):
+    for words in re.findall(r"`rt (?:check|ci|lib|must-fail|run|test|tidy|verdict) ([\w ]+)`", text):
         yield from words.split()
     yield from re.findall(r"`(\w+)`: `specs/", text)
 

@@ -1,9 +1,8 @@
-"""Starting a proved program by its name, as `rt` starts it: `rt check NAME` builds it as target/bin/NAME; and what a run of
-it comes to. A test holds all of that to what is wanted: the whole output, standard error and the exit status. Used by the
-comparisons and the measurements."""
+"""Starting a proved program by its name: `rt ci`, or `rt run` in its folder, builds it as crates/NAME/out/NAME; and
+what a run of it comes to. A test holds all of that to what is wanted: the whole output, standard error and the exit
+status. Used by the comparisons and the measurements."""
 import itertools
 import os
-import platform
 import shutil
 import subprocess
 import typing
@@ -22,7 +21,7 @@ def toolchain():
     """The kit's folder of what programs for this machine need."""
     rt = os.path.realpath(shutil.which("rt"))
     kit = os.environ.get("RATTLE_HOME") or os.path.dirname(os.path.dirname(rt))
-    return os.path.join(kit, "on", platform.machine(), "toolchain")
+    return os.path.join(kit, "toolchain")
 
 
 def emulator():
@@ -33,11 +32,11 @@ def emulator():
 
 def path(name):
     """Where the program is."""
-    return repository.path("target", "bin", name)
+    return repository.path("crates", name, "out", name)
 
 
 def command(name, stack=None):
-    """How `rt` starts the program: by the kit's loader, under the emulator where there is one. With a stack of so many
+    """How the program is started: by the kit's loader, under the emulator where there is one. With a stack of so many
     bytes, if a size is given."""
     tools = toolchain()
     start = [os.path.join(tools, "lib", "ld-linux-x86-64.so.2"), "--library-path", os.path.join(tools, "lib"), path(name)]

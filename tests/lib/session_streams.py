@@ -84,11 +84,11 @@ def failing_writes():
 
 
 def left_by_its_reader():
-    """Output that takes some lines and then no more: the reader of a pipe ends. What it was given are the first lines; with the
-    signal for it ignored the program says so, and else the signal ends it."""
+    """Output that takes some lines and then no more: the reader of a pipe ends. What it was given are the first lines;
+    the program ignores the signal for it, however it was started, and says that it cannot write."""
     data = holding(LONGEST)
     lines = second_program.answer(data).out
-    for name, ignoring, errors, status in (("ignored", "trap '' PIPE; ", UNWRITABLE.errors, FAILED), ("not ignored", "", b"", -13)):
+    for name, ignoring in (("ignored", "trap '' PIPE; "), ("not ignored", "")):
         start = ["sh", "-c", f'{ignoring}exec "$@"', "sh"] + COMMAND
         with tempfile.TemporaryFile() as file, subprocess.Popen(start, stdin=subprocess.PIPE, stdout=subprocess.PIPE, stderr=file) as running:
             running.stdin.write(data)
@@ -97,7 +97,7 @@ def left_by_its_reader():
             running.stdout.close()
             ended = running.wait(timeout=program.PATIENCE)
             file.seek(0)
-            yield same(f"a reader that ends, its signal {name}", Told(found, file.read(), ended), Told(lines[: LINES_ROOM // 2], errors, status))
+            yield same(f"a reader that ends, its signal {name}", Told(found, file.read(), ended), Told(lines[: LINES_ROOM // 2], UNWRITABLE.errors, FAILED))
 
 
 def takings():

@@ -2,7 +2,6 @@
 tried without proving anything: an `rt` that notes its calls and builds by copying, a loader that starts what it is given,
 and as the program a shell script that a test hands in. The script can be started by any shell, and with any awk."""
 import os
-import platform
 import re
 import shutil
 import time
@@ -11,30 +10,46 @@ import program
 import repository
 from program import Told
 
-# It takes its standard input and writes to both outputs, so that a session lost or a line too many is seen. A file in the
-# kit's folder has it edit a crate meanwhile, go on only when another file says so, refuse, be killed, or remove what it built.
-# As `rt ci` it removes target/.
+# It takes its standard input and writes to both outputs, so that a session lost or a line too many is seen. It locks
+# the folders of the crates that it is at, and says so where it has to wait for another. A file in the kit's folder has
+# it edit a crate meanwhile, go on only when another file says so, say that it waits, refuse, be killed, or remove what
+# it built. As `rt ci` it removes the crates' out/. As `rt run` it goes on to run what it built, on its own input; a
+# file has that run fail.
 RT = """#!/bin/sh
-echo "$*" >>"$KIT/calls"
+echo "$* in ${PWD##*/}" >>"$KIT/calls"
 cat >/dev/null
 held() {
     [ -e "$KIT/hold" ] || return
     while [ ! -e "$KIT/go" ]; do sleep 0.05; done
     echo "$* ended" >>"$KIT/calls"
 }
-[ "$1" != ci ] || { rm -rf target; held "$@"; exit; }
+locked() {
+    command -v flock >/dev/null || return
+    exec 7<"$1/one" 8<"$1/herdspiral"
+    for each in 7 8; do
+        flock -n $each || { echo "rt: waiting for another rt to finish in $1" >&2 && flock $each; }
+    done
+}
+[ "$1" != version ] || exit 0
+[ "$1" != ci ] || { locked crates; rm -rf crates/*/out; held "$@"; exit; }
+locked ..
+[ ! -e "$KIT/wait" ] || { for each in one herdspiral; do echo "rt: waiting for another rt to finish in $each"; done; }
 echo 'rt: said on standard output'
 echo 'rt: said on standard error' >&2
-echo 'rt: one proved (unchanged since it was last proved)'
-[ ! -e "$KIT/edit" ] || { sleep 0.1; echo edited >>crates/one/src/lib.rt; }
+echo 'rt: chose --jobs 2 for one' >&2
+echo 'logic=proved functions=1' >&2
+echo 'rt: chose --jobs 2 for herdspiral' >&2
+[ ! -e "$KIT/edit" ] || { sleep 0.1; echo edited >>../one/src/lib.rt; }
 held "$@"
 [ ! -e "$KIT/refuse" ] || exit 1
 [ ! -e "$KIT/killed" ] || { printf 'rt: half a line'; kill -9 $$; }
-mkdir -p target/bin target/stamp
-[ -e target/stamp/herdspiral ] || cp "$KIT/program" target/bin/herdspiral
-: >target/stamp/herdspiral
-echo 'rt: herdspiral proved (1 s)'
-[ ! -e "$KIT/remove" ] || rm -r target
+mkdir -p out ../one/out
+[ -e out/herdspiral.stamp ] && [ -e out/herdspiral ] || cp "$KIT/program" out/herdspiral
+: >out/herdspiral.stamp
+echo 'rt: running out/herdspiral; to give it other input, run that file yourself' >&2
+[ ! -e "$KIT/remove" ] || rm -r out
+[ ! -e "$KIT/fail" ] || exit 7
+echo 'refused 1 0'
 """
 LOADER = '#!/bin/sh\n[ "$1" = --library-path ] || exit 99\nshift 2\nexec "$@"\n'
 EMULATOR = '#!/bin/sh\n: >"$KIT/emulated"\nexec "$@"\n'
@@ -47,7 +62,7 @@ exec cat
 TOOLS = ("od", "sed", "tr", "awk", "find", "uname", "readlink", "cat", "date", "flock", "mkdir", "mv", "rm", "cp", "sleep")
 AWKS = ("mawk", "gawk", "busybox awk", "original-awk")
 
-BUILDING = "proving and building the program; the first time this takes two to three minutes"
+BUILDING = "proving and building the program; the first time this takes some minutes"
 PROGRESS = ["proving 1 of 2: one", "proving 2 of 2: herdspiral"]
 BUILT = "proved and built in N s"  # however many seconds
 
@@ -96,12 +111,14 @@ class StandIn:
     def __init__(self, folder, shell=(), awk=""):
         self.folder, self.root, self.kit = folder, os.path.join(folder, "the root"), os.path.join(folder, "the kit")
         self.script, self.stamp = os.path.join(self.root, "herdspiral"), os.path.join(self.root, "built", "stamp")
-        self.tools, self.shell = os.path.join(self.kit, "on", platform.machine(), "toolchain"), list(shell)
+        self.tools, self.shell = os.path.join(self.kit, "toolchain"), list(shell)
         shutil.copytree(repository.path("script"), os.path.join(self.root, "script"))
         shutil.copy(repository.path("herdspiral"), self.script)
         put(os.path.join(self.root, "crates.txt"), "# crates\none: # the first\nother: one\nherdspiral: one io\n")
         put(os.path.join(self.root, "crates", "one", "src", "lib.rt"), "one\n")
         put(os.path.join(self.root, "crates", "one", "src", "more.rt"), "more\n")
+        put(os.path.join(self.root, "crates", "one", "specs", "Lib.antt"), "one\n")
+        put(os.path.join(self.root, "crates", "herdspiral", "src", "main.rt"), "main\n")
         put(os.path.join(self.kit, "KIT-ID"), "a kit\n")
         self.program(ECHO)
         put(os.path.join(self.kit, "bin", "rt"), RT, 0o755)
@@ -114,7 +131,7 @@ class StandIn:
     def program(self, text):
         """What is built from now on."""
         put(os.path.join(self.kit, "program"), text, 0o755)
-        shutil.rmtree(os.path.join(self.root, "target"), ignore_errors=True)
+        shutil.rmtree(os.path.join(self.root, "crates", "herdspiral", "out"), ignore_errors=True)
         shutil.rmtree(os.path.join(self.root, "built"), ignore_errors=True)
 
     def environment(self, **more):
@@ -141,7 +158,7 @@ class StandIn:
         return self.start(os.path.join(self.folder, name))
 
     def note(self, name):
-        """Puts a file into the kit's folder: `edit`, `hold`, `go`, `refuse`, `killed` or `remove`."""
+        """Puts a file into the kit's folder: `edit`, `hold`, `go`, `wait`, `refuse`, `killed`, `remove` or `fail`."""
         put(os.path.join(self.kit, name), "")
 
     def forget(self, *names):

@@ -26,10 +26,8 @@ use Rattle.session.specs.HandingOut.{HandOut, written, nothing, HandedAhead, han
 use Rattle.session.specs.HandingOut.{told_hand_out, told_handed_ahead}
 use Rattle.session.specs.Filling.{fits_on, fitting, filled_by, lines_handed, behind, summed}
 use Rattle.session.proofs.NextLineLaws.{line_handed_short, line_handed-room}
-use Rattle.session.specs.contracts.HandOut.{the_type}
 use Rattle.refusals.proofs.Told.{told_injective}
 use Rattle.session.proofs.ToldLaws.{hand_out_told}
-use Rattle.session.proofs.CallLaws.{over_never}
 use Rattle.session.proofs.FitLaws.{bytes_of, bytes-append, bytes_one, fitting_short, fitting_next}
 
 -- ---- a part of the buffer that was lent, and is back

@@ -1,8 +1,6 @@
 -- `events::event_line` meets its contract: the push or release, then what is told of it.
 use borrow.Author.Rules.{rules}
-use mathlib.Core.Path.{◌∙◌}
 use Rattle.events.proofs.EventLaws.{event-told}
-use Rattle.std.proofs.Common.{arith}
 use Rattle.events.proofs.event_line.Goals as goal
 
 pub returns : goal.returns

@@ -1,8 +1,6 @@
 -- `events::press` meets its contract: the button is pushed or released, as the event says.
-use borrow.Author.Rules.{rules}
 use mathlib.Core.Path.{◌∙◌}
 use Rattle.events.proofs.EventLaws.{pressing_push, pressing_release}
-use Rattle.std.proofs.Common.{arith}
 use Rattle.events.proofs.press.Goals as goal
 
 pub returns-then-event : goal.returns-then-event

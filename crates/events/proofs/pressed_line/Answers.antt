@@ -1,8 +1,6 @@
 -- `events::pressed_line` meets its contract: a refusal is told and nothing is run, else the run is told.
 use borrow.Author.Rules.{rules}
-use mathlib.Core.Path.{◌∙◌}
 use Rattle.events.proofs.EventLaws.{pressed_refused, pressed_done}
-use Rattle.std.proofs.Common.{arith}
 use Rattle.events.proofs.pressed_line.Goals as goal
 
 pub returns-in-Refused : goal.returns-in-Refused

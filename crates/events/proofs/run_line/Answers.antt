@@ -1,7 +1,5 @@
 -- `events::run_line` meets its contract: the line tells what the run answers.
-use borrow.Author.Rules.{rules}
 use Rattle.events.proofs.EventLaws.{run-shown}
-use Rattle.std.proofs.Common.{arith}
 use Rattle.events.proofs.run_line.Goals as goal
 
 pub returns : goal.returns

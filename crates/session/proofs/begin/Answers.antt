@@ -1,8 +1,6 @@
 -- `session::begin` meets its contract: behind a board that is read comes its allowance, a refused one ends the session.
 use borrow.Author.Rules.{rules}
-use mathlib.Core.Path.{◌∙◌}
 use Rattle.session.proofs.StartLaws.{beginning-board, beginning_refused}
-use Rattle.std.proofs.Common.{arith}
 use Rattle.session.proofs.begin.Goals as goal
 
 pub returns-in-Read : goal.returns-in-Read

@@ -2,7 +2,6 @@
 use borrow.Author.Rules.{rules}
 use Rattle.session.specs.HandingOut.{next_line}
 use Rattle.session.proofs.NextLineLaws.{handed-carried}
-use Rattle.std.proofs.Common.{arith}
 use Rattle.session.proofs.next_line.Goals as goal
 
 pub returns : goal.returns

@@ -1,14 +1,8 @@
 -- `session::next_lines` meets its contract: what was handed out so far are the first of the lines that fit.
 use Prim.Native.Nat.{◌-◌}
-use mathlib.Core.Path.{◌≡◌, ◌∙◌}
-use native.Mathlib.Omega.{arith}
 use lib.ListN.{length}
-use borrow.Author.Rules.{rules}
 use Rattle.session.specs.Carried.{told_ahead}
-use Rattle.session.specs.Filling.{next_lines}
-use Rattle.session.proofs.FillLaws.{FilledTo, filled_none, filled_to_length, line_goes, line-ends}
-use Rattle.session.proofs.FillLaws.{Goes}
-use Rattle.session.proofs.NextLineLaws.{handed-carried}
+use Rattle.session.proofs.FillLaws.{FilledTo}
 use Rattle.session.proofs.next_lines.Given as goal
 
 abbrev pub invariant-loop-length : goal.invariant-loop-length

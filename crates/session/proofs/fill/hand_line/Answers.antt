@@ -1,7 +1,6 @@
 -- `session::fill::hand_line` meets its contract: 16 leaves at once; else what comes next is written, or nothing does.
 use borrow.Author.Rules.{rules}
 use Rattle.session.proofs.NextLineLaws.{line_handed_short, line_handed_written, line_handed_over}
-use Rattle.std.proofs.Common.{arith}
 use Rattle.session.proofs.fill.hand_line.Goals as goal
 
 pub returns-then-out-lt-LONGEST_LINE : goal.returns-then-out-lt-LONGEST_LINE

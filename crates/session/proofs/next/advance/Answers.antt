@@ -1,8 +1,6 @@
 -- `session::next::advance` meets its contract, stage by stage.
 use borrow.Author.Rules.{rules}
-use mathlib.Core.Path.{◌∙◌}
 use Rattle.session.proofs.AdvanceLaws.{next_first, next_events, next_refusing, next_over}
-use Rattle.std.proofs.Common.{arith}
 use Rattle.session.proofs.next.advance.Goals as goal
 
 pub returns-in-First : goal.returns-in-First

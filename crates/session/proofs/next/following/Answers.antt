@@ -1,7 +1,5 @@
 -- `session::next::following` meets its contract: the next number, up to the longest input.
-use borrow.Author.Rules.{rules}
 use Rattle.session.proofs.AdvanceLaws.{following_on, following-stands}
-use Rattle.std.proofs.Common.{arith}
 use Rattle.session.proofs.next.following.Goals as goal
 
 pub returns-then-event-le-LONGEST_INPUT : goal.returns-then-event-le-LONGEST_INPUT

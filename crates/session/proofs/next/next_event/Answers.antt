@@ -1,8 +1,6 @@
 -- `session::next::next_event` meets its contract: the input's end, a refused event, or the event.
-use borrow.Author.Rules.{rules}
 use mathlib.Core.Path.{◌∙◌}
 use Rattle.session.proofs.AdvanceLaws.{event_none, event_refused, event-made}
-use Rattle.std.proofs.Common.{arith}
 use Rattle.session.proofs.next.next_event.Goals as goal
 
 pub returns-then-s-place : goal.returns-then-s-place

@@ -1,8 +1,6 @@
 -- `session::start::begin_with` meets its contract: past a number the session begins, a refusal ends it.
 use borrow.Author.Rules.{rules}
-use mathlib.Core.Path.{◌∙◌}
 use Rattle.session.proofs.StartLaws.{begun_read, begun_unread}
-use Rattle.std.proofs.Common.{arith}
 use Rattle.session.proofs.start.begin_with.Goals as goal
 
 pub returns-in-Read : goal.returns-in-Read

@@ -1,7 +1,5 @@
 -- `session::start::refuse` meets its contract: the empty board in a fresh state, with the refusal to tell.
-use borrow.Author.Rules.{rules}
 use Rattle.session.proofs.StartLaws.{begun_refused}
-use Rattle.std.proofs.Common.{arith}
 use Rattle.session.proofs.start.refuse.Goals as goal
 
 pub returns : goal.returns
