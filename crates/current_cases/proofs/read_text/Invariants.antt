@@ -1,4 +1,5 @@
--- `current_cases::read_text` meets its contract and ends: what was read lies in the buffer, and each read leaves less room.
+-- `current_cases::read_text` meets its contract and ends: what was read lies in the buffer, and each read leaves less
+-- room.
 use Rattle.std.proofs.Common.{◌≤◌, ◌-◌, length}
 use Rattle.current_cases.proofs.read_text.Given as goal
 

@@ -1,4 +1,5 @@
--- `file_cases::read_text` meets its contract and ends: what was read lies in the buffer, and each read leaves less room.
+-- `file_cases::read_text` meets its contract and ends: what was read lies in the buffer, and each read leaves less
+-- room.
 use Rattle.std.proofs.Common.{◌≤◌, ◌-◌, length}
 use Rattle.file_cases.proofs.read_text.Given as goal
 

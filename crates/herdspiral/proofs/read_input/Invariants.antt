@@ -1,5 +1,5 @@
--- `herdspiral::read_input` meets its contract and ends: what the reader gave stands in the first bytes of the buffer, and
--- each read leaves less room.
+-- `herdspiral::read_input` meets its contract and ends: what the reader gave stands in the first bytes of the buffer,
+-- and each read leaves less room.
 use Rattle.std.proofs.Common.{◌≤◌, ◌-◌, length, take}
 use Rattle.std.specs.Io.KnownBytes.{Consumes}
 use Rattle.herdspiral.proofs.read_input.Given as goal

@@ -1,5 +1,5 @@
--- `session_cases::print_lines` meets its contract and ends: a line that is handed out fits its buffer, leaves less to come
--- and is written, and where none is handed out all that the session prints was written.
+-- `session_cases::print_lines` meets its contract and ends: a line that is handed out fits its buffer, leaves less to
+-- come and is written, and where none is handed out all that the session prints was written.
 use Rattle.std.proofs.Common.{◌≤◌, arith, length, rules}
 use Rattle.session.proofs.CallLaws.{call_advances}
 use Rattle.session.specs.HandingOut.{NextLine}

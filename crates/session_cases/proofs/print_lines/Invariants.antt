@@ -1,5 +1,5 @@
--- `session_cases::print_lines` meets its contract and ends: a line that is handed out leaves less to come, and the writer
--- took those before it.
+-- `session_cases::print_lines` meets its contract and ends: a line that is handed out leaves less to come, and the
+-- writer took those before it.
 use Rattle.session.specs.HandingOut.{NextLine}
 use Rattle.session.proofs.ToCome.{left_of}
 use Rattle.session_means.proofs.Printed.{SoPrinted}
