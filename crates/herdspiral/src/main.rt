@@ -97,7 +97,8 @@ fn tell_refused<E: Write>(err: &mut E, lines: &[u8], used: usize)
     }
 }
 
-// Writes out the first bytes of the buffer; where all were written, then tells what is refused there.
+// Writes out the first bytes of the buffer, and then tells what is refused there. Where a write failed, some of them may
+// be written, and nothing is told.
 fn write_out<W: Write, E: Write>(
     out: &mut W,
     err: &mut E,
@@ -113,7 +114,7 @@ fn write_out<W: Write, E: Write>(
 }
 
 // Prints the lines of a session by way of a buffer with room for the longest line. Where all were written, nothing is
-// left to come in the session after the lines that were handed out.
+// left to come in the session that is answered; an error is that of the write that failed.
 fn print_lines<W: Write, E: Write>(
     out: &mut W,
     err: &mut E,
