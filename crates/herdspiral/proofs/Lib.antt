@@ -1,2 +1,3 @@
--- What reads into a buffer come to.
+-- What reads into a buffer come to, and what a writer holds after the calls.
 mod Readings
+mod Printed

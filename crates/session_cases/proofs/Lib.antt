@@ -1,0 +1,2 @@
+-- What a writer holds after the calls.
+mod Printed
