@@ -97,8 +97,8 @@ fn tell_refused<E: Write>(err: &mut E, lines: &[u8], used: usize)
     }
 }
 
-// Writes out the first bytes of the buffer, and then tells what is refused there. Where a write failed, some of them may
-// be written, and nothing is told.
+// Writes out the first bytes of the buffer, and then tells what is refused there. Where a write failed, some of them
+// may be written, and nothing is told.
 fn write_out<W: Write, E: Write>(
     out: &mut W,
     err: &mut E,

@@ -1,5 +1,5 @@
--- Once a call says that no line comes any more, what was handed out and written is all that the session prints. What the
--- writer holds is known, or not.
+-- Once a call says that no line comes any more, what was handed out and written is all that the session prints. What
+-- the writer holds is known, or not.
 use Rattle.std.proofs.Common.{ℕ, ◌≡◌, ◌≤◌, List, [], ◌∷◌, ◌++◌, length, take}
 use Rattle.std.proofs.Common.{refl, sym, ap, subst, ◌∙◌, append-nil, append_assoc}
 use Rattle.std.specs.declared.option.Option.{Option}
@@ -19,7 +19,7 @@ use Rattle.session_means.proofs.HandedLines.{all_handed_out}
 
 -- such calls on the input s from z on handed out texts and left y, and these took a writer from what it held to what it
 -- holds
-pub record SoPrinted (s : List ℕ) (z y : Session) (old new : Option (List ℕ)) : Type 0 where
+pub record LinesPrinted (s : List ℕ) (z y : Session) (old new : Option (List ℕ)) : Type 0 where
   pub texts : List (List ℕ)
   pub handed : HandsOut NextLine s z texts y
   pub appended : Appends old new (printed texts)
@@ -53,13 +53,13 @@ appends_on (Some o) (Some m) (Some n) xs ys a b =
 
 -- ---- from the beginning on, call by call
 
-pub none_printed : (s : List ℕ) (z : Session) (old : Option (List ℕ)) → SoPrinted s z z old old
-none_printed s z old = record { texts = []; handed = refl; appended = appends_none old }
+pub no_line_printed : (s : List ℕ) (z : Session) (old : Option (List ℕ)) → LinesPrinted s z z old old
+no_line_printed s z old = record { texts = []; handed = refl; appended = appends_none old }
 
-pub more_printed : (s : List ℕ) (z y : Session) (old mid new : Option (List ℕ)) (out out' : List ℕ)
-    (r : Handed) (n : ℕ) → SoPrinted s z y old mid → NextLine y s out r out' → r.answer ≡ Written n
-    → Appends mid new (take n out') → SoPrinted s z r.session old new
-more_printed s z y old mid new out out' r n so called wrote appended =
+pub more_lines_printed : (s : List ℕ) (z y : Session) (old mid new : Option (List ℕ)) (out out' : List ℕ)
+    (r : Handed) (n : ℕ) → LinesPrinted s z y old mid → NextLine y s out r out' → r.answer ≡ Written n
+    → Appends mid new (take n out') → LinesPrinted s z r.session old new
+more_lines_printed s z y old mid new out out' r n so called wrote appended =
     let hands : Hands NextLine s y (take n out') r.session =
     record {
       out = out;
@@ -81,11 +81,11 @@ more_printed s z y old mid new out out' r n so called wrote appended =
 
 -- ---- and once a call hands out nothing more
 
-pub all_printed : (s : List ℕ) (z y : Session) (old new : Option (List ℕ)) (out out' : List ℕ) (r : Handed)
-    → Begins s z → SoPrinted s z y old new → longest_line ≤ length out → NextLine y s out r out'
+pub all_lines_printed : (s : List ℕ) (z y : Session) (old new : Option (List ℕ)) (out out' : List ℕ) (r : Handed)
+    → Begins s z → LinesPrinted s z y old new → longest_line ≤ length out → NextLine y s out r out'
     → ((n : ℕ) → r.answer ≡ Written n → ⊥) → Appends old new (session_text current_edition s)
 unfolding session_text
-all_printed s z y old new out out' r begun so room called never = by (next_in y s) refl
+all_lines_printed s z y old new out out' r begun so room called never = by (next_in y s) refl
   where
     by : (c : Ahead × Coming) → next_in y s ≡ c → Appends old new (session_text current_edition s)
     by (w, no_line) is =

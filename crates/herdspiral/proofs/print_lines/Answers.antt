@@ -2,7 +2,7 @@
 -- none is left, and all that the session prints was written.
 use Rattle.std.proofs.Common.{arith}
 use Rattle.session.proofs.FilledCalls.{filled_advances, filled-ends}
-use Rattle.herdspiral.proofs.Printed.{none_printed, more_printed, all_printed}
+use Rattle.herdspiral.proofs.Printed.{no_buffer_printed, more_buffers_printed, all_buffers_printed}
 use Rattle.herdspiral.proofs.print_lines.Goals as goal
 
 pub returns-in_default-clause-nothing_left : goal.returns-in_default-clause-nothing_left
@@ -23,15 +23,15 @@ loop-used-smaller g c =
     c.next_lines-handed.ensures _ c.in-Written.is).1
 
 pub loop-used-init : goal.loop-used-init
-loop-used-init g c = none_printed _ _ _
+loop-used-init g c = no_buffer_printed _ _ _
 
 pub loop-used-preserved : goal.loop-used-preserved
 loop-used-preserved g c =
-    more_printed _ _ c.loop-used.session _ _ _ c.loop-used.lines _ c.next_lines-handed.result _
+    more_buffers_printed _ _ c.loop-used.session _ _ _ c.loop-used.lines _ c.next_lines-handed.result _
     c.loop-used.invariant c.next_lines-handed.ensures c.in-Written.is c.in_ok-write_out.ensures
 
 pub returns-in_default-clause-all_written : goal.returns-in_default-clause-all_written
 returns-in_default-clause-all_written g c =
-    all_printed _ _ c.loop-used.session _ _ c.loop-used.lines _ c.next_lines-handed.result
+    all_buffers_printed _ _ c.loop-used.session _ _ c.loop-used.lines _ c.next_lines-handed.result
     c.begin-session.ensures c.loop-used.invariant (omega (arith, c.requires, c.loop-used.auto.lines))
     c.next_lines-handed.ensures c.in_default.not-Written
