@@ -1,3 +1,2 @@
--- What reads into a buffer come to, and what a writer holds after the calls.
+-- What reads into a buffer come to.
 mod Readings
-mod Printed

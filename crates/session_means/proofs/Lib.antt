@@ -11,3 +11,5 @@ pub mod LinesDrawn
 pub mod SessionsKept
 pub mod AnyAllowance
 pub mod UnspentSessions
+-- For a program that prints the texts that it is handed: what its writer holds then.
+pub mod Printed

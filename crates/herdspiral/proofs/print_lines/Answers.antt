@@ -2,7 +2,8 @@
 -- none is left, and all that the session prints was written.
 use Rattle.std.proofs.Common.{arith}
 use Rattle.session.proofs.FilledCalls.{filled_advances, filled-ends}
-use Rattle.herdspiral.proofs.Printed.{no_buffer_printed, more_buffers_printed, all_buffers_printed}
+use Rattle.session.specs.Filling.{NextLines}
+use Rattle.session_means.proofs.Printed.{none_printed, more_printed, all_buffers_printed}
 use Rattle.herdspiral.proofs.print_lines.Goals as goal
 
 pub returns-in_default-clause-nothing_left : goal.returns-in_default-clause-nothing_left
@@ -23,11 +24,11 @@ loop-used-smaller g c =
     c.next_lines-handed.ensures _ c.in-Written.is).1
 
 pub loop-used-init : goal.loop-used-init
-loop-used-init g c = no_buffer_printed _ _ _
+loop-used-init g c = none_printed NextLines _ _ _
 
 pub loop-used-preserved : goal.loop-used-preserved
 loop-used-preserved g c =
-    more_buffers_printed _ _ c.loop-used.session _ _ _ c.loop-used.lines _ c.next_lines-handed.result _
+    more_printed NextLines _ _ c.loop-used.session _ _ _ c.loop-used.lines _ c.next_lines-handed.result _
     c.loop-used.invariant c.next_lines-handed.ensures c.in-Written.is c.in_ok-write_out.ensures
 
 pub returns-in_default-clause-all_written : goal.returns-in_default-clause-all_written

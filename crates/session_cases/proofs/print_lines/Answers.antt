@@ -2,7 +2,8 @@
 -- come and is written, and where none is handed out all that the session prints was written.
 use Rattle.std.proofs.Common.{◌≤◌, arith, length, rules}
 use Rattle.session.proofs.CallLaws.{call_advances}
-use Rattle.session_cases.proofs.Printed.{no_line_printed, more_lines_printed, all_lines_printed}
+use Rattle.session.specs.HandingOut.{NextLine}
+use Rattle.session_means.proofs.Printed.{none_printed, more_printed, all_lines_printed}
 use Rattle.session_cases.proofs.print_lines.Goals as goal
 
 pub slice_bounds-line-end : goal.slice_bounds-line-end
@@ -27,11 +28,11 @@ loop-length-smaller g c =
     c.next_line-handed.ensures _ c.in-Written.is).1
 
 pub loop-length-init : goal.loop-length-init
-loop-length-init g c = no_line_printed _ _ _
+loop-length-init g c = none_printed NextLine _ _ _
 
 pub loop-length-preserved : goal.loop-length-preserved
 loop-length-preserved g c =
-    more_lines_printed _ _ c.loop-length.session _ _ _ c.loop-length.line _ c.next_line-handed.result _
+    more_printed NextLine _ _ c.loop-length.session _ _ _ c.loop-length.line _ c.next_line-handed.result _
     c.loop-length.invariant c.next_line-handed.ensures c.in-Written.is c.in_ok-write_all.ensures.bytes
 
 pub returns-in_default : goal.returns-in_default

@@ -1,7 +1,7 @@
--- Once a call says that no line comes any more, what was handed out and written is all that the session prints. What
--- the writer holds is known, or not.
-use Rattle.std.proofs.Common.{ℕ, ◌≡◌, ◌≤◌, List, [], ◌∷◌, ◌++◌, length, take}
-use Rattle.std.proofs.Common.{refl, sym, ap, subst, ◌∙◌, append-nil, append_assoc}
+-- A program that prints what it is handed has printed all that the session prints, once a call says that there is none.
+-- For programs that hand the texts to a writer; what the writer holds is known, or not.
+use Rattle.std.proofs.Common.{ℕ, ◌≡◌, ◌≤◌, List, [], ◌∷◌, ◌++◌, ◌⊎◌, length, take}
+use Rattle.std.proofs.Common.{refl, sym, ap, subst, ◌∙◌, inl, inr, arith, append-nil, append_assoc}
 use Rattle.std.specs.declared.option.Option.{Option}
 use Rattle.std.specs.Prelude.{None, Some}
 use Rattle.std.specs.Io.KnownBytes.{Appends}
@@ -9,26 +9,29 @@ use Rattle.board_reader.specs.Editions.{current_edition}
 use Rattle.lines.specs.Lines.{longest_line}
 use Rattle.session.specs.declared.Session.{Session}
 use Rattle.session.specs.declared.Handed.{Handed}
-use Rattle.session.specs.declared.HandOut.TheVariants.{Written}
+use Rattle.session.specs.declared.HandOut.TheVariants.{Written, Over}
 use Rattle.session.specs.Carried.{Ahead, Coming, line, no_line, next_in, Begins}
 use Rattle.session.specs.HandingOut.{NextLine}
+use Rattle.session.specs.Filling.{NextLines}
 use Rattle.session.specs.Sessions.{printed, session_text}
 use Rattle.session.proofs.CallLaws.{call_over, call_line}
-use Rattle.session_means.specs.HandedLines.{Hands, HandsOut}
+use Rattle.session.proofs.FilledCalls.{filled_answers}
+use Rattle.session_means.specs.HandedLines.{Call, Hands, HandsOut}
 use Rattle.session_means.proofs.HandedLines.{all_handed_out}
+use Rattle.session_means.proofs.FilledBuffers.{all_filled}
 
 -- such calls on the input s from z on handed out texts and left y, and these took a writer from what it held to what it
 -- holds
-pub record LinesPrinted (s : List ℕ) (z y : Session) (old new : Option (List ℕ)) : Type 0 where
+pub record SoPrinted (C : Call) (s : List ℕ) (z y : Session) (old new : Option (List ℕ)) : Type 0 where
   pub texts : List (List ℕ)
-  pub handed : HandsOut NextLine s z texts y
+  pub handed : HandsOut C s z texts y
   pub appended : Appends old new (printed texts)
 
 -- one text more is handed out
-hands_on : (s : List ℕ) (ts : List (List ℕ)) (t : List ℕ) (z y x : Session) → HandsOut NextLine s z ts y
-    → Hands NextLine s y t x → HandsOut NextLine s z (ts ++ t ∷ []) x
-hands_on s [] t z y x is hands = (x, (subst (λ (w : Session). Hands NextLine s w t x) (sym is) hands, refl))
-hands_on s (u ∷ us) t z y x (w, (first, rest)) hands = (w, (first, hands_on s us t w y x rest hands))
+hands_on : (C : Call) (s : List ℕ) (ts : List (List ℕ)) (t : List ℕ) (z y x : Session) → HandsOut C s z ts y
+    → Hands C s y t x → HandsOut C s z (ts ++ t ∷ []) x
+hands_on C s [] t z y x is hands = (x, (subst (λ (w : Session). Hands C s w t x) (sym is) hands, refl))
+hands_on C s (u ∷ us) t z y x (w, (first, rest)) hands = (w, (first, hands_on C s us t w y x rest hands))
 
 printed-append_one : (ts : List (List ℕ)) (t : List ℕ) → printed (ts ++ t ∷ []) ≡ printed ts ++ t
 unfolding printed
@@ -53,14 +56,14 @@ appends_on (Some o) (Some m) (Some n) xs ys a b =
 
 -- ---- from the beginning on, call by call
 
-pub no_line_printed : (s : List ℕ) (z : Session) (old : Option (List ℕ)) → LinesPrinted s z z old old
-no_line_printed s z old = record { texts = []; handed = refl; appended = appends_none old }
+pub none_printed : (C : Call) (s : List ℕ) (z : Session) (old : Option (List ℕ)) → SoPrinted C s z z old old
+none_printed C s z old = record { texts = []; handed = refl; appended = appends_none old }
 
-pub more_lines_printed : (s : List ℕ) (z y : Session) (old mid new : Option (List ℕ)) (out out' : List ℕ)
-    (r : Handed) (n : ℕ) → LinesPrinted s z y old mid → NextLine y s out r out' → r.answer ≡ Written n
-    → Appends mid new (take n out') → LinesPrinted s z r.session old new
-more_lines_printed s z y old mid new out out' r n so called wrote appended =
-    let hands : Hands NextLine s y (take n out') r.session =
+pub more_printed : (C : Call) (s : List ℕ) (z y : Session) (old mid new : Option (List ℕ)) (out out' : List ℕ)
+    (r : Handed) (n : ℕ) → SoPrinted C s z y old mid → C y s out r out' → r.answer ≡ Written n
+    → Appends mid new (take n out') → SoPrinted C s z r.session old new
+more_printed C s z y old mid new out out' r n so called wrote appended =
+    let hands : Hands C s y (take n out') r.session =
     record {
       out = out;
       out' = out';
@@ -73,7 +76,7 @@ more_lines_printed s z y old mid new out out' r n so called wrote appended =
     } in
     record {
       texts = so.texts ++ take n out' ∷ [];
-      handed = hands_on s so.texts (take n out') z y r.session so.handed hands;
+      handed = hands_on C s so.texts (take n out') z y r.session so.handed hands;
       appended =
           subst (λ (xs : List ℕ). Appends old new xs) (sym (printed-append_one so.texts (take n out')))
           (appends_on old mid new (printed so.texts) (take n out') so.appended appended);
@@ -81,8 +84,20 @@ more_lines_printed s z y old mid new out out' r n so called wrote appended =
 
 -- ---- and once a call hands out nothing more
 
+pub all_buffers_printed : (s : List ℕ) (z y : Session) (old new : Option (List ℕ)) (out out' : List ℕ) (r : Handed)
+    → Begins s z → SoPrinted NextLines s z y old new → longest_line ≤ length out → NextLines y s out r out'
+    → ((n : ℕ) → r.answer ≡ Written n → ⊥) → Appends old new (session_text current_edition s)
+all_buffers_printed s z y old new out out' r begun so room called never =
+    by (filled_answers y s out out' r called room)
+  where
+    by : (r.answer ≡ Over) ⊎ ((n : ℕ) × (r.answer ≡ Written n)) → Appends old new (session_text current_edition s)
+    by (inl over) =
+        subst (λ (xs : List ℕ). Appends old new xs) (all_filled s z y so.texts out out' r begun so.handed called over)
+        so.appended
+    by (inr (n, is)) = absurd (never n is)
+
 pub all_lines_printed : (s : List ℕ) (z y : Session) (old new : Option (List ℕ)) (out out' : List ℕ) (r : Handed)
-    → Begins s z → LinesPrinted s z y old new → longest_line ≤ length out → NextLine y s out r out'
+    → Begins s z → SoPrinted NextLine s z y old new → longest_line ≤ length out → NextLine y s out r out'
     → ((n : ℕ) → r.answer ≡ Written n → ⊥) → Appends old new (session_text current_edition s)
 unfolding session_text
 all_lines_printed s z y old new out out' r begun so room called never = by (next_in y s) refl

@@ -1,2 +1,0 @@
--- What a writer holds after the calls.
-mod Printed
