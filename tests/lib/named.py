@@ -32,6 +32,7 @@ ELSEWHERE = {
     "ladder": "a sample of before, in the note on request A1",
     "ladder-w2097151": "a sample of before, in the note on request A1",
     "open": "a word of the proof language",
+    "os": "a crate of the older kit, in the note on request A10",
     "proof": "a column of a table",
     "repeats": "a script that is handed to the developers",
     "util": "a name that is not to be used",
