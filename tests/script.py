@@ -201,8 +201,8 @@ def page_lengths(own):
 
 def unwritten_lines(own, name, out, *words):
     """The checks of a program that prints this and then cannot write: into a file, and into a pipe with the signal for
-    a pipe that is left ignored, it is said; into another pipe nothing is said, since only a reader that left can be
-    why."""
+    a pipe that is left ignored, or one that never waits, it is said; into another pipe nothing is said, since only a
+    reader that left can be why."""
     with tempfile.TemporaryFile() as file:
         told = own.start(*words, streams={"stdout": file})
         file.seek(0)
@@ -211,6 +211,12 @@ def unwritten_lines(own, name, out, *words):
     told = program.run(ignoring, cwd=own.folder, env=own.environment())
     yield same(f"{name}, a pipe, the signal ignored", told._replace(errors=timeless(told.errors)), Told(out, UNWRITTEN, 4))
     yield same(f"{name}, a pipe", own.start(*words), Told(out, b"", 4))
+    reading, writing = os.pipe()
+    os.set_blocking(writing, False)
+    told = own.start(*words, streams={"stdout": writing})
+    os.close(writing)
+    with open(reading, "rb") as file:
+        yield same(f"{name}, a pipe that never waits", told._replace(out=file.read()), Told(out, UNWRITTEN, 4))
 
 
 def refused_pages(own):
