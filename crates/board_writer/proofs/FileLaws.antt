@@ -175,8 +175,7 @@ module _ (b : Board) (out : List ℕ) {A : Type 0} where
       (λ fine. by_test (leb (length (board_bytes b)) (length out))
       (λ fits. whole fine (leb-true (length (board_bytes b)) (length out) fits))
       (λ off. short
-      (writing_short b out fine refl refl
-      (omega (arith, board_bytes_sum b, leb-false (length (board_bytes b)) (length out) off)) refl)))
+      (writing_short b out fine refl (leb-false (length (board_bytes b)) (length out) off) refl)))
       (λ off. broken (writing_broken b out off refl))
 
 -- `write` never refuses a buffer of LONGEST_FILE bytes by 16

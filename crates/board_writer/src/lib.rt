@@ -1,14 +1,17 @@
-// Writing a board file: into a lent buffer of any length the board's bytes, or a refusal with no byte written.
+// Writing a board file: made once in fixed memory, then measured, then copied into a lent buffer of any length; or a
+// refusal with no byte written.
 #![tactic(auto)]
 
-ghost use Rattle.std.specs.Prelude.{◌≡◌};
+ghost use Rattle.std.specs.Prelude.{◌≡◌, ◌+◌, ◌≤◌, ◌++◌, true, length};
+ghost use Rattle.number.specs.Numbers.{number_bytes};
 ghost use Rattle.refusals.specs.Outcomes.{refused};
+ghost use Rattle.board.specs.Rules.{board_fine};
+ghost use Rattle.board_writer.specs.File.{numbers_bytes, counts_bytes, part_bytes, board_bytes, longest_file};
 ghost use Rattle.board_writer.specs.Writing.{told_written, Writes};
 
-mod bytes;
-mod lengths;
-
-use board::Board;
+use arrayvec::ArrayVec;
+use board::{Board, Counts, Part};
+use number::NumberWritten;
 use refusals::Refusal;
 
 // No board's file is longer, so a buffer of this length is never refused by 16.
@@ -28,6 +31,55 @@ fn refuse(number: u32) -> Written
     Written::Refused(Refusal { number, place: 0 })
 }
 
+// Adds a number's bytes.
+fn push_number(file: &mut ArrayVec<u8, LONGEST_FILE>, value: u32)
+    requires { length file.old.items + length (number_bytes value) ≤ longest_file }
+    ensures { file.new.items ≡ file.old.items ++ number_bytes value }
+{
+    let mut bytes = [0; 5];
+    let NumberWritten::Next(length) = number::write_number(value, &mut bytes, 0) else {
+        return;
+    };
+    file.try_extend_from_slice(&bytes[..length]).unwrap();
+}
+
+// Adds T, R, B and C.
+fn push_counts(file: &mut ArrayVec<u8, LONGEST_FILE>, counts: Counts)
+    requires room { length file.old.items + length (counts_bytes counts) ≤ longest_file }
+    requires parts { counts.parts ≤ 256 }
+    ensures { file.new.items ≡ file.old.items ++ counts_bytes counts }
+{
+    push_number(file, u32::from(counts.terminals));
+    push_number(file, u32::from(counts.relays));
+    push_number(file, u32::from(counts.buttons));
+    push_number(file, counts.parts as u32);
+}
+
+// Adds a part's kind and its fields.
+fn push_part(file: &mut ArrayVec<u8, LONGEST_FILE>, part: Part)
+    requires { length file.old.items + length (part_bytes part) ≤ longest_file }
+    ensures { file.new.items ≡ file.old.items ++ part_bytes part }
+{
+    let fields = part.kind.fields(part.a, part.b);
+    push_number(file, part.kind.number());
+    for field in &fields.numbers[..fields.count] {
+        push_number(file, u32::from(*field));
+    }
+}
+
+// The file of a board that breaks no rule.
+fn file(board: Board) -> ArrayVec<u8, LONGEST_FILE>
+    requires { board_fine board ≡ true }
+    ensures { result.items ≡ board_bytes board }
+{
+    let mut file = ArrayVec::new();
+    push_counts(&mut file, board.counts);
+    for part in &board.parts[..board.counts.parts] {
+        push_part(&mut file, *part);
+    }
+    file
+}
+
 // Writes a board's file at the start of the buffer: 15, then 16, with no byte written.
 pub fn write(board: Board, out: &mut [u8]) -> Written
     ensures { Writes board out.old result out.new }
@@ -35,14 +87,11 @@ pub fn write(board: Board, out: &mut [u8]) -> Written
     if !board::check(board) {
         return refuse(refusals::BROKEN_BOARD);
     }
-    let counts = board.counts;
-    let parts = board.parts;
-    let count = counts.parts;
-    let length = lengths::counts_length(counts) + lengths::parts_length(parts, count);
-    if out.len() < length {
+    let file = file(board);
+    let bytes = file.as_slice();
+    if out.len() < bytes.len() {
         return refuse(refusals::BUFFER_TOO_SHORT);
     }
-    let at = bytes::write_counts(counts, out);
-    bytes::write_parts(parts, count, out, at);
-    Written::Bytes(length)
+    out[..bytes.len()].copy_from_slice(bytes);
+    Written::Bytes(bytes.len())
 }
