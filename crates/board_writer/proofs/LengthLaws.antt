@@ -71,7 +71,7 @@ module _ {A : Type 0} (bytes : A → List ℕ) (i : ℕ) (d : A) (xs : List A) (
       )
 
   -- what was pushed behind a front that was there
-  module _ {front now : List ℕ} (so_far : now ≡ front ++ row_bytes bytes (take i xs)) where
+  module _ (front : List ℕ) {now : List ℕ} (so_far : now ≡ front ++ row_bytes bytes (take i xs)) where
     pub pushed-on : {now' : List ℕ} → now' ≡ now ++ bytes (get_or xs i d)
         → now' ≡ front ++ row_bytes bytes (take (i + 1) xs)
     pushed-on next =
@@ -84,7 +84,7 @@ module _ {A : Type 0} (bytes : A → List ℕ) (i : ℕ) (d : A) (xs : List A) (
         → length now + length (bytes (get_or xs i d)) ≤ m
     pushed-room room = omega (arith, room, row_room, ap length so_far, length-append front (row_bytes bytes (take i xs)))
 
-module _ {A : Type 0} (bytes : A → List ℕ) {xs : List A} {front now : List ℕ} where
+module _ {A : Type 0} (bytes : A → List ℕ) (xs : List A) (front : List ℕ) {now : List ℕ} where
   pub pushed-none : now ≡ front → now ≡ front ++ row_bytes bytes (take 0 xs)
   unfolding row_bytes
   pushed-none is = is ∙ sym (append-nil front)

@@ -4,49 +4,35 @@
 
 ghost use Rattle.std.specs.Prelude.{◌≡◌, ◌+◌, ◌≤◌, ◌++◌, true, length};
 ghost use Rattle.number.specs.Numbers.{number_bytes};
-ghost use Rattle.refusals.specs.Outcomes.{refused};
+ghost use Rattle.board.specs.Parts.{most_parts};
 ghost use Rattle.board.specs.Rules.{board_fine};
-ghost use Rattle.board_writer.specs.File.{numbers_bytes, counts_bytes, part_bytes, board_bytes, longest_file};
-ghost use Rattle.board_writer.specs.Writing.{told_written, Writes};
+ghost use Rattle.board_writer.specs.File.{counts_bytes, part_bytes, board_bytes, longest_file};
+ghost use Rattle.board_writer.specs.Writing.{Writes};
 
 use arrayvec::ArrayVec;
 use board::{Board, Counts, Part};
-use number::NumberWritten;
-use refusals::Refusal;
+use refusals::{No, Refusal, unless};
 
 // No board's file is longer, so a buffer of this length is never refused by 16.
 pub const LONGEST_FILE: usize = 1029;
 
-// What writing came to: the count of bytes, or the refusal.
-#[derive(Clone, Copy)]
-pub enum Written {
-    Bytes(usize),
-    Refused(Refusal),
-}
-
-// A refusal by number; a call's place is 0.
-fn refuse(number: u32) -> Written
-    ensures { told_written result ≡ refused number 0 }
-{
-    Written::Refused(Refusal { number, place: 0 })
-}
+// The longest form of a number, in bytes.
+const LONGEST_NUMBER: usize = 5;
 
 // Adds a number's bytes.
 fn push_number(file: &mut ArrayVec<u8, LONGEST_FILE>, value: u32)
     requires { length file.old.items + length (number_bytes value) ≤ longest_file }
     ensures { file.new.items ≡ file.old.items ++ number_bytes value }
 {
-    let mut bytes = [0; 5];
-    let NumberWritten::Next(length) = number::write_number(value, &mut bytes, 0) else {
-        return;
-    };
+    let mut bytes = [0; LONGEST_NUMBER];
+    let length = number::write_number(value, &mut bytes, 0).unwrap();
     file.try_extend_from_slice(&bytes[..length]).unwrap();
 }
 
 // Adds T, R, B and C.
 fn push_counts(file: &mut ArrayVec<u8, LONGEST_FILE>, counts: Counts)
     requires room { length file.old.items + length (counts_bytes counts) ≤ longest_file }
-    requires parts { counts.parts ≤ 256 }
+    requires parts { counts.parts ≤ most_parts }
     ensures { file.new.items ≡ file.old.items ++ counts_bytes counts }
 {
     push_number(file, u32::from(counts.terminals));
@@ -60,10 +46,10 @@ fn push_part(file: &mut ArrayVec<u8, LONGEST_FILE>, part: Part)
     requires { length file.old.items + length (part_bytes part) ≤ longest_file }
     ensures { file.new.items ≡ file.old.items ++ part_bytes part }
 {
-    let fields = part.kind.fields(part.a, part.b);
     push_number(file, part.kind.number());
-    for field in &fields.numbers[..fields.count] {
-        push_number(file, u32::from(*field));
+    let fields = part.kind.fields(part.a, part.b);
+    for &field in fields.as_slice() {
+        push_number(file, u32::from(field));
     }
 }
 
@@ -74,24 +60,20 @@ fn file(board: Board) -> ArrayVec<u8, LONGEST_FILE>
 {
     let mut file = ArrayVec::new();
     push_counts(&mut file, board.counts);
-    for part in &board.parts[..board.counts.parts] {
-        push_part(&mut file, *part);
+    for &part in board.parts() {
+        push_part(&mut file, part);
     }
     file
 }
 
 // Writes a board's file at the start of the buffer: 15, then 16, with no byte written.
-pub fn write(board: Board, out: &mut [u8]) -> Written
+pub fn write(board: Board, out: &mut [u8]) -> Result<usize, Refusal>
     ensures { Writes board out.old result out.new }
 {
-    if !board::check(board) {
-        return refuse(refusals::BROKEN_BOARD);
-    }
+    unless(board::check(board), No::BrokenBoard)?;
     let file = file(board);
     let bytes = file.as_slice();
-    if out.len() < bytes.len() {
-        return refuse(refusals::BUFFER_TOO_SHORT);
-    }
+    unless(bytes.len() <= out.len(), No::BufferTooShort)?;
     out[..bytes.len()].copy_from_slice(bytes);
-    Written::Bytes(bytes.len())
+    Ok(bytes.len())
 }

@@ -1,3 +1,4 @@
+-- `board_writer::file`: the parts so far stand behind the counts.
 use Rattle.std.proofs.Common.{◌≡◌, ◌++◌, take}
 use Rattle.board_writer.specs.File.{counts_bytes, parts_bytes}
 use Rattle.board_writer.proofs.file.Given as goal
