@@ -7,7 +7,7 @@ use mathlib.Core.List.{List}
 use lib.Dec.{leb, ltb}
 use borrow.Author.Tests.{le-leb, lt-leb, leb-true, eq-eqb, ne_eqb}
 use Rattle.refusals.specs.declared.Found.{Found}
-use Rattle.refusals.specs.Outcomes.{Outcome, given, refused, found, ◌>>◌, unless}
+use Rattle.refusals.specs.Outcomes.{given, refused, found, ◌>>◌, unless}
 use Rattle.refusals.specs.Refusals.{no_such_name}
 use Rattle.number.specs.Numbers.{number_at}
 use Rattle.kinds.specs.Kinds.{wire_kind}

@@ -1,13 +1,13 @@
 -- Laws of `ends_at` and `part_at`: each way out of reading one part as an outcome of the definition, and the bounds on
 -- what was found.
 use Prim.Native.Nat.{ℕ, ◌<◌, ◌≤◌}
-use mathlib.Core.Path.{◌≡◌, ap, ◌∙◌}
+use mathlib.Core.Path.{◌≡◌}
 use mathlib.Core.Bool.{Bool, true, false, cond}
 use mathlib.Core.List.{List}
 use native.Mathlib.Omega.{arith}
 use lib.Dec.{ltb, eqb}
 use borrow.Author.Tests.{eq-eqb, ne_eqb, ltb-true}
-use Rattle.refusals.specs.Outcomes.{Outcome, refused, found}
+use Rattle.refusals.specs.Outcomes.{refused, found}
 use Rattle.refusals.specs.Refusals.{no_such_kind, no_such_terminal, ends_equal, no_such_name, winding_taken}
 use Rattle.refusals.specs.Refusals.{marked_twice}
 use Rattle.windings.specs.declared.WoundSoFar.{WoundSoFar}

@@ -1,6 +1,6 @@
 -- Reading is refused by numbers of the table alone.
 use Prim.Native.Nat.{ℕ, zero, suc}
-use mathlib.Core.Path.{◌≡◌, refl, sym, subst}
+use mathlib.Core.Path.{refl, sym, subst}
 use mathlib.Core.Bool.{Bool, true, false, cond}
 use mathlib.Core.List.{List}
 use lib.Dec.{eqb}
@@ -8,19 +8,17 @@ use Rattle.refusals.specs.declared.No.{No}
 use Rattle.refusals.specs.declared.No.TheVariants.{OutOfRange, NoSuchKind, NoSuchTerminal, EndsEqual, NoSuchName}
 use Rattle.refusals.specs.declared.No.TheVariants.{WindingTaken, WindingLacking, InputTooLong, MarkedTwice}
 use Rattle.refusals.specs.declared.Found.{Found}
-use Rattle.refusals.specs.Refusals.{number_of, no_such_name}
-use Rattle.refusals.specs.Outcomes.{Outcome, given, refused, found}
+use Rattle.refusals.specs.Refusals.{number_of}
+use Rattle.refusals.specs.Outcomes.{Outcome}
 use Rattle.refusals.proofs.Tabled.{Tabled, gives, refuses, tabled_given, tabled_then, tabled_both, tabled-unless}
 use Rattle.number.proofs.NumberLaws.{number_tabled}
 use Rattle.windings.specs.declared.WoundSoFar.{WoundSoFar}
 use Rattle.kinds.specs.Kinds.{wire_kind, mark_kind}
 use Rattle.windings.specs.Windings.{none_wound, gained}
-use Rattle.board.specs.declared.Part.{Part}
 use Rattle.board.specs.declared.Counts.{Counts}
 use Rattle.board.specs.declared.Board.{Board}
-use Rattle.board.specs.Rules.{limit_of}
 use Rattle.board_reader.specs.Editions.{Edition}
-use Rattle.board_reader.specs.Reading.{wanted, counts_at, name_at, no_ends, ends_at, part_at, parts_at, board_from}
+use Rattle.board_reader.specs.Reading.{wanted, counts_at, name_at, ends_at, part_at, parts_at, board_from}
 use Rattle.board_reader.specs.Reading.{board_at, answered, reading}
 
 cond_tabled : {A : Type 0} (t : Bool) (o q : Outcome A) → Tabled o → Tabled q → Tabled (cond t o q)

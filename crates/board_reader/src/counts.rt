@@ -11,6 +11,7 @@ use board::Counts;
 use refusals::{Found, No, Refusal};
 
 // The count at a place, refused by 3 there unless it is from low to high.
+#[tactic(auto, unfolding(crate::specs::Reading::wanted, board::specs::Rules::in_range))]
 fn read_count(s: &[u8], at: usize, low: u32, high: u32) -> Result<Found<u32>, Refusal>
     ensures { told result ≡ wanted current_edition (in_range low high) out_of_range s.now at }
 {
@@ -22,7 +23,12 @@ fn read_count(s: &[u8], at: usize, low: u32, high: u32) -> Result<Found<u32>, Re
 pub fn read_counts(s: &[u8]) -> Result<Found<Counts>, Refusal>
     ensures { told result ≡ counts_at current_edition s.now }
 {
-    let read = read_count(s, 0, u32::from(board::LEAST_TERMINALS), u32::from(board::MOST_TERMINALS));
+    let read = read_count(
+        s,
+        0,
+        u32::from(board::LEAST_TERMINALS),
+        u32::from(board::MOST_TERMINALS),
+    );
     let Ok(terminals) = read else {
         return Err(read.unwrap_err());
     };

@@ -30,7 +30,7 @@ fn read_board(s: &[u8]) -> Result<Found<Board>, Refusal>
     ensures { answered (told result) ≡ reading current_edition s.now }
 {
     if LONGEST_INPUT < s.len() {
-        return Err(No::InputTooLong.into());
+        return fields::refuse(No::InputTooLong, 0);
     }
     let read = counts::read_counts(s);
     let Ok(counts) = read else {
@@ -40,16 +40,14 @@ fn read_board(s: &[u8]) -> Result<Found<Board>, Refusal>
     let Ok(row) = read else {
         return Err(read.unwrap_err());
     };
+    let parts = row.value.parts;
     let windings = row.value.windings;
     if !windings.complete(counts.value.relays) {
-        return Err(Refusal {
-            no: No::WindingLacking,
-            place: row.next,
-        });
+        return fields::refuse(No::WindingLacking, row.next);
     }
     let board = Board {
         counts: counts.value,
-        parts: row.value.parts,
+        parts,
         start: windings.marked,
     };
     Ok(Found {

@@ -1,9 +1,10 @@
 // Reading the parts of a board file: one part field by field, and all of them one after the other.
 ghost use Rattle.std.specs.Prelude.{◌≡◌, ◌≤◌};
 ghost use Rattle.refusals.specs.Outcomes.{told};
-ghost use Rattle.refusals.specs.Refusals.{no_such_terminal};
+ghost use Rattle.refusals.specs.Refusals.{no_such_kind, no_such_terminal};
+ghost use Rattle.kinds.specs.Kinds.{last_kind};
 ghost use Rattle.board.specs.Parts.{most_parts};
-ghost use Rattle.board.specs.Rules.{terminal_fine};
+ghost use Rattle.board.specs.Rules.{in_range, terminal_fine};
 ghost use Rattle.board_reader.specs.Editions.{current_edition};
 ghost use Rattle.board_reader.specs.Reading.{wanted, name_at, ends_at, part_at, parts_at};
 ghost use Rattle.board_reader.specs.Rows.{row_from};
@@ -21,7 +22,16 @@ pub struct Row {
     pub windings: WoundSoFar,
 }
 
+// The kind number at a place, refused by 4 there if it is above the last.
+#[tactic(auto, unfolding(crate::specs::Reading::wanted, board::specs::Rules::in_range))]
+fn read_kind(s: &[u8], at: usize) -> Result<Found<u32>, Refusal>
+    ensures { told result ≡ wanted current_edition (in_range 0 last_kind) no_such_kind s.now at }
+{
+    fields::read_wanted(s, at, |kind| kind <= kinds::LAST_KIND, No::NoSuchKind)
+}
+
 // The terminal at a place, refused by 5 there unless it is below T.
+#[tactic(auto, unfolding(crate::specs::Reading::wanted))]
 fn read_terminal(s: &[u8], at: usize, counts: Counts) -> Result<Found<u32>, Refusal>
     ensures { told result ≡ wanted current_edition (terminal_fine counts) no_such_terminal s.now at }
 {
@@ -30,7 +40,7 @@ fn read_terminal(s: &[u8], at: usize, counts: Counts) -> Result<Found<u32>, Refu
 }
 
 // The relay or button of a part of this kind number, refused by 7 unless it is there; a wire has none.
-#[tactic(auto, unfolding(crate::specs::Reading::name_at))]
+#[tactic(auto, unfolding(crate::specs::Reading::name_at, crate::specs::Reading::wanted))]
 fn read_name(s: &[u8], at: usize, counts: Counts, kind: u32) -> Result<Found<u32>, Refusal>
     ensures { told result ≡ name_at current_edition counts kind s.now at }
 {
@@ -61,10 +71,7 @@ fn read_ends(s: &[u8], at: usize, counts: Counts, kind: u32) -> Result<Found<(u8
         return Err(read.unwrap_err());
     };
     if a.value == b.value {
-        return Err(Refusal {
-            no: No::EndsEqual,
-            place: a.next,
-        });
+        return fields::refuse(No::EndsEqual, a.next);
     }
     Ok(Found {
         value: (a.value as u8, b.value as u8),
@@ -74,10 +81,15 @@ fn read_ends(s: &[u8], at: usize, counts: Counts, kind: u32) -> Result<Found<(u8
 
 // The part at a place, after parts that gave these windings and marks.
 #[tactic(auto, unfolding(crate::specs::Reading::part_at))]
-fn read_part(s: &[u8], at: usize, counts: Counts, windings: WoundSoFar) -> Result<Found<Part>, Refusal>
+fn read_part(
+    s: &[u8],
+    at: usize,
+    counts: Counts,
+    windings: WoundSoFar,
+) -> Result<Found<Part>, Refusal>
     ensures { told result ≡ part_at current_edition counts windings s.now at }
 {
-    let read = fields::read_wanted(s, at, |kind| kind <= kinds::LAST_KIND, No::NoSuchKind);
+    let read = read_kind(s, at);
     let Ok(number) = read else {
         return Err(read.unwrap_err());
     };
@@ -91,16 +103,10 @@ fn read_part(s: &[u8], at: usize, counts: Counts, windings: WoundSoFar) -> Resul
     };
     let kind = Kind::of(number.value, name.value as u8);
     if !windings.free(kind) {
-        return Err(Refusal {
-            no: No::WindingTaken,
-            place: ends.next,
-        });
+        return fields::refuse(No::WindingTaken, ends.next);
     }
     if !windings.unmarked(kind) {
-        return Err(Refusal {
-            no: No::MarkedTwice,
-            place: ends.next,
-        });
+        return fields::refuse(No::MarkedTwice, ends.next);
     }
     let (a, b) = ends.value;
     Ok(Found {
@@ -110,7 +116,12 @@ fn read_part(s: &[u8], at: usize, counts: Counts, windings: WoundSoFar) -> Resul
 }
 
 // The first C parts from a place on, after parts that gave these windings and marks.
-pub fn read_parts(s: &[u8], start: usize, counts: Counts, windings: WoundSoFar) -> Result<Found<Row>, Refusal>
+pub fn read_parts(
+    s: &[u8],
+    start: usize,
+    counts: Counts,
+    windings: WoundSoFar,
+) -> Result<Found<Row>, Refusal>
     requires { counts.parts ≤ most_parts }
     ensures { told result
         ≡ row_from windings (parts_at current_edition counts counts.parts windings s.now start) }
