@@ -339,7 +339,6 @@ module _ (l : List ℕ) (v : Winding) where
         lt-ltb v.a t below,
       ) refl
 
-  module _ (s : ℕ) where
 -- it is live exactly if it is not shunted and both its ends are served
 pub live_by_exactly : (s : ℕ) (l : List ℕ) (v : Winding)
     → live_by s l v ≡ true ↔ (shunted_by l v ≡ false) × (member s v.a ≡ true) × (member s v.b ≡ true)
