@@ -11,6 +11,11 @@ pub struct ByCall(pub Refusal);
 pub struct OfFile(pub Refusal);
 
 impl fmt::Display for ByCall {
+    ghost use Rattle.std.specs.Prelude.{Some};
+    ghost use Rattle.cases.specs.Printed.{by_call};
+
+    ghost output = { λ r. Some (by_call r.0) };
+
     fn fmt<W: fmt::Write>(&self, f: &mut fmt::Formatter<W>) -> fmt::Result {
         let refused = self.0;
         write!(f, "{}", refused.number)?;
@@ -22,6 +27,11 @@ impl fmt::Display for ByCall {
 }
 
 impl fmt::Display for OfFile {
+    ghost use Rattle.std.specs.Prelude.{Some};
+    ghost use Rattle.cases.specs.Printed.{of_file};
+
+    ghost output = { λ r. Some (of_file r.0) };
+
     fn fmt<W: fmt::Write>(&self, f: &mut fmt::Formatter<W>) -> fmt::Result {
         let refused = self.0;
         write!(f, "refused {} {}", refused.number, refused.place)
