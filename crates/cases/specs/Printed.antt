@@ -4,9 +4,10 @@
 use Rattle.std.specs.Prelude.{ℕ, List, [], ◌++◌, codes, cond, eqb}
 use Rattle.std.specs.Fmt.{decimal}
 use Rattle.refusals.specs.declared.Refusal.{Refusal}
+use Rattle.refusals.specs.Refusals.{number_of}
 
 abbrev pub by_call : Refusal → List ℕ
-by_call r = decimal r.number ++ cond (eqb r.place 0) [] (codes " " ++ decimal r.place)
+by_call r = decimal (number_of r.no) ++ cond (eqb r.place 0) [] (codes " " ++ decimal r.place)
 
 abbrev pub of_file : Refusal → List ℕ
-of_file r = codes "refused " ++ decimal r.number ++ codes " " ++ decimal r.place
+of_file r = codes "refused " ++ decimal (number_of r.no) ++ codes " " ++ decimal r.place

@@ -18,7 +18,7 @@ impl fmt::Display for ByCall {
 
     fn fmt<W: fmt::Write>(&self, f: &mut fmt::Formatter<W>) -> fmt::Result {
         let refused = self.0;
-        write!(f, "{}", refused.number)?;
+        write!(f, "{}", u32::from(refused.no))?;
         if refused.place != 0 {
             write!(f, " {}", refused.place)?;
         }
@@ -34,6 +34,6 @@ impl fmt::Display for OfFile {
 
     fn fmt<W: fmt::Write>(&self, f: &mut fmt::Formatter<W>) -> fmt::Result {
         let refused = self.0;
-        write!(f, "refused {} {}", refused.number, refused.place)
+        write!(f, "refused {} {}", u32::from(refused.no), refused.place)
     }
 }

@@ -4,7 +4,6 @@ use board::Board;
 use cases::handed;
 use judge::Which;
 use kept::Kept;
-use number::Number;
 use state::State;
 
 // A winding in a state with its kept sets.
@@ -33,14 +32,11 @@ impl<'c> Numbers<'c> {
 
     // The next.
     pub fn number(&mut self) -> u32 {
-        let read = self.next.map(|at| number::read_number(self.bytes, at));
-        if let Some(Number::Read(value, next)) = read {
-            self.next = Some(next);
-            value
-        } else {
-            self.next = None;
-            0
-        }
+        let read = self
+            .next
+            .and_then(|at| number::read_number(self.bytes, at).ok());
+        self.next = read.map(|found| found.next);
+        read.map_or(0, |found| found.value)
     }
 
     // The winding that the next four ask for: drawn, pushed, relay and which.

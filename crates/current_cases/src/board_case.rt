@@ -1,7 +1,6 @@
 // A case from its board on: the board is read, and what follows it is answered by the sort of the case.
 use crate::asked::Numbers;
 use crate::{divide_case, judge_case};
-use board_reader::ReadAnswer;
 use cases::refusal::OfFile;
 use std::io;
 use std::io::Write;
@@ -15,8 +14,8 @@ pub fn answer_case<W: Write>(
 ) -> io::Result<()> {
     let read = board_reader::read(bytes);
     match read.answer {
-        ReadAnswer::Refused(refused) => write!(out, "{}", OfFile(refused))?,
-        ReadAnswer::Read(next) => {
+        Err(refused) => write!(out, "{}", OfFile(refused))?,
+        Ok(next) => {
             let numbers = Numbers::from(bytes, next);
             match character {
                 b'@' => judge_case::answer_judgement(out, read.board, sets, numbers)?,

@@ -3,7 +3,7 @@
 use crate::asked::Numbers;
 use board::Board;
 use cases::refusal::ByCall;
-use divide::{Checked, Judgement};
+use divide::Judgement;
 use std::io;
 use std::io::Write;
 
@@ -19,10 +19,10 @@ pub fn answer_judgement<W: Write>(
         return write!(out, "bad case");
     }
     match divide::judge(board, winding.kept, winding.relay, winding.which) {
-        Judgement::Live => write!(out, "told live"),
-        Judgement::Shunted => write!(out, "told shunted"),
-        Judgement::Dead(lowest) => write!(out, "told dead {lowest}"),
-        Judgement::Refused(refused) => write!(out, "told refused {}", ByCall(refused)),
+        Ok(Judgement::Live) => write!(out, "told live"),
+        Ok(Judgement::Shunted) => write!(out, "told shunted"),
+        Ok(Judgement::Dead(lowest)) => write!(out, "told dead {lowest}"),
+        Err(refused) => write!(out, "told refused {}", ByCall(refused)),
     }
 }
 
@@ -39,8 +39,8 @@ pub fn answer_check<W: Write>(
         return write!(out, "bad case");
     }
     match divide::check(board, winding.kept, winding.relay, winding.which, x) {
-        Checked::Divides => write!(out, "checked divides"),
-        Checked::DividesNot => write!(out, "checked does not divide"),
-        Checked::Refused(refused) => write!(out, "checked refused {}", ByCall(refused)),
+        Ok(true) => write!(out, "checked divides"),
+        Ok(false) => write!(out, "checked does not divide"),
+        Err(refused) => write!(out, "checked refused {}", ByCall(refused)),
     }
 }

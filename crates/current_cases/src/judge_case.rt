@@ -26,10 +26,10 @@ fn print_chain<W: Write>(out: &mut W, terminals: &[u8; 64], length: usize) -> io
 fn print_verdict<W: Write>(out: &mut W, verdict: Verdict) -> io::Result<()> {
     let effort = verdict.effort;
     match verdict.finding {
-        Finding::Live => write!(out, "judged live {effort}")?,
-        Finding::Dead => write!(out, "judged dead {effort}")?,
-        Finding::Undecided => write!(out, "judged undecided {effort}")?,
-        Finding::Refused(refused) => {
+        Ok(Finding::Live) => write!(out, "judged live {effort}")?,
+        Ok(Finding::Dead) => write!(out, "judged dead {effort}")?,
+        Ok(Finding::Undecided) => write!(out, "judged undecided {effort}")?,
+        Err(refused) => {
             write!(out, "judged refused {}", ByCall(refused))?;
             if effort != 0 {
                 write!(out, " effort {effort}")?;

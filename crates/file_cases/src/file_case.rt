@@ -1,7 +1,6 @@
 // Board files: each is read, and the board that it gives is written back.
 use crate::print_written;
 use board::Board;
-use board_reader::ReadAnswer;
 use cases::refusal::OfFile;
 use std::io;
 use std::io::Write;
@@ -63,7 +62,7 @@ where
 {
     let read = board_reader::read(file);
     match read.answer {
-        ReadAnswer::Refused(refused) => writeln!(out, "{}", OfFile(refused)),
-        ReadAnswer::Read(next) => write(out, read.board, file, next),
+        Err(refused) => writeln!(out, "{}", OfFile(refused)),
+        Ok(next) => write(out, read.board, file, next),
     }
 }

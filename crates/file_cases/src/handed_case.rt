@@ -1,21 +1,21 @@
 // Boards handed in: their bytes are those of `cases::handed::board`.
 ghost use Rattle.std.specs.Prelude.{◌≡◌, length};
-ghost use Rattle.refusals.specs.Outcomes.{refused};
+ghost use Rattle.refusals.specs.Outcomes.{refused, told};
 ghost use Rattle.refusals.specs.Refusals.{buffer_too_short};
 ghost use Rattle.board_writer.specs.File.{longest_file};
-ghost use Rattle.board_writer.specs.Writing.{told_written};
 
 use crate::print_written;
 use board::Board;
-use board_writer::{LONGEST_FILE, Written};
+use board_writer::LONGEST_FILE;
 use cases::handed;
+use refusals::Refusal;
 use std::io;
 use std::io::Write;
 
 // Writes a board into a buffer as long as the longest file: none is refused by 16.
-fn write_any(board: Board, out: &mut [u8]) -> Written
+fn write_any(board: Board, out: &mut [u8]) -> Result<usize, Refusal>
     requires { length out.old ≡ longest_file }
-    ensures { ¬ (told_written result ≡ refused buffer_too_short 0) }
+    ensures { ¬ (told result ≡ refused buffer_too_short 0) }
 {
     board_writer::write(board, out)
 }

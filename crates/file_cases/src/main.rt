@@ -7,17 +7,17 @@
 mod file_case;
 mod handed_case;
 
-use board_writer::Written;
 use cases::refusal::ByCall;
 use cases::typed::{self, Besides};
+use refusals::Refusal;
 use std::io;
 use std::io::Write;
 
 // Prints what writing came to.
-fn print_written<W: Write>(out: &mut W, written: Written) -> io::Result<()> {
+fn print_written<W: Write>(out: &mut W, written: Result<usize, Refusal>) -> io::Result<()> {
     match written {
-        Written::Bytes(length) => write!(out, "{length}"),
-        Written::Refused(refused) => write!(out, "refused {}", ByCall(refused)),
+        Ok(length) => write!(out, "{length}"),
+        Err(refused) => write!(out, "refused {}", ByCall(refused)),
     }
 }
 

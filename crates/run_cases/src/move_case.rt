@@ -2,7 +2,7 @@
 use crate::asked::Asked;
 use crate::print_left;
 use cases::refusal::ByCall;
-use moves::{Move, MoveAnswer};
+use moves::Move;
 use std::io;
 use std::io::Write;
 
@@ -10,11 +10,11 @@ use std::io::Write;
 pub fn answer_move<W: Write>(out: &mut W, asked: Asked) -> io::Result<()> {
     let moved = moves::move_relay(asked.board, asked.kept, asked.number);
     match moved.answer {
-        MoveAnswer::Says(Move::Drew) => write!(out, "moved drew")?,
-        MoveAnswer::Says(Move::Dropped) => write!(out, "moved dropped")?,
-        MoveAnswer::Says(Move::Rests) => write!(out, "moved rests")?,
-        MoveAnswer::Says(Move::Conflict) => write!(out, "moved conflict")?,
-        MoveAnswer::Refused(refused) => write!(out, "moved refused {}", ByCall(refused))?,
+        Ok(Move::Drew) => write!(out, "moved drew")?,
+        Ok(Move::Dropped) => write!(out, "moved dropped")?,
+        Ok(Move::Rests) => write!(out, "moved rests")?,
+        Ok(Move::Conflict) => write!(out, "moved conflict")?,
+        Err(refused) => write!(out, "moved refused {}", ByCall(refused))?,
     }
     print_left::print_state(out, moved.kept.state)?;
     print_left::print_sets(out, asked, moved.kept)

@@ -2,15 +2,15 @@
 use crate::asked::Asked;
 use crate::print_left;
 use cases::refusal::ByCall;
-use presses::{Press, Pressed};
+use presses::Pressed;
 use std::io;
 use std::io::Write;
 
 // Prints what a push or a release came to and what it left.
 pub fn print_pressed<W: Write>(out: &mut W, asked: Asked, pressed: Pressed) -> io::Result<()> {
     match pressed.answer {
-        Press::Done => write!(out, "pressed done")?,
-        Press::Refused(refused) => write!(out, "pressed refused {}", ByCall(refused))?,
+        Ok(()) => write!(out, "pressed done")?,
+        Err(refused) => write!(out, "pressed refused {}", ByCall(refused))?,
     }
     print_left::print_state(out, pressed.kept.state)?;
     print_left::print_sets(out, asked, pressed.kept)

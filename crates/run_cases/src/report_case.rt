@@ -2,7 +2,6 @@
 // handed in are not looked at.
 use crate::asked::Asked;
 use cases::refusal::ByCall;
-use refusals::Against;
 use std::io;
 use std::io::Write;
 
@@ -10,7 +9,7 @@ use std::io::Write;
 pub fn answer_report<W: Write>(out: &mut W, asked: Asked) -> io::Result<()> {
     let reported = report::report(asked.board, asked.number as usize);
     write!(out, "reported")?;
-    if let Against::Refused(refused) = reported.against {
+    if let Err(refused) = reported.answer {
         write!(out, " refused {}", ByCall(refused))?;
     }
     let figures = reported.figures;

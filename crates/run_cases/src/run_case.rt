@@ -2,6 +2,7 @@
 use crate::asked::Asked;
 use crate::print_left;
 use cases::refusal::ByCall;
+use refusals::Refusal;
 use runs::Ending;
 use std::io;
 use std::io::Write;
@@ -16,13 +17,13 @@ const UNTOUCHED: u8 = 0xaa;
 const MOST_SHOWN: usize = 40;
 
 // Prints the word that a run ended with.
-fn print_word<W: Write>(out: &mut W, word: Ending) -> io::Result<()> {
+fn print_word<W: Write>(out: &mut W, word: Result<Ending, Refusal>) -> io::Result<()> {
     match word {
-        Ending::Idle => write!(out, "ran idle"),
-        Ending::Spent => write!(out, "ran spent"),
-        Ending::Conflict => write!(out, "ran conflict"),
-        Ending::Buzz => write!(out, "ran buzz"),
-        Ending::Refused(refused) => write!(out, "ran refused {}", ByCall(refused)),
+        Ok(Ending::Idle) => write!(out, "ran idle"),
+        Ok(Ending::Spent) => write!(out, "ran spent"),
+        Ok(Ending::Conflict) => write!(out, "ran conflict"),
+        Ok(Ending::Buzz) => write!(out, "ran buzz"),
+        Err(refused) => write!(out, "ran refused {}", ByCall(refused)),
     }
 }
 
