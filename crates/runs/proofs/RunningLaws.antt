@@ -1,11 +1,13 @@
 -- Laws of a run as a call: when nothing stands against it, what it tells by what does, and that an answer is known by
 -- what it tells.
 use Prim.Native.Nat.{ℕ, ◌≤◌}
-use mathlib.Core.Path.{◌≡◌, refl, sym, subst, ◌∙◌}
+use mathlib.Core.Path.{◌≡◌, refl, sym, ap, subst, ◌∙◌}
 use mathlib.Core.List.{List, []}
+use Rattle.std.specs.Prelude.{Result, Ok, Err}
 use lib.ListN.{length}
 use lib.Dec.{leb}
 use borrow.Author.Tests.{le-leb}
+use Rattle.refusals.specs.declared.Refusal.{Refusal}
 use Rattle.refusals.specs.Outcomes.{Outcome, given, refused, ◌>>◌, unless}
 use Rattle.refusals.specs.Refusals.{log_too_long}
 use Rattle.refusals.specs.Order.{first_no, answering}
@@ -16,11 +18,11 @@ use Rattle.kept.specs.declared.Kept.{Kept}
 use Rattle.kept.specs.Kept.{kept_at, usable_lines, usable}
 use Rattle.kept.proofs.KeptLaws.{usable_lines_lem}
 use Rattle.runs.specs.declared.Ending as code-ending
-use Rattle.runs.specs.declared.Ending.TheVariants.{Idle, Spent, Conflict, Buzz, Refused}
+use Rattle.runs.specs.declared.Ending.TheVariants.{Idle, Spent, Conflict, Buzz}
 use Rattle.runs.specs.declared.Ran.{Ran}
 use Rattle.runs.specs.Runs.{Ending, idle, spent, conflict, buzz}
 use Rattle.runs.specs.Running as told
-use Rattle.runs.specs.Running.{longest_log, runnable, ran, unrun, ran_over, running, told_ending, told_ran}
+use Rattle.runs.specs.Running.{longest_log, runnable, ran, unrun, ran_over, running, told_ending, told_as, told_ran}
 
 -- what a run leaves has the sets of its state
 abbrev pub LeavesOwn : Board → told.Ran → Type 0
@@ -79,28 +81,42 @@ module _ (b : Board) (h : Kept) (log : List ℕ) where
 
 -- ---- answers and what they tell
 
+said_ending : Ending → code-ending.Ending
+said_ending idle = Idle
+said_ending spent = Spent
+said_ending conflict = Conflict
+said_ending buzz = Buzz
+
+ending_back : (x : code-ending.Ending) → said_ending (told_ending x) ≡ x
+unfolding said_ending
+ending_back Idle = refl
+ending_back Spent = refl
+ending_back Conflict = refl
+ending_back Buzz = refl
+
+ending_onto : (e : Ending) → told_ending (said_ending e) ≡ e
+unfolding said_ending
+ending_onto idle = refl
+ending_onto spent = refl
+ending_onto conflict = refl
+ending_onto buzz = refl
+
 pub ending-told : Told told_ending
-ending-told = record { untold = untold; back = back; onto = onto }
+ending-told = record { untold = said_ending; back = ending_back; onto = ending_onto }
+
+word_told : Told (told_as told_ending)
+word_told = record { untold = untold; back = back; onto = onto }
   where
-    untold : Outcome Ending → code-ending.Ending
-    untold (given idle) = Idle
-    untold (given spent) = Spent
-    untold (given conflict) = Conflict
-    untold (given buzz) = Buzz
-    untold (refused n p) = Refused (record { number = n; place = p })
+    untold : Outcome Ending → Result code-ending.Ending Refusal
+    untold (given e) = Ok (said_ending e)
+    untold (refused n p) = Err (record { number = n; place = p })
 
-    back : (x : code-ending.Ending) → untold (told_ending x) ≡ x
-    back Idle = refl
-    back Spent = refl
-    back Conflict = refl
-    back Buzz = refl
-    back (Refused r) = refl
+    back : (x : Result code-ending.Ending Refusal) → untold (told_as told_ending x) ≡ x
+    back (Ok e) = ap Ok (ending_back e)
+    back (Err r) = refl
 
-    onto : (y : Outcome Ending) → told_ending (untold y) ≡ y
-    onto (given idle) = refl
-    onto (given spent) = refl
-    onto (given conflict) = refl
-    onto (given buzz) = refl
+    onto : (y : Outcome Ending) → told_as told_ending (untold y) ≡ y
+    onto (given e) = ap given (ending_onto e)
     onto (refused n p) = refl
 
 -- the answer and the log afterwards
@@ -110,7 +126,7 @@ ran-told = record { untold = untold; back = back; onto = onto }
     untold : told.Ran → Ran × List ℕ
     untold a = (
       record {
-        word = ending-told.untold a.word;
+        word = word_told.untold a.word;
         moves = a.moves;
         kept = a.kept;
         relay = a.relay;
@@ -123,7 +139,7 @@ ran-told = record { untold = untold; back = back; onto = onto }
     back : (x : Ran × List ℕ) → untold (told_ran x.0 x.1) ≡ x
     back (a, l) = λ i. (
       record {
-        word = ending-told.back a.word i;
+        word = word_told.back a.word i;
         moves = a.moves;
         kept = a.kept;
         relay = a.relay;
@@ -136,7 +152,7 @@ ran-told = record { untold = untold; back = back; onto = onto }
     onto : (y : told.Ran) → told_ran (untold y).0 (untold y).1 ≡ y
     onto y =
         λ i. record {
-          word = ending-told.onto y.word i;
+          word = word_told.onto y.word i;
           moves = y.moves;
           kept = y.kept;
           relay = y.relay;

@@ -15,7 +15,8 @@
 --     running b h log        the call
 --     told_ending, told_ran  the answer's cases in the rule book's words and numbers
 --     Runs b h log a l       promise: `run` of board b from h over the lent log answers a and leaves the log as l
-use Rattle.std.specs.Prelude.{ℕ, ◌≡◌, List, [], ◌∷◌, ◌++◌, leb, length, drop}
+use Rattle.std.specs.Prelude.{ℕ, ◌≡◌, Result, Ok, Err, List, [], ◌∷◌, ◌++◌, leb, length, drop}
+use Rattle.refusals.specs.declared.Refusal.{Refusal}
 use Rattle.refusals.specs.Outcomes.{Outcome, given, refused}
 use Rattle.refusals.specs.Refusals.{log_too_long}
 use Rattle.refusals.specs.Order.{Order, first_no, answering}
@@ -72,18 +73,21 @@ ran_over b h log = ran (kept_at b) (run_on b (length log) h.state) log
 unfoldable pub running : Board → Kept → List ℕ → Ran
 running b h log = answering (runnable b h log) (λ n p. unrun n p h log) (λ u. ran_over b h log)
 
-abbrev pub told_ending : code-ending.Ending → Outcome Ending
-told_ending said.Idle = given idle
-told_ending said.Spent = given spent
-told_ending said.Conflict = given conflict
-told_ending said.Buzz = given buzz
-told_ending (said.Refused r) = refused r.number r.place
+abbrev pub told_ending : code-ending.Ending → Ending
+told_ending said.Idle = idle
+told_ending said.Spent = spent
+told_ending said.Conflict = conflict
+told_ending said.Buzz = buzz
+
+abbrev pub told_as : {A B : Type 0} → (A → B) → Result A Refusal → Outcome B
+told_as f (Ok a) = given (f a)
+told_as f (Err r) = refused r.number r.place
 
 -- the answer r, with the log l afterwards
 abbrev pub told_ran : code-ran.Ran → List ℕ → Ran
 told_ran r l =
     record {
-      word = told_ending r.word;
+      word = told_as told_ending r.word;
       moves = r.moves;
       kept = r.kept;
       relay = r.relay;

@@ -2,7 +2,7 @@
 // that a long run need not look back after every move, each state that it comes through cuts a notch; where there is no
 // notch at the place of the drawn relays, they were not drawn before.
 ghost use Rattle.std.specs.Prelude.{◌≡◌, ◌≤◌, ◌<◌, length};
-ghost use Rattle.runs.specs.LookingBack.{back_from, most_words, notch_place, has_notch, with_notch, Spares};
+ghost use Rattle.runs.specs.LookingBack.{back_from, ago_of, most_words, notch_place, has_notch, with_notch, Spares};
 
 use crate::DRAW_MARK;
 
@@ -41,33 +41,31 @@ fn notch(notches: &mut [u64], drawn: u64)
     );
 }
 
-// How many moves ago these relays were drawn, and no others; 0 if they were not before.
-fn met_ago(log: &[u8], moves: usize, drawn: u64) -> usize
+// How many moves ago these relays were drawn, and no others, if they were before.
+fn met_ago(log: &[u8], moves: usize, drawn: u64) -> Option<usize>
     requires { moves ≤ length log.now }
-    ensures { result ≡ back_from log.now moves drawn moves drawn }
+    ensures { result ≡ ago_of (back_from log.now moves drawn moves drawn) }
 {
     let mut was = drawn;
-    let mut i = moves;
-    while 0 < i {
-        i -= 1;
-        was = bits::flip(was, bits::wide(log[i] % DRAW_MARK));
+    for i in (0..moves).rev() {
+        was = bits::flip(was, u32::from(log[i] % DRAW_MARK));
         if was == drawn {
-            return moves - i;
+            return Some(moves - i);
         }
     }
-    0
+    None
 }
 
 // The same, looking back only where there is a notch; and cuts one.
-pub fn look_back(notches: &mut [u64], log: &[u8], moves: usize, drawn: u64) -> usize
+pub fn look_back(notches: &mut [u64], log: &[u8], moves: usize, drawn: u64) -> Option<usize>
     requires some_notches { 0 < length notches.old }
     requires notches_few { length notches.old ≤ most_words }
     requires moves_logged { moves ≤ length log.now }
     requires spares { Spares notches.old log.now moves drawn }
-    ensures looked_back { result ≡ back_from log.now moves drawn moves drawn }
+    ensures looked_back { result ≡ ago_of (back_from log.now moves drawn moves drawn) }
     ensures notched { notches.new ≡ with_notch notches.old drawn }
 {
     let known = is_notched(notches, drawn);
     notch(notches, drawn);
-    if known { met_ago(log, moves, drawn) } else { 0 }
+    if known { met_ago(log, moves, drawn) } else { None }
 }

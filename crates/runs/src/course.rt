@@ -12,11 +12,6 @@ use board::Board;
 use kept::Kept;
 use moves::Move;
 
-// Why a run stopped: the word, the relay that stopped it, and, where it met its state, the moves up to then and
-// between.
-#[derive(Clone, Copy)]
-struct Stop(Ending, u8, usize, usize);
-
 // The log byte of a move: the relay number, plus 128 for a draw.
 fn byte(relay: u8, motion: Move) -> u8
     requires { relay < draw_mark }
@@ -24,9 +19,7 @@ fn byte(relay: u8, motion: Move) -> u8
 {
     match motion {
         Move::Drew => relay + DRAW_MARK,
-        Move::Dropped => relay,
-        Move::Rests => relay,
-        Move::Conflict => relay,
+        Move::Dropped | Move::Rests | Move::Conflict => relay,
     }
 }
 
@@ -45,40 +38,33 @@ pub fn follow(board: Board, start: Kept, log: &mut [u8], notches: &mut [u64]) ->
     let windings = judge::find_all_windings(board);
     let mut kept = start;
     let mut moves = 0;
-    let stop = 'run: loop {
+    let (word, relay, earlier, between) = 'run: loop {
         let state = kept.state;
-        let ago = back::look_back(notches, log, moves, state.drawn);
-        if ago != 0 {
-            let earlier = moves - ago;
-            break 'run Stop(Ending::Buzz, NO_RELAY, earlier, ago);
+        if let Some(ago) = back::look_back(notches, log, moves, state.drawn) {
+            break 'run (Ending::Buzz, NO_RELAY, moves - ago, ago);
         }
-        let sets = kept.sets;
-        let feed = feed::feed_by(sets, board.counts.terminals);
-        let mut relay = 0;
-        'scan: loop {
-            if relays <= relay {
-                break 'run Stop(Ending::Idle, NO_RELAY, 0, 0);
-            }
-            let drawn = state.is_drawn(bits::wide(relay));
-            let motion = moves::step(feed.served, &feed.linked, windings[relay as usize], drawn);
+        let feed = feed::feed_by(kept.sets, board.counts.terminals);
+        'scan: for relay in 0..relays {
+            let drawn = state.is_drawn(u32::from(relay));
+            let motion = moves::step(feed.served, &feed.linked, windings[usize::from(relay)], drawn);
             match motion {
-                Move::Rests => relay += 1,
-                Move::Conflict => break 'run Stop(Ending::Conflict, relay, 0, 0),
+                Move::Rests => {}
+                Move::Conflict => break 'run (Ending::Conflict, relay, 0, 0),
                 Move::Drew | Move::Dropped => {
                     if log.len() <= moves {
-                        break 'run Stop(Ending::Spent, relay, 0, 0);
+                        break 'run (Ending::Spent, relay, 0, 0);
                     }
                     log[moves] = byte(relay, motion);
-                    kept = moves::after(board, kept, bits::wide(relay), motion);
+                    kept = moves::after(board, kept, u32::from(relay), motion);
                     moves += 1;
-                    break 'scan;
+                    continue 'run;
                 }
             }
         }
+        break 'run (Ending::Idle, NO_RELAY, 0, 0);
     };
-    let Stop(word, relay, earlier, between) = stop;
     Ran {
-        word,
+        word: Ok(word),
         moves,
         kept,
         relay,

@@ -32,20 +32,19 @@ const FEW_WORDS: usize = 408;
 const MANY_WORDS: usize = 12_500;
 
 // How a run ends.
-#[derive(Clone, Copy)]
+#[derive(Clone, Copy, Debug, PartialEq, Eq)]
 pub enum Ending {
     Idle,
     Spent,
     Conflict,
     Buzz,
-    Refused(Refusal),
 }
 
-// The answer to a run: the word, the moves made, the state with the kept sets, the relay that stopped it, and, where it
-// buzzes, the moves made up to the earlier state and the moves between.
+// The answer to a run: its word or the refusal, the moves made, the state with the kept sets, the relay that stopped it,
+// and, where it buzzes, the moves made up to the earlier state and the moves between.
 #[derive(Clone, Copy)]
 pub struct Ran {
-    pub word: Ending,
+    pub word: Result<Ending, Refusal>,
     pub moves: usize,
     pub kept: Kept,
     pub relay: u8,
@@ -58,7 +57,7 @@ fn refuse(kept: Kept, refusal: Refusal) -> Ran
     ensures { told_ran result [] ≡ unrun refusal.number refusal.place kept [] }
 {
     Ran {
-        word: Ending::Refused(refusal),
+        word: Err(refusal),
         moves: 0,
         kept,
         relay: NO_RELAY,

@@ -16,10 +16,6 @@ invariant-scan l =
     ScanSoFar (step_of l.board) (seeing l.feed l.windings) l.relays l.initial.log l.initial.moves l.initial.kept l.log
     l.moves l.kept l.relay
 
-abbrev pub decreases-scan : goal.decreases-scan
-decreases-scan l =
-    l.relays - l.relay
-
 abbrev pub invariant-run : goal.invariant-run
 invariant-run l =
     Course (step_of l.board) (kept_at l.board) l.relays
