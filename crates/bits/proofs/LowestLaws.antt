@@ -4,12 +4,14 @@ use Prim.Native.Nat.{ℕ, zero, suc, ◌+◌, ◌-◌, ◌/◌, ◌%◌, ◌^◌
 use native.Mathlib.Omega.{arith}
 use native.Mathlib.Nat.{mod-lt, zero-lt-suc}
 use native.Mathlib.Numerals.{add-one}
-use mathlib.Core.Path.{◌≡◌, refl, ap, sym, ◌∙◌}
+use mathlib.Core.Path.{◌≡◌, refl, ap, sym, ◌∙◌, subst}
 use mathlib.Core.Bool.{Bool, true, false, cond}
+use Rattle.std.specs.Prelude.{Some, None}
 use lib.Count.{count_trailing_zeros, under, trailing_le}
-use lib.Dec.{eqb}
+use lib.Dec.{eqb, ltb}
+use borrow.Author.Tests.{ltb-true, ltb-false, lt-ltb, le-ltb}
 use lib.Pow.{shr-shr}
-use Rattle.bits.specs.Sets.{room, member, first_from, lowest_from}
+use Rattle.bits.specs.Sets.{room, member, first_from, lowest_from, member_from}
 use Rattle.bits.proofs.BoolLaws.{by_test, by_less}
 
 -- ---- the first number that passes
@@ -137,3 +139,44 @@ lowest_trailing s n m start e =
 pub lowest-beyond : (s n : ℕ) → room ≤ n → n ≡ lowest_from s n
 unfolding lowest_from
 lowest-beyond s n past = first_end (member s) room n past
+
+-- ---- the lowest member, if there is one
+
+member_from-some : (s n m : ℕ) → m < room → m ≡ lowest_from s n → Some m ≡ member_from s n
+unfolding member_from
+member_from-some s n m low e =
+    subst (λ (k : ℕ). Some m ≡ cond (ltb k room) (Some k) None) e (rw (lt-ltb m room low) refl)
+
+member_from-none : (s n : ℕ) → room ≤ lowest_from s n → None ≡ member_from s n
+unfolding member_from
+member_from-none s n past = rw (le-ltb (lowest_from s n) room past) refl
+
+pub trailing-some : (s n m : ℕ) → n ≤ room → m ≡ n + count_trailing_zeros room (s / 2 ^ n) → m < room
+    → Some m ≡ member_from s n
+trailing-some s n m start e low = member_from-some s n m low ((lowest_trailing s n m start e).0 low)
+
+pub trailing-none : (s n m : ℕ) → n ≤ room → m ≡ n + count_trailing_zeros room (s / 2 ^ n) → room ≤ m
+    → None ≡ member_from s n
+trailing-none s n m start e past =
+    member_from-none s n (omega (arith, (lowest_trailing s n m start e).1 past))
+
+pub member_from-beyond : (s n : ℕ) → room ≤ n → None ≡ member_from s n
+member_from-beyond s n past = member_from-none s n (omega (arith, past, lowest-beyond s n past))
+
+-- where there is one it is the lowest member and a number of a word; where there is none, the lowest is past a word
+pub member_from_found : (s n m : ℕ) → Some m ≡ member_from s n → (m < room) × (m ≡ lowest_from s n)
+unfolding member_from
+member_from_found s n m e =
+    by_test (ltb (lowest_from s n) room)
+    (λ low.
+    let found : Some m ≡ Some (lowest_from s n) = rw low at e in
+    let same : m ≡ lowest_from s n = cc in
+    (omega (arith, same, ltb-true (lowest_from s n) room low), same))
+    (λ past. let found : Some m ≡ None = rw past at e in absurd cc)
+
+pub member_from_lacks : (s n : ℕ) → None ≡ member_from s n → room ≤ lowest_from s n
+unfolding member_from
+member_from_lacks s n e =
+    by_test (ltb (lowest_from s n) room)
+    (λ low. let found : None ≡ Some (lowest_from s n) = rw low at e in absurd cc)
+    (λ past. ltb-false (lowest_from s n) room past)

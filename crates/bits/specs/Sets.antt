@@ -9,6 +9,7 @@
 --     first_from ok k n      the first of n, n + 1, … (k numbers) that passes the test `ok`; else the number after them
 --     lowest_from s n        the lowest member of s from n up; where there is none, the larger of n and the room of a
 --                            word
+--     member_from s n        the lowest member of s from n up, if there is one
 --     within s n             every member of s is below n
 --     sum_below k s          the sum of 2 ^ n over those members n of s that are below k
 --     SetHas s n r           promise: `has` of s and n answers r
@@ -19,10 +20,11 @@
 --     SetTogether s t r      promise: `together` of s and t answers r
 --     SetLowestFrom s n r    promise: `lowest_from` of s and n answers r
 --     SetAllBelow s n r      promise: `all_below` of s and n answers r
---     WideByte x r           promise: `wide` of the byte x answers r, which is below 256
+--     WideByte x r           promise: the byte x, taken as the number that the functions above take, is r, which is
+--                            below 256
 -- The rule book's sets are the drawn relays, the pushed buttons, the windings that each relay has, and the marked
 -- relays, which are a board's start; its "sum of 2 to the relay number over drawn relays" is such a set as a number.
-use Rattle.std.specs.Prelude.{ℕ, zero, suc, ◌+◌, ◌-◌, ◌/◌, ◌%◌, ◌^◌, ◌<◌, ◌≡◌, Bool, cond, ltb, eqb}
+use Rattle.std.specs.Prelude.{ℕ, zero, suc, ◌+◌, ◌-◌, ◌/◌, ◌%◌, ◌^◌, ◌<◌, ◌≡◌, Bool, cond, ltb, eqb, Option, Some, None}
 use Rattle.std.specs.Int.Bits.{bit_and, bit_or, bit_xor}
 
 unfoldable pub member : ℕ → ℕ → Bool
@@ -53,6 +55,9 @@ first_from ok (suc k) n = cond (ok n) n (first_from ok k (suc n))
 unfoldable pub lowest_from : ℕ → ℕ → ℕ
 lowest_from s n = first_from (member s) (room - n) n
 
+unfoldable pub member_from : ℕ → ℕ → Option ℕ
+member_from s n = cond (ltb (lowest_from s n) room) (Some (lowest_from s n)) None
+
 unfoldable pub within : ℕ → ℕ → Bool
 within s n = ltb s (2 ^ n)
 
@@ -78,8 +83,8 @@ SetRemaining s t r = r ≡ remaining s t
 abbrev pub SetTogether : ℕ → ℕ → ℕ → Type 0
 SetTogether s t r = r ≡ together s t
 
-abbrev pub SetLowestFrom : ℕ → ℕ → ℕ → Type 0
-SetLowestFrom s n r = r ≡ lowest_from s n
+abbrev pub SetLowestFrom : ℕ → ℕ → Option ℕ → Type 0
+SetLowestFrom s n r = r ≡ member_from s n
 
 abbrev pub SetAllBelow : ℕ → ℕ → Bool → Type 0
 SetAllBelow s n r = r ≡ within s n

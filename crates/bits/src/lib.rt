@@ -2,7 +2,7 @@
 #![tactic(auto)]
 
 ghost use Rattle.bits.specs.Sets.{SetHas, SetWith, SetWithout, SetRemaining, SetTogether, SetLowestFrom};
-ghost use Rattle.bits.specs.Sets.{SetAllBelow, SetFlipped, WideByte};
+ghost use Rattle.bits.specs.Sets.{SetAllBelow, SetFlipped};
 
 // How many numbers a word has room for.
 pub const ROOM: u32 = 64;
@@ -11,20 +11,14 @@ pub const ROOM: u32 = 64;
 pub fn has(set: u64, n: u32) -> bool
     ensures { SetHas set n result }
 {
-    if ROOM <= n {
-        return false;
-    }
-    (set >> n) % 2 == 1
+    n < ROOM && (set >> n) % 2 == 1
 }
 
 // The set with n as a member besides; as it is where a word has no room for n.
 pub fn with(set: u64, n: u32) -> u64
     ensures { SetWith set n result }
 {
-    if ROOM <= n {
-        return set;
-    }
-    set | (1 << n)
+    if n < ROOM { set | (1 << n) } else { set }
 }
 
 // The set without n.
@@ -55,33 +49,20 @@ pub fn together(set: u64, other: u64) -> u64
     set | other
 }
 
-// The lowest member from n up; where there is none, the room of a word, or n if that is more.
-pub fn lowest_from(set: u64, n: u32) -> u32
+// The lowest member from n up, if there is one.
+pub fn lowest_from(set: u64, n: u32) -> Option<u32>
     ensures { SetLowestFrom set n result }
 {
     if ROOM <= n {
-        return n;
+        return None;
     }
     let lowest = n + u64::trailing_zeros(set >> n);
-    if ROOM <= lowest {
-        return ROOM;
-    }
-    lowest
+    if lowest < ROOM { Some(lowest) } else { None }
 }
 
 // Whether every member is below n.
 pub fn all_below(set: u64, n: u32) -> bool
     ensures { SetAllBelow set n result }
 {
-    if ROOM <= n {
-        return true;
-    }
-    set >> n == 0
-}
-
-// A byte as the number that the functions above take.
-pub fn wide(x: u8) -> u32
-    ensures { WideByte x result }
-{
-    x as u32
+    ROOM <= n || set >> n == 0
 }

@@ -1,18 +1,17 @@
 -- Laws of a kind as its number and name: the two determine it, and each kind's number is at most the last. What the
 -- reader and the writer of board files need of a part's kind. And of the fields that the table gives a part: how many
 -- they are, what they are, and that with the kind's number they determine the kind.
-use Prim.Native.Nat.{ℕ, zero, suc, ◌-◌, ◌≤◌, ◌<◌}
+use Prim.Native.Nat.{ℕ, zero, suc, ◌≤◌, ◌<◌}
 use native.Mathlib.Omega.{arith}
 use mathlib.Core.Path.{◌≡◌, refl, sym, ap₂, ◌∙◌}
 use mathlib.Core.List.{List, [], ◌∷◌, ◌++◌}
 use mathlib.Core.Bool.{cond}
 use lib.Dec.{eqb}
-use lib.ListN.{length, get_or, take, replicate}
-use lib.Seq.{take-append_seam}
+use lib.ListN.{length, get_or}
 use Rattle.kinds.specs.declared.Kind.{Kind}
 use Rattle.kinds.specs.declared.Kind.TheVariants.{Wire, Upper, Lower, Button, Regular, Drawing, Dropping, Mark}
 use Rattle.kinds.specs.Kinds.{wire_kind, upper_kind, lower_kind, button_kind, regular_kind, drawing_kind, dropping_kind}
-use Rattle.kinds.specs.Kinds.{mark_kind, last_kind, kind_number, name_of, kind_of, fields, most_fields, in_places}
+use Rattle.kinds.specs.Kinds.{mark_kind, last_kind, kind_number, name_of, kind_of, fields, most_fields}
 
 pub kind_of_parts : (k : Kind) → kind_of (kind_number k) (name_of k) ≡ k
 unfolding kind_of
@@ -74,10 +73,6 @@ fields_few (Regular r) a b = omega arith
 fields_few (Drawing r) a b = omega arith
 fields_few (Dropping r) a b = omega arith
 fields_few (Mark r) a b = omega arith
-
--- the first of the places hold the numbers
-pub in_places_first : (vs : List ℕ) → take (in_places vs).count (in_places vs).numbers ≡ vs
-in_places_first vs = take-append_seam vs (replicate (most_fields - length vs) 0)
 
 -- both ends, unless the kind is a mark, and then the name, if the kind carries one
 abbrev pub end_fields : ℕ → ℕ → ℕ → List ℕ

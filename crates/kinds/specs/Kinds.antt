@@ -13,18 +13,15 @@
 --     kind_number k         the number of a kind in the rule book's table
 --     name_of k             the relay or button that a kind carries; 0 for a wire, which carries none
 --     kind_of k n           the kind of number k that carries n; above the last kind there is none (4), and it is
---                            taken
---                           for a mark
+--                           taken for a mark
 --     fields k a b          the fields that the table gives a part of kind k with the ends a and b, in its order
 --     most_fields           the most fields that a part has
---     in_places vs          the numbers vs in the first of as many places, the unused ones 0
 --     KindOf k n r          promise: `Kind::of` the number k and the name n answers r
 --     KindNumber k r        promise: `number` of kind k answers r
 --     KindName k r          promise: `name` of kind k answers r
---     KindFields k a b r    promise: `fields` of kind k on the terminals a and b answers r
-use Rattle.std.specs.Prelude.{ℕ, ◌-◌, ◌≡◌, cond, List, [], ◌∷◌, ◌++◌, eqb, length, replicate}
+--     KindFields k a b r    promise: `fields` of kind k on the terminals a and b answers the numbers r
+use Rattle.std.specs.Prelude.{ℕ, ◌≡◌, cond, List, [], ◌∷◌, eqb}
 use Rattle.kinds.specs.declared.Kind.{Kind}
-use Rattle.kinds.specs.declared.Fields.{Fields}
 use Rattle.kinds.specs.declared.Kind.TheVariants.{Wire, Upper, Lower, Button, Regular, Drawing, Dropping, Mark}
 
 abbrev pub wire_kind : ℕ
@@ -98,9 +95,6 @@ fields (Mark r) a b = r ∷ []
 abbrev pub most_fields : ℕ
 most_fields = 3
 
-abbrev pub in_places : List ℕ → Fields
-in_places vs = record { count = length vs; numbers = vs ++ replicate (most_fields - length vs) 0 }
-
 abbrev pub KindOf : ℕ → ℕ → Kind → Type 0
 KindOf k n r = r ≡ kind_of k n
 
@@ -110,5 +104,5 @@ KindNumber k r = r ≡ kind_number k
 abbrev pub KindName : Kind → ℕ → Type 0
 KindName k r = r ≡ name_of k
 
-abbrev pub KindFields : Kind → ℕ → ℕ → Fields → Type 0
-KindFields k a b r = r ≡ in_places (fields k a b)
+abbrev pub KindFields : Kind → ℕ → ℕ → List ℕ → Type 0
+KindFields k a b r = r ≡ fields k a b

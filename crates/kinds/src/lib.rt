@@ -2,12 +2,13 @@
 // fields.
 #![tactic(auto)]
 
-ghost use Rattle.std.specs.Prelude.{◌≡◌, [], ◌∷◌};
-ghost use Rattle.kinds.specs.Kinds.{in_places, KindOf, KindNumber, KindName, KindFields};
+ghost use Rattle.kinds.specs.Kinds.{KindOf, KindNumber, KindName, KindFields};
+
+use arrayvec::ArrayVec;
 
 // The kinds of part in the order of the rule book's table, each with its relay or button. A mark says that its relay
 // starts drawn (request A2).
-#[derive(Clone, Copy)]
+#[derive(Clone, Copy, Debug, PartialEq, Eq)]
 pub enum Kind {
     Wire,
     Upper(u8),
@@ -38,44 +39,8 @@ pub const MARK_KIND: u32 = 7;
 
 pub const LAST_KIND: u32 = MARK_KIND;
 
-// A part's fields in the table's order: the first `count` of the numbers. The unused places are 0.
-#[derive(Clone, Copy)]
-pub struct Fields {
-    pub count: usize,
-    pub numbers: [u8; 3],
-}
-
-impl Fields {
-    // One field.
-    fn one(name: u8) -> Self
-        ensures { result ≡ in_places (name ∷ []) }
-    {
-        Fields {
-            count: 1,
-            numbers: [name, 0, 0],
-        }
-    }
-
-    // Two fields.
-    fn two(a: u8, b: u8) -> Self
-        ensures { result ≡ in_places (a ∷ b ∷ []) }
-    {
-        Fields {
-            count: 2,
-            numbers: [a, b, 0],
-        }
-    }
-
-    // Three fields.
-    fn three(a: u8, b: u8, name: u8) -> Self
-        ensures { result ≡ in_places (a ∷ b ∷ name ∷ []) }
-    {
-        Fields {
-            count: 3,
-            numbers: [a, b, name],
-        }
-    }
-}
+// The most fields that a part has.
+pub const MOST_FIELDS: usize = 3;
 
 impl Kind {
     // The kind of this number, up to the last, that carries a relay or button.
@@ -116,29 +81,38 @@ impl Kind {
     {
         match self {
             Kind::Wire => 0,
-            Kind::Upper(relay) => relay,
-            Kind::Lower(relay) => relay,
-            Kind::Button(button) => button,
-            Kind::Regular(relay) => relay,
-            Kind::Drawing(relay) => relay,
-            Kind::Dropping(relay) => relay,
-            Kind::Mark(relay) => relay,
+            Kind::Upper(name)
+            | Kind::Lower(name)
+            | Kind::Button(name)
+            | Kind::Regular(name)
+            | Kind::Drawing(name)
+            | Kind::Dropping(name)
+            | Kind::Mark(name) => name,
         }
     }
 
     // The fields that the table gives a part of this kind with the ends a and b; a mark's ends are not among them.
-    pub fn fields(self, a: u8, b: u8) -> Fields
-        ensures { KindFields self a b result }
+    pub fn fields(self, a: u8, b: u8) -> ArrayVec<u8, MOST_FIELDS>
+        ensures { KindFields self a b result.items }
     {
+        let mut fields = ArrayVec::new();
         match self {
-            Kind::Wire => Fields::two(a, b),
-            Kind::Upper(relay) => Fields::three(a, b, relay),
-            Kind::Lower(relay) => Fields::three(a, b, relay),
-            Kind::Button(button) => Fields::three(a, b, button),
-            Kind::Regular(relay) => Fields::three(a, b, relay),
-            Kind::Drawing(relay) => Fields::three(a, b, relay),
-            Kind::Dropping(relay) => Fields::three(a, b, relay),
-            Kind::Mark(relay) => Fields::one(relay),
+            Kind::Wire => {
+                fields.push(a);
+                fields.push(b);
+            }
+            Kind::Upper(name)
+            | Kind::Lower(name)
+            | Kind::Button(name)
+            | Kind::Regular(name)
+            | Kind::Drawing(name)
+            | Kind::Dropping(name) => {
+                fields.push(a);
+                fields.push(b);
+                fields.push(name);
+            }
+            Kind::Mark(relay) => fields.push(relay),
         }
+        fields
     }
 }

@@ -3,3 +3,4 @@ pub mod OutcomeLaws
 pub mod Kept
 pub mod OrderLaws
 pub mod Told
+pub mod Tabled

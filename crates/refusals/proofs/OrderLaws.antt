@@ -4,12 +4,9 @@ use Prim.Native.Nat.{ℕ}
 use mathlib.Core.Path.{◌≡◌, refl, sym, ap, ◌∙◌}
 use mathlib.Core.Bool.{Bool, true, false}
 use mathlib.Core.List.{[], ◌∷◌, ◌++◌}
-use Rattle.refusals.specs.declared.Against.{Against}
-use Rattle.refusals.specs.declared.Against.TheVariants.{Nothing, Refused}
 use Rattle.refusals.specs.Outcomes.{Outcome, given, refused, ◌>>◌, unless}
-use Rattle.refusals.specs.Order.{Order, first_no, answering, against, told_against}
+use Rattle.refusals.specs.Order.{Order, first_no, answering, against}
 use Rattle.refusals.proofs.OutcomeLaws.{refused_never}
-use Rattle.refusals.proofs.Told.{Told, answer_of, given_or_refused}
 
 -- one line more
 pub asks_first : (t : Bool) (n : ℕ) → first_no ((t, n) ∷ []) ≡ unless t n 0
@@ -67,10 +64,3 @@ answering-stands word So refuse go refuses gives (given u) =
     record { first = gives; left = λ n p e. absurd (refused_never n p tt (sym (ap against e) ∙ gives)) }
 answering-stands word So refuse go refuses gives (refused n p) =
     record { first = ap against (refuses n p).0; left = λ m q e. (refuses n p).1 }
-
-pub against-told : Told told_against
-against-told = given_or_refused told_against (λ u. Nothing) Refused (λ u. refl) (λ n p. refl) back
-  where
-    back : (x : Against) → answer_of (λ u. Nothing) Refused (told_against x) ≡ x
-    back Nothing = refl
-    back (Refused r) = refl

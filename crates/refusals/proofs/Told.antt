@@ -3,8 +3,6 @@
 use Prim.Native.Nat.{ℕ}
 use mathlib.Core.Path.{◌≡◌, refl, sym, ap, ◌∙◌}
 use mathlib.Core.List.{List, [], ◌∷◌, map}
-use Rattle.refusals.specs.declared.Refusal.{Refusal}
-use Rattle.refusals.specs.Outcomes.{Outcome, given, refused}
 
 pub record Told {A B : Type 0} (told : A → B) : Type 0 where
   pub untold : B → A
@@ -25,23 +23,6 @@ list-told {A} {B} told both = record { untold = map both.untold; back = back; on
     onto : (l : List B) → map told (map both.untold l) ≡ l
     onto [] = refl
     onto (y ∷ l) = λ i. both.onto y i ∷ onto l i
-
--- an answer that is a thing or a refusal, by the two constructors of its type
-abbrev pub answer_of : {A R : Type 0} → (A → R) → (Refusal → R) → Outcome A → R
-answer_of thing refusal (given a) = thing a
-answer_of thing refusal (refused n p) = refusal (record { number = n; place = p })
-
-pub given_or_refused : {A R : Type 0} (told : R → Outcome A) (thing : A → R) (refusal : Refusal → R)
-    → ((a : A) → told (thing a) ≡ given a)
-    → ((n p : ℕ) → told (refusal (record { number = n; place = p })) ≡ refused n p)
-    → ((x : R) → answer_of thing refusal (told x) ≡ x)
-    → Told told
-given_or_refused {A} told thing refusal gives refuses back =
-    record { untold = answer_of thing refusal; back = back; onto = onto }
-  where
-    onto : (o : Outcome A) → told (answer_of thing refusal o) ≡ o
-    onto (given a) = gives a
-    onto (refused n p) = refuses n p
 
 -- an answer beside a thing that is told as it is, by the constructor of the struct that holds both and by its fields
 pub beside-told : {S A B R : Type 0} (told : A → B) → Told told → (struct : S → A → R) (first : R → S) (second : R → A)

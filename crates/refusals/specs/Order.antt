@@ -7,13 +7,10 @@
 --     answering o r go      what a call answers against which o stands: what r makes of that refusal, or `go` where it
 --                           is nothing
 --     against o             what stands against a call that came to o: its refusal, or nothing
---     told_against          the code's cases as an outcome
---     AsksNext a t n r      promise: `unless` of what stands so far, a, with a line of the test t and the number n,
---                           answers r
-use Rattle.std.specs.Prelude.{ℕ, ◌≡◌, Bool, cond, List, [], ◌∷◌}
-use Rattle.refusals.specs.Outcomes.{Outcome, given, refused, ◌>>◌, unless}
-use Rattle.refusals.specs.declared.Against.{Against}
-use Rattle.refusals.specs.declared.Against.TheVariants.{Nothing, Refused}
+--     AsksLine t e r        promise: `unless` of a line of the test t, with e said where it does not hold, answers r; where
+--                           it is refused, `?` ends the call there, so the first line whose test fails speaks
+use Rattle.std.specs.Prelude.{ℕ, ◌≡◌, Bool, cond, Result, List, [], ◌∷◌}
+use Rattle.refusals.specs.Outcomes.{Outcome, given, refused}
 
 abbrev pub Order : Type 0
 Order = List (Bool × ℕ)
@@ -30,9 +27,5 @@ abbrev pub against : {A : Type 0} → Outcome A → Outcome (Unit {0})
 against (given a) = given tt
 against (refused n p) = refused n p
 
-abbrev pub told_against : Against → Outcome (Unit {0})
-told_against Nothing = given tt
-told_against (Refused r) = refused r.number r.place
-
-abbrev pub AsksNext : Against → Bool → ℕ → Against → Type 0
-AsksNext a t n r = told_against r ≡ (told_against a >> unless t n 0)
+abbrev pub AsksLine : {E : Type 0} → Bool → E → Result Unit E → Type 0
+AsksLine t e r = r ≡ cond t (Result.Ok tt) (Result.Err e)

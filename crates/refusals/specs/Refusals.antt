@@ -1,5 +1,10 @@
--- The rule book's "Numbers for no": a name for each line of its table.
+-- The rule book's "Numbers for no": a name for each line of its table, and the number of each of the code's cases.
 use Rattle.std.specs.Prelude.{ℕ}
+use Rattle.refusals.specs.declared.No.{No}
+use Rattle.refusals.specs.declared.No.TheVariants.{InputEnds, BadForm, OutOfRange, NoSuchKind, NoSuchTerminal}
+use Rattle.refusals.specs.declared.No.TheVariants.{EndsEqual, NoSuchName, WindingTaken, WindingLacking, InputTooLong}
+use Rattle.refusals.specs.declared.No.TheVariants.{NoSuchWinding, AlreadySo, LogTooLong, StateBeyondBoard, BrokenBoard}
+use Rattle.refusals.specs.declared.No.TheVariants.{BufferTooShort, MarkedTwice, ForeignSets, TerminalBeyond, TooManyButtons}
 
 -- 1: input ends inside or before a wanted number; place: input length
 abbrev pub input_ends : ℕ
@@ -80,3 +85,25 @@ terminal_beyond = 19
 -- 20: a report is asked of a board with more than 12 buttons (request A10)
 abbrev pub too_many_buttons : ℕ
 too_many_buttons = 20
+
+abbrev pub number_of : No → ℕ
+number_of InputEnds = input_ends
+number_of BadForm = bad_form
+number_of OutOfRange = out_of_range
+number_of NoSuchKind = no_such_kind
+number_of NoSuchTerminal = no_such_terminal
+number_of EndsEqual = ends_equal
+number_of NoSuchName = no_such_name
+number_of WindingTaken = winding_taken
+number_of WindingLacking = winding_lacking
+number_of InputTooLong = input_too_long
+number_of NoSuchWinding = no_such_winding
+number_of AlreadySo = already_so
+number_of LogTooLong = log_too_long
+number_of StateBeyondBoard = state_beyond_board
+number_of BrokenBoard = broken_board
+number_of BufferTooShort = buffer_too_short
+number_of MarkedTwice = marked_twice
+number_of ForeignSets = foreign_sets
+number_of TerminalBeyond = terminal_beyond
+number_of TooManyButtons = too_many_buttons

@@ -7,5 +7,5 @@ use Rattle.bits.proofs.all_below.Goals as goal
 pub returns-then-n-ge-ROOM : goal.returns-then-n-ge-ROOM
 returns-then-n-ge-ROOM c = search (rules, within-room)
 
-pub returns : goal.returns
-returns c = within_shifted c.args.set c.args.n
+pub returns-else-n-ge-ROOM : goal.returns-else-n-ge-ROOM
+returns-else-n-ge-ROOM c = within_shifted c.args.set c.args.n

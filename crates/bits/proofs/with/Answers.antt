@@ -4,8 +4,8 @@ use native.Mathlib.Omega.{arith}
 use Rattle.bits.proofs.SetLaws.{including-beyond, with_shifted}
 use Rattle.bits.proofs.with.Goals as goal
 
-pub returns-then-n-ge-ROOM : goal.returns-then-n-ge-ROOM
-returns-then-n-ge-ROOM c = sym (including-beyond c.args.set c.args.n (omega arith))
+pub returns-else-n-lt-ROOM : goal.returns-else-n-lt-ROOM
+returns-else-n-lt-ROOM c = sym (including-beyond c.args.set c.args.n (omega arith))
 
-pub returns : goal.returns
-returns c = with_shifted c.args.set c.args.n (omega arith)
+pub returns-then-n-lt-ROOM : goal.returns-then-n-lt-ROOM
+returns-then-n-lt-ROOM c = with_shifted c.args.set c.args.n (omega arith)
