@@ -81,13 +81,13 @@ impl Kind {
     {
         match self {
             Kind::Wire => 0,
-            Kind::Upper(name)
-            | Kind::Lower(name)
-            | Kind::Button(name)
-            | Kind::Regular(name)
-            | Kind::Drawing(name)
-            | Kind::Dropping(name)
-            | Kind::Mark(name) => name,
+            Kind::Upper(carried)
+            | Kind::Lower(carried)
+            | Kind::Button(carried)
+            | Kind::Regular(carried)
+            | Kind::Drawing(carried)
+            | Kind::Dropping(carried)
+            | Kind::Mark(carried) => carried,
         }
     }
 

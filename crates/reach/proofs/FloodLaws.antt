@@ -10,17 +10,18 @@ use mathlib.Core.Path.{◌≡◌, refl, sym, ap, ◌∙◌}
 use mathlib.Core.Logic.{◌⊎◌, inl, inr, ⊎_elim}
 use mathlib.Core.Bool.{true, false, not, false≢true}
 use mathlib.Core.List.{List, [], ◌∷◌}
+use Rattle.std.specs.Prelude.{Some, None}
 use lib.Dec.{eqb}
 use lib.ListN.{length, get_or}
 use lib.Pow.{pow_pos}
 use borrow.Author.Tests.{eqb-true, eqb-false, lt-ltb, le-ltb, not-true}
 use Rattle.lists.specs.Members.{All, Once}
 use Rattle.lists.proofs.MemberLaws.{all-member, all_map, once-below-length}
-use Rattle.bits.specs.Sets.{room, member, including, remaining, together, lowest_from}
+use Rattle.bits.specs.Sets.{room, member, including, remaining, together, lowest_from, member_from}
 use Rattle.bits.proofs.BoolLaws.{by_test, by_less, both_true, either_true, true_either}
 use Rattle.bits.proofs.SetLaws.{including_new, member-including-same, member-including_other, including-kept}
 use Rattle.bits.proofs.SetLaws.{member_none, member-remaining, member-together}
-use Rattle.bits.proofs.LowestLaws.{lowest-found, lowest_absent}
+use Rattle.bits.proofs.LowestLaws.{lowest-found, lowest_absent, member_from_found, member_from_lacks}
 use Rattle.neighbours.specs.Neighbours.{joined}
 use Rattle.reach.specs.Floods.{next_seen, flood_on, flooded}
 
@@ -167,30 +168,38 @@ flood_least near from out P begins on =
     comes_least near out P on (flood-comes near out from)
     (λ y is. let both = remains_both from out y is in begins y both.0 both.1)
 
--- ---- one law for each need of `flood`: `left` is what remains to be looked at, and `next` its lowest
+-- ---- one law for each need of `flood`: `left` is what remains to be looked at, and `next` its lowest, if any remains
 
 pub comes_begin : (near : List ℕ) (from out seen : ℕ) → seen ≡ remaining from out
     → Comes near out 0 seen (flooded near from out)
 comes_begin near from out seen start = rw start (flood-comes near out from)
 
-module _ (done seen left next : ℕ) (remain : left ≡ remaining seen done) (lowest : next ≡ lowest_from left 0) where
-  found : next ≡ next_seen seen done
+module _ (done seen left : ℕ) (remain : left ≡ remaining seen done) where
+  lowest : lowest_from left 0 ≡ next_seen seen done
   unfolding next_seen
-  found = lowest ∙ ap (λ (s : ℕ). lowest_from s 0) remain
+  lowest = ap (λ (s : ℕ). lowest_from s 0) remain
 
-  pub done_grows : next < room → done < including done next
-  done_grows some =
-      let new = ap (member done) found ∙ (next_new seen done (omega (arith, found))).1 in
-      omega (arith, including_new done next some new, pow_pos next)
+  module _ (next : ℕ) (some : Some next ≡ member_from left 0) where
+    pub next_below : next < room
+    next_below = (member_from_found left 0 next some).0
 
-  pub comes_on : {near : List ℕ} {out r : ℕ} → Comes near out done seen r → next < room → (more done' seen' : ℕ)
-      → more ≡ remaining (get_or near next 0) out → done' ≡ including done next → seen' ≡ together seen more
-      → Comes near out done' seen' r
-  comes_on (stops none e) some more done' seen' m d s = absurd (omega (arith, found))
-  comes_on (goes_on x at below rest) some more done' seen' m d s =
-      let same : next ≡ x = found ∙ sym at in
-      rw (s, m, d, same) rest
+    found : next ≡ next_seen seen done
+    found = (member_from_found left 0 next some).1 ∙ lowest
 
-  pub comes_end : {near : List ℕ} {out r : ℕ} → Comes near out done seen r → room ≤ next → seen ≡ r
+    pub done_grows : done < including done next
+    done_grows =
+        let below = next_below in
+        let new = ap (member done) found ∙ (next_new seen done (omega (arith, below, found))).1 in
+        omega (arith, including_new done next below new, pow_pos next)
+
+    pub comes_on : {near : List ℕ} {out r : ℕ} → Comes near out done seen r → (more done' seen' : ℕ)
+        → more ≡ remaining (get_or near next 0) out → done' ≡ including done next → seen' ≡ together seen more
+        → Comes near out done' seen' r
+    comes_on (stops none e) more done' seen' m d s = absurd (omega (arith, found, next_below))
+    comes_on (goes_on x at below rest) more done' seen' m d s =
+        let same : next ≡ x = found ∙ sym at in
+        rw (s, m, d, same) rest
+
+  pub comes_end : {near : List ℕ} {out r : ℕ} → Comes near out done seen r → None ≡ member_from left 0 → seen ≡ r
   comes_end (stops none e) end = e
-  comes_end (goes_on x at below rest) end = absurd (omega (arith, found))
+  comes_end (goes_on x at below rest) end = absurd (omega (arith, lowest, member_from_lacks left 0 end))

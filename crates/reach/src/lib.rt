@@ -11,12 +11,9 @@ pub fn flood(near: &[u64; 64], from: u64, out: u64) -> u64
 {
     let mut seen = bits::remaining(from, out);
     let mut done = 0u64;
-    loop {
-        let next = bits::lowest_from(bits::remaining(seen, done), 0);
-        if bits::ROOM <= next {
-            return seen;
-        }
+    while let Some(next) = bits::lowest_from(bits::remaining(seen, done), 0) {
         done = bits::with(done, next);
         seen = bits::together(seen, bits::remaining(near[next as usize], out));
     }
+    seen
 }

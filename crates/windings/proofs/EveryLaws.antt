@@ -4,9 +4,13 @@ use Prim.Native.Nat.{ℕ, zero, suc, ◌+◌, ◌<◌}
 use native.Mathlib.Nat.{eq-or-lt_of_le}
 use native.Mathlib.Numerals.{add-one}
 use native.Mathlib.Omega.{arith}
-use mathlib.Core.Path.{◌≡◌, refl, sym, ap, ◌∙◌}
+use mathlib.Core.Path.{◌≡◌, refl, sym, ap, subst, ◌∙◌}
 use mathlib.Core.Bool.{Bool, true, false, and-false, false≢true}
 use mathlib.Core.Logic.{⊎_elim}
+use Rattle.std.specs.Bool.{MatchBool}
+use Rattle.std.specs.List.{AllWithin, HoldsAt, range_with_len}
+use Rattle.std.proofs.lemmas.List.FromFn.{length-range_with_len, get_or-range_with_len}
+use lib.ListN.{length}
 use Rattle.windings.specs.Windings.{every}
 use Rattle.bits.proofs.BoolLaws.{both_true, true_both, by_test}
 
@@ -48,3 +52,19 @@ every_lacks f (suc n) off =
     by_test (every n f)
     (λ before. (n, omega arith, rw before at off))
     (λ lacks. let less = every_lacks f n lacks in (less.0, omega (arith, less.1), less.2))
+
+-- what `all` answers over the numbers below a limit
+pub every-from_all : (f : ℕ → Bool) (n : ℕ) (r : Bool)
+    → MatchBool r (AllWithin (λ x. f x ≡ true) (range_with_len 0 n) 0 (length (range_with_len 0 n)))
+    ((k : ℕ) × (k < length (range_with_len 0 n)) × HoldsAt (λ x. f x ≡ false) (range_with_len 0 n) k)
+    → r ≡ every n f
+every-from_all f n true all =
+    sym (below-every f n (λ i below.
+    let is : f i ≡ f (0 + i) = ap f (omega arith) in
+    is ∙ subst (λ (x : ℕ). f x ≡ true) (get_or-range_with_len 0 n i 0 below)
+    (all i 0 (omega arith) (omega (arith, below, length-range_with_len 0 n)))))
+every-from_all f n false (k, within, off) =
+    let below : k < n = omega (arith, within, length-range_with_len 0 n) in
+    let is : f k ≡ f (0 + k) = ap f (omega arith) in
+    sym (every_fails f n k below
+    (is ∙ subst (λ (x : ℕ). f x ≡ false) (get_or-range_with_len 0 n k 0 below) (off 0)))

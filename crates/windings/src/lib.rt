@@ -9,7 +9,7 @@ ghost use Rattle.windings.specs.Windings.{WoundWith, WoundComplete};
 use kinds::Kind;
 
 // The relays that have a part of kind 4, of kind 5, of kind 6 and of kind 7.
-#[derive(Clone, Copy)]
+#[derive(Clone, Copy, Debug, PartialEq, Eq)]
 pub struct WoundSoFar {
     pub regular: u64,
     pub drawing: u64,
@@ -21,11 +21,8 @@ pub struct WoundSoFar {
 fn in_neither(x: u64, y: u64, relay: u8) -> bool
     ensures { result ≡ not (member x relay) && not (member y relay) }
 {
-    let n = bits::wide(relay);
-    if bits::has(x, n) {
-        return false;
-    }
-    !bits::has(y, n)
+    let n = u32::from(relay);
+    !bits::has(x, n) && !bits::has(y, n)
 }
 
 impl WoundSoFar {
@@ -48,19 +45,12 @@ impl WoundSoFar {
     {
         match kind {
             Kind::Regular(relay) => {
-                if bits::has(self.regular, bits::wide(relay)) {
-                    false
-                } else {
-                    in_neither(self.drawing, self.dropping, relay)
-                }
+                !bits::has(self.regular, u32::from(relay))
+                    && in_neither(self.drawing, self.dropping, relay)
             }
             Kind::Drawing(relay) => in_neither(self.regular, self.drawing, relay),
             Kind::Dropping(relay) => in_neither(self.regular, self.dropping, relay),
-            Kind::Wire => true,
-            Kind::Upper(_) => true,
-            Kind::Lower(_) => true,
-            Kind::Button(_) => true,
-            Kind::Mark(_) => true,
+            Kind::Wire | Kind::Upper(_) | Kind::Lower(_) | Kind::Button(_) | Kind::Mark(_) => true,
         }
     }
 
@@ -69,14 +59,8 @@ impl WoundSoFar {
         ensures { WoundUnmarked self kind result }
     {
         match kind {
-            Kind::Mark(relay) => !bits::has(self.marked, bits::wide(relay)),
-            Kind::Wire => true,
-            Kind::Upper(_) => true,
-            Kind::Lower(_) => true,
-            Kind::Button(_) => true,
-            Kind::Regular(_) => true,
-            Kind::Drawing(_) => true,
-            Kind::Dropping(_) => true,
+            Kind::Mark(relay) => !bits::has(self.marked, u32::from(relay)),
+            _ => true,
         }
     }
 
@@ -84,32 +68,24 @@ impl WoundSoFar {
     pub fn with(self, kind: Kind) -> Self
         ensures { WoundWith self kind result }
     {
-        let mut next = self;
         match kind {
-            Kind::Regular(relay) => {
-                let set = bits::with(self.regular, bits::wide(relay));
-                next.regular = set;
-                next
-            }
-            Kind::Drawing(relay) => {
-                let set = bits::with(self.drawing, bits::wide(relay));
-                next.drawing = set;
-                next
-            }
-            Kind::Dropping(relay) => {
-                let set = bits::with(self.dropping, bits::wide(relay));
-                next.dropping = set;
-                next
-            }
-            Kind::Mark(relay) => {
-                let set = bits::with(self.marked, bits::wide(relay));
-                next.marked = set;
-                next
-            }
-            Kind::Wire => next,
-            Kind::Upper(_) => next,
-            Kind::Lower(_) => next,
-            Kind::Button(_) => next,
+            Kind::Regular(relay) => WoundSoFar {
+                regular: bits::with(self.regular, u32::from(relay)),
+                ..self
+            },
+            Kind::Drawing(relay) => WoundSoFar {
+                drawing: bits::with(self.drawing, u32::from(relay)),
+                ..self
+            },
+            Kind::Dropping(relay) => WoundSoFar {
+                dropping: bits::with(self.dropping, u32::from(relay)),
+                ..self
+            },
+            Kind::Mark(relay) => WoundSoFar {
+                marked: bits::with(self.marked, u32::from(relay)),
+                ..self
+            },
+            Kind::Wire | Kind::Upper(_) | Kind::Lower(_) | Kind::Button(_) => self,
         }
     }
 
@@ -117,28 +93,14 @@ impl WoundSoFar {
     fn wound(self, relay: u32) -> bool
         ensures { result ≡ wound self relay }
     {
-        if bits::has(self.regular, relay) {
-            return true;
-        }
-        if bits::has(self.drawing, relay) {
-            bits::has(self.dropping, relay)
-        } else {
-            false
-        }
+        bits::has(self.regular, relay)
+            || bits::has(self.drawing, relay) && bits::has(self.dropping, relay)
     }
 
     // Whether none of the relays 0 to R - 1 lacks a winding (9).
     pub fn complete(self, relays: u8) -> bool
         ensures { WoundComplete self relays result }
     {
-        let end = bits::wide(relays);
-        let mut relay = 0;
-        while relay < end {
-            if !self.wound(relay) {
-                return false;
-            }
-            relay += 1;
-        }
-        true
+        (0..u32::from(relays)).all(|relay| self.wound(relay))
     }
 }

@@ -6,10 +6,10 @@ use Rattle.reach.specs.Floods.{flooded}
 use Rattle.reach.proofs.FloodLaws.{Comes}
 use Rattle.reach.proofs.flood.Given as goal
 
-abbrev pub invariant-loop-from : goal.invariant-loop-from
-invariant-loop-from l =
+abbrev pub invariant-loop-next : goal.invariant-loop-next
+invariant-loop-next l =
     Comes l.near l.out l.done l.seen (flooded l.near l.from l.out)
 
-abbrev pub decreases-loop-from : goal.decreases-loop-from
-decreases-loop-from l =
+abbrev pub decreases-loop-next : goal.decreases-loop-next
+decreases-loop-next l =
     2 ^ room - l.done

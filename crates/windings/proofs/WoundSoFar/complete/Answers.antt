@@ -1,26 +1,14 @@
--- `windings::WoundSoFar::complete` meets its contract. The invariant: every relay passed is wound.
-use borrow.Author.Rules.{rules}
-use native.Mathlib.Omega.{arith}
-use mathlib.Core.Path.{◌≡◌, sym, ◌∙◌}
-use mathlib.Core.Bool.{false}
+-- `windings::WoundSoFar::complete` meets its contract: `all` asks of each relay below the number of relays.
+use Rattle.std.proofs.Common.{◌≡◌, true, false, rules, refl, arith, tests}
+use Rattle.std.proofs.lemmas.Iterator.{cases_from_all, YieldsList-from_range}
 use Rattle.windings.specs.Windings.{wound, complete}
-use Rattle.windings.proofs.EveryLaws.{every_none, every_more, every_fails}
+use Rattle.windings.proofs.EveryLaws.{every-from_all}
 use Rattle.windings.proofs.WoundSoFar.complete.Goals as goal
-
-pub loop-relay-init : goal.loop-relay-init
-unfolding complete
-loop-relay-init c = search (rules, every_none)
-
-pub returns-then-not-wound : goal.returns-then-not-wound
-unfolding complete
-returns-then-not-wound c =
-    let off : wound c.args.self c.loop-relay.relay ≡ false =
-    sym c.wound.ensures ∙ c.if-not-wound.true in
-    sym (every_fails (wound c.args.self) c.args.relays c.loop-relay.relay (omega arith) off)
-
-pub loop-relay-preserved : goal.loop-relay-preserved
-loop-relay-preserved c = search (rules, every_more)
 
 pub returns : goal.returns
 unfolding complete
-returns c = search rules
+returns c =
+    every-from_all (wound c.args.self) c.args.relays _
+    (cases_from_all _ _ _ (λ x. wound c.args.self x ≡ true) (λ x. wound c.args.self x ≡ false) c.all.ensures.ran
+    (YieldsList-from_range 0 c.args.relays c.args.relays (rw c.from.ensures refl) (omega arith)) (λ x q k. search (rules, tests))
+    (λ x q k. search (rules, tests)))
