@@ -3,16 +3,17 @@
 use Prim.Native.Nat.{ℕ, ◌≤◌}
 use mathlib.Core.Path.{◌≡◌, refl, sym, ap, subst, ◌∙◌}
 use mathlib.Core.List.{List, []}
-use Rattle.std.specs.Prelude.{Result, Ok, Err}
 use lib.ListN.{length}
 use lib.Dec.{leb}
 use borrow.Author.Tests.{le-leb}
-use Rattle.refusals.specs.declared.Refusal.{Refusal}
 use Rattle.refusals.specs.Outcomes.{Outcome, given, refused, ◌>>◌, unless}
-use Rattle.refusals.specs.Refusals.{log_too_long}
+use Rattle.refusals.specs.Refusals.{number_of, log_too_long}
+use Rattle.refusals.specs.declared.No.TheVariants.{StateBeyondBoard, BrokenBoard, ForeignSets, LogTooLong}
 use Rattle.refusals.specs.Order.{first_no, answering}
 use Rattle.refusals.proofs.OrderLaws.{asks_then, all_hold}
-use Rattle.refusals.proofs.Told.{Told, ToldLent}
+use Rattle.refusals.proofs.Told.{Told}
+use Rattle.refusals.proofs.Tabled.{Tabled, gives, refuses, tabled_given, tabled_refused, TabledLines, tabled_lines}
+use Rattle.refusals.proofs.Tabled.{Tells, result-tells_as}
 use Rattle.board.specs.declared.Board.{Board}
 use Rattle.kept.specs.declared.Kept.{Kept}
 use Rattle.kept.specs.Kept.{kept_at, usable_lines, usable}
@@ -22,7 +23,8 @@ use Rattle.runs.specs.declared.Ending.TheVariants.{Idle, Spent, Conflict, Buzz}
 use Rattle.runs.specs.declared.Ran.{Ran}
 use Rattle.runs.specs.Runs.{Ending, idle, spent, conflict, buzz}
 use Rattle.runs.specs.Running as told
-use Rattle.runs.specs.Running.{longest_log, runnable, ran, unrun, ran_over, running, told_ending, told_as, told_ran}
+use Rattle.runs.specs.Running.{longest_log, run_lines, runnable, ran, unrun, ran_over, running}
+use Rattle.runs.specs.Running.{told_word, told_ending, told_ran}
 
 -- what a run leaves has the sets of its state
 abbrev pub LeavesOwn : Board → told.Ran → Type 0
@@ -81,52 +83,38 @@ module _ (b : Board) (h : Kept) (log : List ℕ) where
 
 -- ---- answers and what they tell
 
-said_ending : Ending → code-ending.Ending
-said_ending idle = Idle
-said_ending spent = Spent
-said_ending conflict = Conflict
-said_ending buzz = Buzz
-
-ending_back : (x : code-ending.Ending) → said_ending (told_ending x) ≡ x
-unfolding said_ending
-ending_back Idle = refl
-ending_back Spent = refl
-ending_back Conflict = refl
-ending_back Buzz = refl
-
-ending_onto : (e : Ending) → told_ending (said_ending e) ≡ e
-unfolding said_ending
-ending_onto idle = refl
-ending_onto spent = refl
-ending_onto conflict = refl
-ending_onto buzz = refl
-
-pub ending-told : Told told_ending
-ending-told = record { untold = said_ending; back = ending_back; onto = ending_onto }
-
-word_told : Told (told_as told_ending)
-word_told = record { untold = untold; back = back; onto = onto }
+pub word-told : Told told_word
+word-told = record { untold = untold; back = back; onto = onto }
   where
-    untold : Outcome Ending → Result code-ending.Ending Refusal
-    untold (given e) = Ok (said_ending e)
-    untold (refused n p) = Err (record { number = n; place = p })
+    untold : Ending → code-ending.Ending
+    untold idle = Idle
+    untold spent = Spent
+    untold conflict = Conflict
+    untold buzz = Buzz
 
-    back : (x : Result code-ending.Ending Refusal) → untold (told_as told_ending x) ≡ x
-    back (Ok e) = ap Ok (ending_back e)
-    back (Err r) = refl
+    back : (x : code-ending.Ending) → untold (told_word x) ≡ x
+    back Idle = refl
+    back Spent = refl
+    back Conflict = refl
+    back Buzz = refl
 
-    onto : (y : Outcome Ending) → told_as told_ending (untold y) ≡ y
-    onto (given e) = ap given (ending_onto e)
-    onto (refused n p) = refl
+    onto : (y : Ending) → told_word (untold y) ≡ y
+    onto idle = refl
+    onto spent = refl
+    onto conflict = refl
+    onto buzz = refl
 
 -- the answer and the log afterwards
-pub ran-told : ToldLent told_ran
-ran-told = record { untold = untold; back = back; onto = onto }
+pub ran-tells : Tells (λ (y : told.Ran). Tabled y.word) (λ (x : Ran × List ℕ). told_ran x.0 x.1)
+ran-tells = record { untold = untold; back = back; onto = onto }
   where
+    word : Tells Tabled told_ending
+    word = result-tells_as told_word word-told
+
     untold : told.Ran → Ran × List ℕ
     untold a = (
       record {
-        word = word_told.untold a.word;
+        word = word.untold a.word;
         moves = a.moves;
         kept = a.kept;
         relay = a.relay;
@@ -139,7 +127,7 @@ ran-told = record { untold = untold; back = back; onto = onto }
     back : (x : Ran × List ℕ) → untold (told_ran x.0 x.1) ≡ x
     back (a, l) = λ i. (
       record {
-        word = word_told.back a.word i;
+        word = word.back a.word i;
         moves = a.moves;
         kept = a.kept;
         relay = a.relay;
@@ -149,10 +137,10 @@ ran-told = record { untold = untold; back = back; onto = onto }
       l,
     )
 
-    onto : (y : told.Ran) → told_ran (untold y).0 (untold y).1 ≡ y
-    onto y =
+    onto : (y : told.Ran) → Tabled y.word → told_ran (untold y).0 (untold y).1 ≡ y
+    onto y tabled =
         λ i. record {
-          word = word_told.onto y.word i;
+          word = word.onto y.word tabled i;
           moves = y.moves;
           kept = y.kept;
           relay = y.relay;
@@ -160,3 +148,19 @@ ran-told = record { untold = untold; back = back; onto = onto }
           between = y.between;
           log = y.log;
         }
+
+-- what a run can be refused by stands in the table
+pub running-tabled : (b : Board) (h : Kept) (log : List ℕ) → Tabled (running b h log).word
+unfolding TabledLines ran
+running-tabled b h log = by (runnable b h log) refl (tabled_lines (run_lines b h log) lines)
+  where
+    lines : TabledLines (run_lines b h log)
+    lines =
+        ((BrokenBoard, refl), (StateBeyondBoard, refl), (ForeignSets, refl), (LogTooLong, refl), tt)
+
+    by : (o : Outcome (Unit {0})) → runnable b h log ≡ o → Tabled o → Tabled (running b h log).word
+    by o e (gives u is) =
+        subst (λ (x : told.Ran). Tabled x.word) (running_by b h log (given u) (e ∙ is)) (tabled_given _)
+    by o e (refuses k p is) =
+        subst (λ (x : told.Ran). Tabled x.word) (running_by b h log (refused (number_of k) p) (e ∙ is))
+        (tabled_refused k p)

@@ -4,10 +4,10 @@ ghost use Rattle.board.specs.Rules.{most_relays};
 ghost use Rattle.kept.specs.Kept.{kept_at};
 ghost use Rattle.moves.specs.Steps.{told_move};
 ghost use Rattle.runs.specs.Looks.{draw_mark, byte_of};
-ghost use Rattle.runs.specs.LookingBack.{most_words};
 ghost use Rattle.runs.specs.Running.{ran_over, told_ran};
 
-use crate::{DRAW_MARK, Ending, NO_RELAY, Ran, back};
+use crate::back::Notches;
+use crate::{DRAW_MARK, Ending, NO_RELAY, Ran};
 use board::Board;
 use kept::Kept;
 use moves::Move;
@@ -27,11 +27,9 @@ fn byte(relay: u8, motion: Move) -> u8
 // made and logged and it looks again, and anything else stops the run. The sets belong to the board and the state, and
 // are kept so. Where the windings lie is found once for the run, and which terminals are served and linked once for a
 // look.
-pub fn follow(board: Board, start: Kept, log: &mut [u8], notches: &mut [u64]) -> Ran
+pub fn follow<const WORDS: usize>(board: Board, start: Kept, log: &mut [u8], notches: &mut Notches<WORDS>) -> Ran
     requires relays_few { board.counts.relays ≤ most_relays }
     requires start_kept { start ≡ kept_at board start.state }
-    requires some_notches { 0 < length notches.old }
-    requires notches_few { length notches.old ≤ most_words }
     ensures { told_ran result log.new ≡ ran_over board start log.old }
 {
     let relays = board.counts.relays;
@@ -40,7 +38,7 @@ pub fn follow(board: Board, start: Kept, log: &mut [u8], notches: &mut [u64]) ->
     let mut moves = 0;
     let (word, relay, earlier, between) = 'run: loop {
         let state = kept.state;
-        if let Some(ago) = back::look_back(notches, log, moves, state.drawn) {
+        if let Some(ago) = notches.look_back(log, moves, state.drawn) {
             break 'run (Ending::Buzz, NO_RELAY, moves - ago, ago);
         }
         let feed = feed::feed_by(kept.sets, board.counts.terminals);

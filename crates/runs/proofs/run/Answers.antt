@@ -23,13 +23,11 @@ follow-requires c =
     let can = usable_given _ _ (runnable_given _ _ _ (taken)) in
     ((fine_range _ can.0).relays_few, can.2) in
     let given-fine = fine in
-    record {
+    (omega arith, record {
       relays_few =
           given-fine.0;
       start_kept = given-fine.1;
-      some_notches = omega arith;
-      notches_few = omega arith;
-    }
+    })
 
 pub returns-then-log-le-SHORT_LOG : goal.returns-then-log-le-SHORT_LOG
 returns-then-log-le-SHORT_LOG c = search (rules, runnable_asked, running_ran)
@@ -43,13 +41,11 @@ follow-requires-in-Nothing c =
     let can = usable_given _ _ (runnable_given _ _ _ (taken)) in
     ((fine_range _ can.0).relays_few, can.2) in
     let given-fine = fine in
-    record {
+    (omega arith, record {
       relays_few =
           given-fine.0;
       start_kept = given-fine.1;
-      some_notches = omega arith;
-      notches_few = omega arith;
-    }
+    })
 
 pub returns-else-log-le-SHORT_LOG : goal.returns-else-log-le-SHORT_LOG
 returns-else-log-le-SHORT_LOG c = search (rules, runnable_asked, running_ran)

@@ -14,24 +14,24 @@ use Rattle.runs.proofs.NotchLaws.{covered-spares}
 use Rattle.runs.proofs.course.follow.Goals as goal
 
 pub run-init : goal.run-init
-run-init c = course_starts _ _ _ _ _ _ c.requires.start_kept
+run-init g c = course_starts _ _ _ _ _ _ c.requires.start_kept
 
 pub look_back-requires : goal.look_back-requires
-look_back-requires c = search (rules, covered-spares)
+look_back-requires g c = search (rules, covered-spares)
 
 pub overflow_sub-word : goal.overflow_sub-word
-overflow_sub-word c = search (rules, met_within)
+overflow_sub-word g c = search (rules, met_within)
 
 pub scan-init : goal.scan-init
-scan-init c = search (rules, step_seen, scan_starts)
+scan-init g c = search (rules, step_seen, scan_starts)
 
 pub scan-preserved : goal.scan-preserved
-scan-preserved c =
+scan-preserved g c =
     scan_rests c.scan.invariant c.scan-test.true c.from.ensures c.from-in-scan.ensures
     c.is_drawn-drawn.ensures c.step-motion.ensures (ap told_move c.in-Rests.is)
 
 pub run-preserved : goal.run-preserved
-run-preserved c =
+run-preserved g c =
     course-moves c.scan.invariant c.run.invariant c.scan-test.true c.from.ensures c.from-in-scan.ensures
     c.is_drawn-drawn.ensures c.step-motion.ensures (λ s. refl)
     (omega (arith, c.scan-test.true, c.requires.relays_few)) (λ s. step_turns _ s _)
@@ -39,22 +39,22 @@ run-preserved c =
     (λ own. c.after-kept.ensures
     ∙ kept_made_lem _ c.scan.kept c.from-in-Drew.result (told_move c.step-motion.result) own)
     (told-moving c.step-motion.result c.in-Drew.is)
-    c.if-log-moves.false c.byte.ensures c.requires.some_notches
+    c.if-log-moves.false c.byte.ensures c.args.notches.now.some
     c.look_back.ensures.notched
 
 pub returns-in-Some : goal.returns-in-Some
-returns-in-Some c = course_buzz c.run.invariant (sym c.in-Some.is ∙ c.look_back.ensures.looked_back)
+returns-in-Some g c = course_buzz c.run.invariant (sym c.in-Some.is ∙ c.look_back.ensures.looked_back)
 
 pub returns-after-scan : goal.returns-after-scan
-returns-after-scan c = course_idle c.scan.invariant c.run.invariant c.scan-test.false
+returns-after-scan g c = course_idle c.scan.invariant c.run.invariant c.scan-test.false
 
 pub returns-in-Conflict : goal.returns-in-Conflict
-returns-in-Conflict c =
+returns-in-Conflict g c =
     course_conflict c.scan.invariant c.run.invariant c.scan-test.true c.from.ensures c.from-in-scan.ensures
     c.is_drawn-drawn.ensures c.step-motion.ensures
     (ap told_move c.in-Conflict.is)
 
 pub returns-then-log-moves : goal.returns-then-log-moves
-returns-then-log-moves c =
+returns-then-log-moves g c =
     course_spent c.scan.invariant c.run.invariant c.scan-test.true c.from.ensures c.from-in-scan.ensures
     c.is_drawn-drawn.ensures c.step-motion.ensures (told-moving c.step-motion.result c.in-Drew.is) c.if-log-moves.true
