@@ -2,5 +2,6 @@
 pub mod OutcomeLaws
 pub mod Kept
 pub mod OrderLaws
+pub mod LineLaws
 pub mod Told
 pub mod Tabled
