@@ -5,7 +5,7 @@ use native.Mathlib.Omega.{arith}
 use mathlib.Core.Path.{◌≡◌, refl, sym, ap, subst}
 use mathlib.Core.Logic.{◌↔◌}
 use mathlib.Core.Bool.{true, false}
-use mathlib.Core.Option.{none, some}
+use Rattle.std.specs.Prelude.{Some, None}
 use lib.Dec.{eqb}
 use borrow.Author.Tests.{eqb-true, eq-eqb}
 use Rattle.bits.specs.Sets.{member}
@@ -49,12 +49,12 @@ module _ (b : Board) where
   check_counts off = simp off
 
   module _ (fine : counts_fine b.counts ≡ true) {w : WoundSoFar} (begins : w ≡ none_wound) where
-    pub check_row : none ≡ row_after b.counts w (parts_of b) → false ≡ board_fine b
+    pub check_row : None ≡ row_after b.counts w (parts_of b) → false ≡ board_fine b
     unfolding board_fine
     check_row broken =
         simp (fine, row_broken b.counts none_wound (parts_of b) (rw begins at broken))
 
-    module _ {v : WoundSoFar} (row : some v ≡ row_after b.counts w (parts_of b)) where
+    module _ {v : WoundSoFar} (row : Some v ≡ row_after b.counts w (parts_of b)) where
       row_after_lem : (parts_fine b.counts none_wound (parts_of b) ≡ true) × (v ≡ gained_all none_wound (parts_of b))
       row_after_lem = row_fine b.counts none_wound v (parts_of b) (rw begins at row)
 

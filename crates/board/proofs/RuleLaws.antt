@@ -1,12 +1,14 @@
 -- Laws of the rules behind refusals 3 to 9 and 17: what `counts_fine` says as bounds, and a walk along a row of parts
 -- with the windings and marks so far.
-use Prim.Native.Nat.{ℕ, ◌+◌, ◌≤◌, ◌<◌}
+use Prim.Native.Nat.{ℕ, suc, ◌+◌, ◌≤◌, ◌<◌}
 use mathlib.Core.Path.{◌≡◌, refl, sym, ap, ◌∙◌}
 use mathlib.Core.List.{List, [], ◌∷◌, ◌++◌}
 use mathlib.Core.Bool.{Bool, true, false, cond}
-use mathlib.Core.Option.{Option, none, some, none-ne-some, some-injective}
+use Rattle.std.specs.Prelude.{Option, Some, None}
+use native.Mathlib.Numerals.{add-one}
 use lib.Dec.{leb}
-use lib.ListN.{length, get_or, take, drop}
+use lib.ListN.{length, get_or, drop, drop_of_length-le}
+use lib.Seq.{drop-cons}
 use borrow.Author.Tests.{leb-true}
 use Rattle.windings.specs.declared.WoundSoFar.{WoundSoFar}
 use Rattle.windings.specs.Windings.{gained}
@@ -16,7 +18,6 @@ use Rattle.board.specs.Parts.{most_parts, blank}
 use Rattle.board.specs.Rules.{least_terminals, most_terminals, most_relays, most_buttons, counts_fine, in_range}
 use Rattle.board.specs.Rules.{gained_all, part_fine, parts_fine, row_after}
 pub use Rattle.board.specs.BreaksNoRule.{InRange}
-use Rattle.lists.proofs.FirstLaws.{first_from_lem, first_past}
 use Rattle.bits.proofs.BoolLaws.{both_true}
 
 -- what `counts_fine` says, as bounds
@@ -37,7 +38,7 @@ counts-in_range c fine =
 
 -- a row of parts after the windings and marks so far, part by part
 module _ (c : Counts) (w : WoundSoFar) (p : Part) where
-  row_off : (ps : List Part) → part_fine c w p ≡ false → row_after c w (p ∷ ps) ≡ none
+  row_off : (ps : List Part) → part_fine c w p ≡ false → row_after c w (p ∷ ps) ≡ None
   unfolding parts_fine row_after
   row_off ps off = simp off
 
@@ -45,7 +46,7 @@ module _ (c : Counts) (w : WoundSoFar) (p : Part) where
   unfolding gained_all parts_fine row_after
   row_on ps fine = simp fine
 
-row_end : (c : Counts) (w : WoundSoFar) → row_after c w [] ≡ some w
+row_end : (c : Counts) (w : WoundSoFar) → row_after c w [] ≡ Some w
 unfolding gained_all parts_fine row_after
 row_end c w = refl
 
@@ -57,37 +58,38 @@ gained_more w [] p = refl
 gained_more w (q ∷ ps) p = gained_more (gained w q.kind) ps p
 
 -- a row that is fine has its windings and marks, and one that is not has none
-pub row_fine : (c : Counts) (w v : WoundSoFar) (ps : List Part) → some v ≡ row_after c w ps
+pub row_fine : (c : Counts) (w v : WoundSoFar) (ps : List Part) → Some v ≡ row_after c w ps
     → (parts_fine c w ps ≡ true) × (v ≡ gained_all w ps)
 unfolding row_after
 row_fine c w v ps h = by (parts_fine c w ps) h
   where
-    by : (t : Bool) → some v ≡ cond t (some (gained_all w ps)) none → (t ≡ true) × (v ≡ gained_all w ps)
-    by true e = (refl, some-injective v (gained_all w ps) e)
-    by false e = absurd (none-ne-some v (sym e))
+    by : (t : Bool) → Some v ≡ cond t (Some (gained_all w ps)) None → (t ≡ true) × (v ≡ gained_all w ps)
+    by true e = (refl, cc)
+    by false e = absurd cc
 
-pub row_broken : (c : Counts) (w : WoundSoFar) (ps : List Part) → none ≡ row_after c w ps → parts_fine c w ps ≡ false
+pub row_broken : (c : Counts) (w : WoundSoFar) (ps : List Part) → None ≡ row_after c w ps → parts_fine c w ps ≡ false
 unfolding row_after
 row_broken c w ps h = by (parts_fine c w ps) h
   where
-    by : (t : Bool) → none ≡ cond t (some (gained_all w ps)) none → t ≡ false
-    by true e = absurd (none-ne-some (gained_all w ps) e)
+    by : (t : Bool) → None ≡ cond t (Some (gained_all w ps)) None → t ≡ false
+    by true e = absurd cc
     by false e = refl
 
--- a walk along the first n parts of l: at place i, `all` is what the parts from there on come to after w
-module _ (c : Counts) (w : WoundSoFar) (l : List Part) (n i : ℕ) (all : Option WoundSoFar) (long : n ≤ length l)
-    (here : all ≡ row_after c w (drop i (take n l))) where
-  pub row_walk_off : i < n → part_fine c w (get_or l i blank) ≡ false → none ≡ all
+-- a walk along the parts l: at place i, `all` is what the parts from there on come to after w
+module _ (c : Counts) (w : WoundSoFar) (l : List Part) (i : ℕ) (all : Option WoundSoFar)
+    (here : all ≡ row_after c w (drop i l)) where
+  pub row_walk_off : i < length l → part_fine c w (get_or l i blank) ≡ false → None ≡ all
   row_walk_off below off =
-      sym (here ∙ ap (row_after c w) (first_from_lem blank l n long i below)
-      ∙ row_off c w (get_or l i blank) (drop (i + 1) (take n l)) off)
+      sym (here ∙ ap (row_after c w) (drop-cons l i blank below)
+      ∙ row_off c w (get_or l i blank) (drop (suc i) l) off)
 
-  pub row_walk_on : (w' : WoundSoFar) → i < n → part_fine c w (get_or l i blank) ≡ true
-      → w' ≡ gained w (get_or l i blank).kind → all ≡ row_after c w' (drop (i + 1) (take n l))
+  pub row_walk_on : (w' : WoundSoFar) → i < length l → part_fine c w (get_or l i blank) ≡ true
+      → w' ≡ gained w (get_or l i blank).kind → all ≡ row_after c w' (drop (i + 1) l)
   row_walk_on w' below fine more =
-      here ∙ ap (row_after c w) (first_from_lem blank l n long i below)
-      ∙ row_on c w (get_or l i blank) (drop (i + 1) (take n l)) fine
-      ∙ ap (λ v. row_after c v (drop (i + 1) (take n l))) (sym more)
+      here ∙ ap (row_after c w) (drop-cons l i blank below)
+      ∙ row_on c w (get_or l i blank) (drop (suc i) l) fine
+      ∙ ap (λ v. row_after c v (drop (suc i) l)) (sym more)
+      ∙ ap (λ (j : ℕ). row_after c w' (drop j l)) (sym (add-one i))
 
-  pub row_walk_end : n ≤ i → some w ≡ all
-  row_walk_end past = sym (here ∙ ap (row_after c w) (first_past blank l n long i past) ∙ row_end c w)
+  pub row_walk_end : length l ≤ i → Some w ≡ all
+  row_walk_end past = sym (here ∙ ap (row_after c w) (drop_of_length-le l past) ∙ row_end c w)

@@ -8,6 +8,7 @@
 --     empty_board     "the empty board (T 2, else 0)"
 --     BlankPart r     promise: `blank` answers r
 --     EmptyBoard r    promise: `empty` answers r
+--     TakesParts b r  promise: `parts` of board b answers r
 use Rattle.std.specs.Prelude.{ℕ, ◌-◌, ◌≡◌, Bool, List, [], ◌++◌, eqb, length, take, replicate}
 use Rattle.kinds.specs.declared.Kind.TheVariants.{Wire}
 use Rattle.kinds.specs.Kinds.{kind_number, mark_kind, fields}
@@ -41,3 +42,6 @@ BlankPart r = r ≡ blank
 
 abbrev pub EmptyBoard : Board → Type 0
 EmptyBoard r = r ≡ empty_board
+
+abbrev pub TakesParts : Board → List Part → Type 0
+TakesParts b r = r ≡ parts_of b

@@ -22,9 +22,7 @@
 --     Checks b r                       promise: `check` of board b answers r
 -- What the functions of this crate promise each other:
 --     row_after c w ps                 the windings and marks after the parts ps, if 5 to 8 and 17 hold of none of them
---     told_row                         the cases of a row that was checked, as `row_after` has them
-use Rattle.std.specs.Prelude.{ℕ, ◌≡◌, Bool, true, cond, not, ◌&&◌, ◌||◌, List, [], ◌∷◌, ltb, leb, eqb}
-use Rattle.std.proofs.Math.Option.{Option, none, some}
+use Rattle.std.specs.Prelude.{ℕ, ◌≡◌, Bool, true, cond, not, ◌&&◌, ◌||◌, List, [], ◌∷◌, ltb, leb, eqb, Option, Some, None}
 use Rattle.kinds.specs.declared.Kind.{Kind}
 use Rattle.windings.specs.declared.WoundSoFar.{WoundSoFar}
 use Rattle.kinds.specs.Kinds.{kind_number, name_of, wire_kind, button_kind}
@@ -32,8 +30,6 @@ use Rattle.windings.specs.Windings.{none_wound, winding_free, unmarked, gained, 
 use Rattle.board.specs.declared.Part.{Part}
 use Rattle.board.specs.declared.Counts.{Counts}
 use Rattle.board.specs.declared.Board.{Board}
-use Rattle.board.specs.declared.RowChecked.{RowChecked}
-use Rattle.board.specs.declared.RowChecked.TheVariants.{Fine, Broken}
 use Rattle.board.specs.Parts.{is_mark, parts_of, most_parts}
 
 abbrev pub least_terminals : ℕ
@@ -105,8 +101,4 @@ abbrev pub Checks : Board → Bool → Type 0
 Checks b r = r ≡ board_fine b
 
 unfoldable pub row_after : Counts → WoundSoFar → List Part → Option WoundSoFar
-row_after c w ps = cond (parts_fine c w ps) (some (gained_all w ps)) none
-
-abbrev pub told_row : RowChecked → Option WoundSoFar
-told_row (Fine w) = some w
-told_row Broken = none
+row_after c w ps = cond (parts_fine c w ps) (Some (gained_all w ps)) None

@@ -1,65 +1,65 @@
 // What a case asks, in numbers after its board: which winding, in which state with its kept sets, and what else its
-// sort wants.
-use crate::handed_sets;
+// sort wants. A number that is not there is 0.
 use board::Board;
+use cases::handed;
 use judge::Which;
 use kept::Kept;
-use number::Number;
 use state::State;
 
-// A place past every case.
-const PAST: usize = 65_537;
-
-// A number that follows the board, and the place just after it; that is past the case where there is no number.
-#[derive(Clone, Copy)]
-pub struct AskedNumber {
-    pub value: u32,
-    pub next: usize,
-}
-
-// A winding in a state with its kept sets, and the place just after the numbers that name it.
+// A winding in a state with its kept sets.
 #[derive(Clone, Copy)]
 pub struct AskedWinding {
     pub kept: Kept,
     pub relay: u32,
     pub which: Which,
-    pub next: usize,
 }
 
-// The number at a place.
-pub fn number_asked(bytes: &[u8], at: usize) -> AskedNumber {
-    let Number::Read(value, next) = number::read_number(bytes, at) else {
-        return AskedNumber {
-            value: 0,
-            next: PAST,
-        };
-    };
-    AskedNumber { value, next }
+// The numbers that follow the board, and whether all that were asked for were there.
+#[derive(Drop)]
+pub struct Numbers<'c> {
+    bytes: &'c [u8],
+    next: Option<usize>,
 }
 
-// The winding of this number.
-fn which_of(number: u32) -> Which {
-    if number == 0 {
-        Which::First
-    } else {
-        Which::Second
+impl<'c> Numbers<'c> {
+    // Those from a place on.
+    pub fn from(bytes: &'c [u8], at: usize) -> Self {
+        Numbers {
+            bytes,
+            next: Some(at),
+        }
     }
-}
 
-// The winding that the four numbers from a place on ask for: drawn, pushed, relay and which.
-pub fn winding_asked(board: Board, sets: &[u8], bytes: &[u8], start: usize) -> AskedWinding {
-    let drawn = number_asked(bytes, start);
-    let pushed = number_asked(bytes, drawn.next);
-    let relay = number_asked(bytes, pushed.next);
-    let which = number_asked(bytes, relay.next);
-    let state = State {
-        drawn: drawn.value as u64,
-        pushed: pushed.value as u64,
-    };
-    AskedWinding {
-        kept: handed_sets::handed_kept(board, state, sets),
-        relay: relay.value,
-        which: which_of(which.value),
-        next: which.next,
+    // The next.
+    pub fn number(&mut self) -> u32 {
+        let read = self
+            .next
+            .and_then(|at| number::read_number(self.bytes, at).ok());
+        self.next = read.map(|found| found.next);
+        read.map_or(0, |found| found.value)
+    }
+
+    // The winding that the next four ask for: drawn, pushed, relay and which.
+    pub fn winding(&mut self, board: Board, sets: &[u8]) -> AskedWinding {
+        let state = State {
+            drawn: u64::from(self.number()),
+            pushed: u64::from(self.number()),
+        };
+        let relay = self.number();
+        let which = if self.number() == 0 {
+            Which::First
+        } else {
+            Which::Second
+        };
+        AskedWinding {
+            kept: handed::kept(board, state, sets),
+            relay,
+            which,
+        }
+    }
+
+    // Whether the case ends where they do.
+    pub fn end_the_case(&self) -> bool {
+        self.next == Some(self.bytes.len())
     }
 }

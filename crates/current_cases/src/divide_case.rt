@@ -1,65 +1,46 @@
 // A judgement without an allowance, and the check of a terminal handed in, as a case asks for them and as they are
 // printed.
-use crate::{asked, print};
+use crate::asked::Numbers;
 use board::Board;
-use divide::{Checked, Judgement};
+use cases::refusal::ByCall;
+use divide::Judgement;
 use std::io;
 use std::io::Write;
 
-// Prints what the judge without an allowance tells of a winding.
-fn print_judgement<W: Write>(out: &mut W, judgement: Judgement) -> io::Result<()> {
-    match judgement {
-        Judgement::Live => print::words(out, "told live"),
-        Judgement::Shunted => print::words(out, "told shunted"),
-        Judgement::Dead(lowest) => print::counted(out, "told dead ", lowest as u64),
-        Judgement::Refused(refused) => print::call_refusal(out, "told refused ", refused),
-    }
-}
-
-// Prints what the check of a terminal comes to.
-fn print_checked<W: Write>(out: &mut W, checked: Checked) -> io::Result<()> {
-    match checked {
-        Checked::Divides => print::words(out, "checked divides"),
-        Checked::DividesNot => print::words(out, "checked does not divide"),
-        Checked::Refused(refused) => print::call_refusal(out, "checked refused ", refused),
-    }
-}
-
-// Judges without an allowance as the numbers from a place on ask, which must end the case.
+// Judges without an allowance as the numbers ask, which must end the case.
 pub fn answer_judgement<W: Write>(
     out: &mut W,
     board: Board,
     sets: &[u8],
-    bytes: &[u8],
-    start: usize,
+    mut numbers: Numbers,
 ) -> io::Result<()> {
-    let winding = asked::winding_asked(board, sets, bytes, start);
-    if winding.next != bytes.len() {
-        return print::bad_case(out);
+    let winding = numbers.winding(board, sets);
+    if !numbers.end_the_case() {
+        return write!(out, "bad case");
     }
-    let which = winding.which;
-    print_judgement(
-        out,
-        divide::judge(board, winding.kept, winding.relay, which),
-    )
+    match divide::judge(board, winding.kept, winding.relay, winding.which) {
+        Ok(Judgement::Live) => write!(out, "told live"),
+        Ok(Judgement::Shunted) => write!(out, "told shunted"),
+        Ok(Judgement::Dead(lowest)) => write!(out, "told dead {lowest}"),
+        Err(refused) => write!(out, "told refused {}", ByCall(refused)),
+    }
 }
 
-// Checks a terminal as the numbers from a place on ask, the terminal last, which must end the case.
+// Checks a terminal as the numbers ask, the terminal last, which must end the case.
 pub fn answer_check<W: Write>(
     out: &mut W,
     board: Board,
     sets: &[u8],
-    bytes: &[u8],
-    start: usize,
+    mut numbers: Numbers,
 ) -> io::Result<()> {
-    let winding = asked::winding_asked(board, sets, bytes, start);
-    let x = asked::number_asked(bytes, winding.next);
-    if x.next != bytes.len() {
-        return print::bad_case(out);
+    let winding = numbers.winding(board, sets);
+    let x = numbers.number();
+    if !numbers.end_the_case() {
+        return write!(out, "bad case");
     }
-    let which = winding.which;
-    print_checked(
-        out,
-        divide::check(board, winding.kept, winding.relay, which, x.value),
-    )
+    match divide::check(board, winding.kept, winding.relay, winding.which, x) {
+        Ok(true) => write!(out, "checked divides"),
+        Ok(false) => write!(out, "checked does not divide"),
+        Err(refused) => write!(out, "checked refused {}", ByCall(refused)),
+    }
 }

@@ -8,40 +8,23 @@
 // own.
 #![tactic(auto)]
 
-ghost use Rattle.std.specs.Prelude.{◌≤◌, IfOk, length};
-
 mod asked;
 mod board_case;
 mod divide_case;
-mod handed_sets;
 mod judge_case;
-mod print;
-mod typed;
 
+use cases::typed::{self, Besides};
 use std::io;
-use std::io::Read;
+use std::io::Write;
 
-// The longest text that is taken.
-const LONGEST_TEXT: usize = 65_536;
-
-// Reads until the buffer is full or the input ends, and answers how many bytes were read.
-fn read_text<R: Read>(reader: &mut R, text: &mut [u8]) -> io::Result<usize>
-    ensures { IfOk result (λ read. read ≤ length text.old) }
-{
-    let mut length = 0;
-    while length < text.len() {
-        let more = reader.read(&mut text[length..])?;
-        if more == 0 {
-            return Ok(length);
-        }
-        length += more;
+// Answers the case that this character ends.
+fn answer<W: Write>(out: &mut W, character: u8, sets: &[u8], case: &[u8]) -> io::Result<()> {
+    match character {
+        b'@' | b'!' | b'?' => board_case::answer_case(out, character, sets, case),
+        _ => writeln!(out, "bad text"),
     }
-    Ok(length)
 }
 
-// Of a text longer than the buffer the rest is not taken, and has no answers.
 fn main(rt: HostRuntime) -> io::Result<()> {
-    let mut text = [0u8; LONGEST_TEXT];
-    let length = read_text(&mut rt.stdin(), &mut text)?;
-    typed::take_text(&mut rt.stdout(), &text[..length])
+    typed::answer_cases(&mut rt.stdin(), &mut rt.stdout(), Besides::Sets, answer)
 }

@@ -1,21 +1,22 @@
 -- Laws of what a look works out: one for each way through the functions; and when a terminal is served, a winding
 -- shunted and live by it.
-use Prim.Native.Nat.{ℕ, zero, suc, ◌+◌, ◌≤◌, ◌<◌}
+use Prim.Native.Nat.{ℕ, zero, suc, min, ◌+◌, ◌≤◌, ◌<◌}
 use native.Mathlib.Omega.{arith}
 use mathlib.Core.Path.{◌≡◌, refl, sym, ap, subst, ◌∙◌}
 use mathlib.Core.Logic.{◌⊎◌, ◌↔◌, inl, inr, ⊎_elim}
 use mathlib.Core.Bool.{Bool, true, false, not, ◌&&◌, false≢true}
 use mathlib.Core.List.{List}
+use Rattle.std.specs.Prelude.{Some}
 use lib.Dec.{eqb}
 use lib.ListN.{length, get_or}
 use lib.Seq.{ext_get_or}
 use borrow.Author.Tests.{lt-ltb, le-ltb, eqb-true, eqb-false, not-true}
-use Rattle.bits.specs.Sets.{room, member, excluding, remaining, lowest_from}
+use Rattle.bits.specs.Sets.{room, member, excluding, remaining, lowest_from, member_from}
 use Rattle.bits.proofs.BoolLaws.{by_test, both_true, both_ways}
 use Rattle.bits.proofs.SetLaws.{member_none, member-every, members_equal, member-alone, member-remaining}
 use Rattle.bits.proofs.SetLaws.{member-including-same, member-including_other, member-excluding-same}
 use Rattle.bits.proofs.SetLaws.{member-excluding_other}
-use Rattle.bits.proofs.LowestLaws.{lowest-found}
+use Rattle.bits.proofs.LowestLaws.{lowest-found, member_from_found}
 use Rattle.lists.proofs.TableLaws.{table-length, table_at, FilledTo, filled_each}
 use Rattle.board.specs.Rules.{most_terminals}
 use Rattle.neighbours.specs.Neighbours.{joined}
@@ -23,6 +24,7 @@ use Rattle.reach.specs.Floods.{flooded}
 use Rattle.reach.proofs.FloodLaws.{flood-begins, flood_on_lem, flood_least}
 use Rattle.search.specs.declared.Winding.{Winding}
 use Rattle.search.specs.Verdicts.{in_sets}
+use Rattle.search.proofs.VerdictLaws.{in_sets_min}
 use Rattle.feed.specs.Feeds.{poles, everywhere, alone, reached_without, lost_without, served_on, served, linked_to}
 use Rattle.feed.specs.Feeds.{linked, shunted_by, live_by, LowerKnown}
 
@@ -188,9 +190,6 @@ module _ (near : List ℕ) where
   unfolding served_on
   served_starts = refl
 
-  pub below_at : (x y s : ℕ) → s ≡ served_below near (y + 1) → y ≡ x → s ≡ served_below near (x + 1)
-  below_at x y s is at = is ∙ ap (λ (n : ℕ). served_below near (n + 1)) at
-
   -- ---- one terminal more
 
   last_on : (k n s : ℕ)
@@ -253,18 +252,12 @@ module _ (near : List ℕ) where
       (λ is. (kept_there near x (served_below near x) u (ap (λ (n : ℕ). member n u) (sym (below_next x)) ∙ is)).0))
 
   -- the last of t terminals has been taken out, or of more the last that the sets have
-  pub served-ends : (t x s : ℕ) → s ≡ served_below near x → t ≤ x → x ≤ t → x ≤ most_terminals → s ≡ served near t
-  unfolding served in_sets
-  served-ends t x s so past under most =
-      let same : x ≡ t = omega arith in
-      so ∙ ap (served_below near) same ∙ rw (le-ltb most_terminals t (omega (arith, same, most))) refl
-
-  pub served_full : (t x s : ℕ) → s ≡ served_below near x → most_terminals ≤ x → x ≤ most_terminals → x < t
+  pub served-ends : (t x end s : ℕ) → s ≡ served_below near x → end ≡ min t most_terminals → end ≤ x → x ≤ end
       → s ≡ served near t
-  unfolding served in_sets
-  served_full t x s so past most under =
-      let same : x ≡ most_terminals = omega arith in
-      so ∙ ap (served_below near) same ∙ rw (lt-ltb most_terminals t (omega (arith, same, under))) refl
+  unfolding served
+  served-ends t x end s so many past under =
+      let same : x ≡ in_sets t = omega (arith, many, past, under, in_sets_min t) in
+      so ∙ ap (served_below near) same
 
 -- ---- the linked terminals
 
@@ -286,14 +279,12 @@ module _ (bare : List ℕ) where
       (flood-begins bare (alone x) 0 x (member-including-same 0 x inside) (member_none x)) join (member_none y)) n)
       (linked-within y x back n))
 
-  pub flood-alone : (x from r : ℕ) → from ≡ alone x → r ≡ flooded bare from 0 → r ≡ flooded bare (alone x) 0
-  flood-alone x from r is flood = flood ∙ ap (λ (n : ℕ). flooded bare n 0) is
-
-  pub shared_by : (l : List ℕ) (x lowest shared : ℕ) → LowerKnown bare l x → x < room
-      → lowest ≡ lowest_from (get_or bare x 0) 0 → lowest < x → shared ≡ get_or l lowest 0 → member shared x ≡ true
-      → shared ≡ flooded bare (alone x) 0
-  shared_by l x lowest shared known inside at below own on =
-      let is = own ∙ known lowest below in
+  pub shared_by : (l : List ℕ) (x lowest : ℕ) → LowerKnown bare l x → x < room
+      → Some lowest ≡ member_from (get_or bare x 0) 0 → lowest < x → member (get_or l lowest 0) x ≡ true
+      → get_or l lowest 0 ≡ flooded bare (alone x) 0
+  shared_by l x lowest known inside found below on =
+      let at = (member_from_found (get_or bare x 0) 0 lowest found).1 in
+      let is = known lowest below in
       is ∙ linked_shared x lowest inside
       (ap (joined bare x) at ∙ lowest-found (get_or bare x 0) 0 (omega (arith, at, below, inside)))
       (ap (λ (n : ℕ). member n x) (sym is) ∙ on)
@@ -322,30 +313,20 @@ module _ (bare : List ℕ) (t : ℕ) where
   unfolding linked
   linked-length = table-length (linked_to bare t) most_terminals 0
 
-  pub linked-ends : (x : ℕ) (l : List ℕ) → FilledTo (λ (s : ℕ). s) (linked_to bare t) 0 most_terminals x l
-      → (t ≤ x) ⊎ (most_terminals ≤ x) → l ≡ linked bare t
-  linked-ends x l so end =
+  pub linked-ends : (x end : ℕ) (l : List ℕ) → FilledTo (λ (s : ℕ). s) (linked_to bare t) 0 most_terminals x l
+      → end ≡ min t most_terminals → end ≤ x → l ≡ linked bare t
+  linked-ends x end l so many past =
       ext_get_or 0 l (linked bare t) (so.many ∙ sym linked-length)
       (λ y inside.
       let below : y < most_terminals = omega (arith, so.many, inside) in
       filled_each (λ (s : ℕ). s) (linked_to bare t) 0 most_terminals x l so
-      (λ z under from. ⊎_elim (λ past. linked_past z (omega (arith, past, from)))
-      (λ full. absurd (omega (arith, full, under, from))) end)
+      (λ z under from. linked_past z (omega (arith, many, past, under, from)))
       y below
       ∙ sym (linked_at y below))
 
 -- ---- a winding by these
 
 module _ (l : List ℕ) (v : Winding) where
-  pub shunted-beyond : most_terminals ≤ v.a → false ≡ shunted_by l v
-  unfolding shunted_by
-  shunted-beyond past = rw (le-ltb v.a most_terminals past) refl
-
-  pub shunted-within : (b : ℕ) (r : Bool) → v.a < most_terminals → b ≡ v.b → r ≡ member (get_or l v.a 0) b
-      → r ≡ shunted_by l v
-  unfolding shunted_by
-  shunted-within b r below at is = is ∙ rw (at, lt-ltb v.a most_terminals below) refl
-
   -- by the linked terminals of t, one of which it ends at, it is whether its ends are linked
   pub shunted-linked : (bare : List ℕ) (t : ℕ) → l ≡ linked bare t → t ≤ most_terminals → v.a < t
       → shunted_by l v ≡ member (flooded bare (alone v.a) 0) v.b
@@ -357,20 +338,6 @@ module _ (l : List ℕ) (v : Winding) where
         linked_at bare t v.a (omega (arith, below, most)),
         lt-ltb v.a t below,
       ) refl
-
-  module _ (s : ℕ) where
-    pub live-shunted : shunted_by l v ≡ true → false ≡ live_by s l v
-    unfolding live_by
-    live-shunted is = rw is refl
-
-    pub live_one : shunted_by l v ≡ false → member s v.a ≡ false → false ≡ live_by s l v
-    unfolding live_by
-    live_one off unserved = rw (off, unserved) refl
-
-    pub live_both : (b : ℕ) (r : Bool) → shunted_by l v ≡ false → member s v.a ≡ true → b ≡ v.b → r ≡ member s b
-        → r ≡ live_by s l v
-    unfolding live_by
-    live_both b r off one at is = is ∙ rw (at, off, one) refl
 
 -- it is live exactly if it is not shunted and both its ends are served
 pub live_by_exactly : (s : ℕ) (l : List ℕ) (v : Winding)

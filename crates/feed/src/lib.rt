@@ -49,13 +49,8 @@ fn served(near: &[u64; 64], terminals: u8) -> u64
     ensures { result ≡ served near.now terminals }
 {
     let mut served = EVERYWHERE;
-    let mut x = 0;
-    while x < terminals {
-        if MOST_TERMINALS <= x {
-            return served;
-        }
-        served = served_without(near, served, bits::wide(x));
-        x += 1;
+    for x in 0..terminals.min(MOST_TERMINALS) {
+        served = served_without(near, served, u32::from(x));
     }
     served
 }
@@ -67,30 +62,19 @@ fn linked_to(bare: &[u64; 64], linked: &[u64; 64], x: u32) -> u64
     requires lower_known { LowerKnown bare.now linked.now x }
     ensures { result ≡ flooded bare.now (alone x) 0 }
 {
-    let lowest = bits::lowest_from(bare[x as usize], 0);
-    if x <= lowest {
-        return reach::flood(bare, bits::with(0, x), 0);
+    match bits::lowest_from(bare[x as usize], 0) {
+        Some(lowest) if lowest < x && bits::has(linked[lowest as usize], x) => linked[lowest as usize],
+        _ => reach::flood(bare, bits::with(0, x), 0),
     }
-    let shared = linked[lowest as usize];
-    if bits::has(shared, x) {
-        return shared;
-    }
-    reach::flood(bare, bits::with(0, x), 0)
 }
 
 // For each of so many terminals those that are linked to it.
 fn linked(bare: &[u64; 64], terminals: u8) -> [u64; 64]
     ensures { result ≡ linked bare.now terminals }
 {
-    let mut linked = [0u64; 64];
-    let mut x = 0;
-    while x < terminals {
-        if MOST_TERMINALS <= x {
-            return linked;
-        }
-        let set = linked_to(bare, &linked, bits::wide(x));
-        linked[x as usize] = set;
-        x += 1;
+    let mut linked = [0; 64];
+    for x in 0..terminals.min(MOST_TERMINALS) {
+        linked[usize::from(x)] = linked_to(bare, &linked, u32::from(x));
     }
     linked
 }
@@ -105,25 +89,19 @@ pub fn feed_by(sets: Sets, terminals: u8) -> Feed
 }
 
 // Whether the ends of a winding are linked, so that it is shunted.
+#[tactic(auto, unfolding(crate::specs::Feeds::shunted_by))]
 fn is_linked(linked: &[u64; 64], winding: Winding) -> bool
     ensures { result ≡ shunted_by linked.now winding }
 {
-    let place = winding.a;
-    if MOST_TERMINALS <= place {
-        return false;
-    }
-    bits::has(linked[place as usize], bits::wide(winding.b))
+    winding.a < MOST_TERMINALS && bits::has(linked[usize::from(winding.a)], u32::from(winding.b))
 }
 
 // Whether a winding is live: it is not shunted, and both its ends are served.
+#[tactic(auto, unfolding(crate::specs::Feeds::live_by))]
 pub fn is_live(served: u64, linked: &[u64; 64], winding: Winding) -> bool
     ensures { LiveBy served linked.now winding result }
 {
-    if is_linked(linked, winding) {
-        return false;
-    }
-    if bits::has(served, bits::wide(winding.a)) {
-        return bits::has(served, bits::wide(winding.b));
-    }
-    false
+    !is_linked(linked, winding)
+        && bits::has(served, u32::from(winding.a))
+        && bits::has(served, u32::from(winding.b))
 }

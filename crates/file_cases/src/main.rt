@@ -4,37 +4,33 @@
 // file, to be written into a buffer one byte too short) or `!` (a board handed in, to be written).
 #![tactic(auto)]
 
-ghost use Rattle.std.specs.Prelude.{◌≤◌, IfOk, length};
-
 mod file_case;
 mod handed_case;
-mod print;
-mod typed;
 
+use cases::refusal::ByCall;
+use cases::typed::{self, Besides};
+use refusals::Refusal;
 use std::io;
-use std::io::Read;
+use std::io::Write;
 
-// The longest text that is taken.
-const LONGEST_TEXT: usize = 65_536;
-
-// Reads until the buffer is full or the input ends, and answers how many bytes were read.
-fn read_text<R: Read>(reader: &mut R, text: &mut [u8]) -> io::Result<usize>
-    ensures { IfOk result (λ read. read ≤ length text.old) }
-{
-    let mut length = 0;
-    while length < text.len() {
-        let more = reader.read(&mut text[length..])?;
-        if more == 0 {
-            return Ok(length);
-        }
-        length += more;
+// Prints what writing came to.
+fn print_written<W: Write>(out: &mut W, written: Result<usize, Refusal>) -> io::Result<()> {
+    match written {
+        Ok(length) => write!(out, "{length}"),
+        Err(refused) => write!(out, "refused {}", ByCall(refused)),
     }
-    Ok(length)
 }
 
-// Of a text longer than the buffer the rest is not taken, and has no answers.
+// Answers the case that this character ends.
+fn answer<W: Write>(out: &mut W, character: u8, _sets: &[u8], case: &[u8]) -> io::Result<()> {
+    match character {
+        b'>' => file_case::answer_file(out, case, file_case::write_back),
+        b'?' => file_case::answer_file(out, case, file_case::write_short),
+        b'!' => handed_case::answer_board(out, case),
+        _ => writeln!(out, "bad text"),
+    }
+}
+
 fn main(rt: HostRuntime) -> io::Result<()> {
-    let mut text = [0u8; LONGEST_TEXT];
-    let length = read_text(&mut rt.stdin(), &mut text)?;
-    typed::take_text(&mut rt.stdout(), &text[..length])
+    typed::answer_cases(&mut rt.stdin(), &mut rt.stdout(), Besides::Zeros, answer)
 }

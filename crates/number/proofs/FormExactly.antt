@@ -8,9 +8,9 @@ use mathlib.Core.List.{List, [], ◌∷◌, ◌++◌}
 use lib.ListN.{length, drop}
 use Rattle.lists.specs.Members.{All}
 use Rattle.bits.proofs.BoolLaws.{by_less}
-use Rattle.number.specs.declared.Form.{Form}
-use Rattle.number.specs.declared.Form.TheVariants.{Got, Ends, Bad}
-use Rattle.refusals.specs.Outcomes.{Outcome, Found}
+use Rattle.number.specs.Numbers.{Form, Got, Ends, Bad}
+use Rattle.refusals.specs.declared.Found.{Found}
+use Rattle.refusals.specs.Outcomes.{Outcome}
 use Rattle.number.specs.Numbers.{Width, current_width, Bytes, below, form, placed, number_at}
 use Rattle.number.specs.FormExactly.{TopBit, groups, NumberForm, whole, cut, too_long, not_shortest, too_large}
 use Rattle.number.specs.FormExactly.{FormExactly}
@@ -148,13 +148,11 @@ module _ (w : Width) (s : List ℕ) (at : ℕ) where
       whole-placed bytes bs rest b e set few small only
       ∙ placed_as w (length s) at (groups (bs ++ (b ∷ []))) (length (bs ++ (b ∷ []))) most
   form_number bytes o (cut set few) =
-      sym (number-ends w s at (form w.longest (drop at s)) refl (form_cut w.longest (drop at s) set few))
+      sym (number-ends w s at (sym (form_cut w.longest (drop at s) set few)))
   form_number bytes o (too_long bs rest e set long) =
-      sym (number_bad w s at (form w.longest (drop at s)) refl
-      (ap (form w.longest) e ∙ form_long w.longest bs rest set long))
+      sym (number_bad w s at (sym (ap (form w.longest) e ∙ form_long w.longest bs rest set long)))
   form_number bytes o (not_shortest bs rest e set some few) =
-      sym (number_bad w s at (form w.longest (drop at s)) refl
-      (ap (form w.longest) e ∙ form_zero_last w.longest bs rest set some few))
+      sym (number_bad w s at (sym (ap (form w.longest) e ∙ form_zero_last w.longest bs rest set some few)))
   form_number bytes o (too_large bs rest b e set few small only over) =
       whole-placed bytes bs rest b e set few small only
       ∙ placed_over w (length s) at (groups (bs ++ (b ∷ []))) (length (bs ++ (b ∷ []))) over

@@ -12,8 +12,7 @@ use mir.Val.{Fits}
 use lib.ListN.{length, get_or, take, drop, length-take}
 use lib.Seq.{get_or-drop}
 use Rattle.bits.proofs.BoolLaws.{by_less}
-use Rattle.number.specs.declared.Form.{Form}
-use Rattle.number.specs.declared.Form.TheVariants.{Got, Ends, Bad}
+use Rattle.number.specs.Numbers.{Form, Got, Ends, Bad}
 use Rattle.number.specs.Numbers.{Bytes, below, form, encode}
 
 -- ---- one step of each definition

@@ -2,20 +2,19 @@
 -- `write_groups` are one law of these for each way out.
 use mathlib.Core.Path.{◌≡◌, refl, sym, ap, ◌∙◌}
 use mathlib.Core.List.{List}
-use mathlib.Core.Logic.{◌⊎◌, inl, inr}
 use Prim.Native.Nat.{ℕ, zero, suc, ◌+◌, ◌-◌, ◌*◌, ◌/◌, ◌%◌, ◌^◌, ◌≤◌, ◌<◌}
 use native.Mathlib.Nat.{suc-sub-suc, sub-zero, pow-le-pow_right, lt_of_lt_of_le}
 use native.Mathlib.Numerals.{add-one}
 use native.Mathlib.Omega.{arith}
 use mir.Syntax.{w8}
 use mir.Val.{Fits}
-use denote.Enum.Declared.{tag_of}
 use lib.ListN.{length, get_or, drop, set, drop_of_length-le, length-drop}
 use lib.Seq.{sets, drop-cons}
-use Rattle.number.specs.declared.Form.{Form}
-use Rattle.number.specs.declared.Form.TheVariants.{Got, Ends, Bad}
-use Rattle.number.specs.contracts.Form.{the_type}
-use Rattle.number.specs.Numbers.{below, form, encode}
+use Rattle.number.specs.Numbers.{Form, Got, Ends, Bad}
+use Rattle.std.specs.Prelude.{Result}
+use Rattle.number.specs.declared.Flaw.{Flaw}
+use Rattle.number.specs.declared.Flaw.TheVariants.{Cut, NoNumber}
+use Rattle.number.specs.Numbers.{below, form, encode, told_form}
 use Rattle.number.proofs.FormLaws.{FormWithin, Bytes-slice, Bytes-drop, below_got, form_last}
 use Rattle.number.proofs.FormLaws.{form_more, form_read, form-within, encode_some, encode_last, encode_more}
 use Rattle.number.proofs.FormLaws.{form_too_long}
@@ -44,30 +43,30 @@ form_further (suc k) at s b some h e m f r =
     (form_more k b (drop (suc at) s) m ∙ ap (below (b - 128)) (sym (rw (add-one, suc-sub-suc, sub-zero) at r)))
 
 -- a rest that is no number stays what it is
-pub below_other : (g : ℕ) (f : Form) → (tag_of the_type f ≡ 1) ⊎ (tag_of the_type f ≡ 2) → below g f ≡ f
+flaw_below : (g : ℕ) (e : Flaw) → below g (told_form (Result.Err e)) ≡ told_form (Result.Err e)
 unfolding below
-below_other g (Got v n) (inl e) = absurd (let z : ◌≡◌ {A = ℕ} 0 1 = e in omega arith)
-below_other g (Got v n) (inr e) = absurd (let z : ◌≡◌ {A = ℕ} 0 2 = e in omega arith)
-below_other g Ends e = refl
-below_other g Bad e = refl
+flaw_below g Cut = refl
+flaw_below g NoNumber = refl
 
 -- a group that is not the last, and the form of the rest
 module _ (left at : ℕ) (s : List ℕ) (b : ℕ) (some : left ≡ 0 → ⊥) (there : at < length s) (is : b ≡ get_or s at 0)
-    (more : 128 ≤ b) (f : Form) (rest : f ≡ form (left - 1) (drop (at + 1) s)) where
-  pub form-left : below (b - 128) f ≡ f → f ≡ form left (drop at s)
-  form-left same = sym (form_further left at s b some there is more f rest ∙ same)
+    (more : 128 ≤ b) where
+  pub form_flawed : (e : Flaw) → told_form (Result.Err e) ≡ form (left - 1) (drop (at + 1) s)
+      → told_form (Result.Err e) ≡ form left (drop at s)
+  form_flawed e rest =
+      sym (form_further left at s b some there is more _ rest ∙ flaw_below (b - 128) e)
 
-  pub form_not_shortest : (v n : ℕ) → f ≡ Got v n → v ≡ 0 → Bad ≡ form left (drop at s)
+  pub form_not_shortest : (v n : ℕ) → Got v n ≡ form (left - 1) (drop (at + 1) s) → v ≡ 0
+      → Bad ≡ form left (drop at s)
   unfolding below
-  form_not_shortest v n got none =
-      sym (form_further left at s b some there is more f rest
-      ∙ ap (below (b - 128)) (got ∙ ap (λ (x : ℕ). Got x n) none))
+  form_not_shortest v n rest none =
+      sym (form_further left at s b some there is more _ rest ∙ ap (λ (x : ℕ). below (b - 128) (Got x n)) none)
 
-  pub form_grown : (v n : ℕ) → f ≡ Got v n → (v ≡ 0 → ⊥) → Got (b - 128 + 128 * v) (n + 1) ≡ form left (drop at s)
-  form_grown v n got above =
+  pub form_grown : (v n : ℕ) → Got v n ≡ form (left - 1) (drop (at + 1) s) → (v ≡ 0 → ⊥)
+      → Got (b - 128 + 128 * v) (n + 1) ≡ form left (drop at s)
+  form_grown v n rest above =
       rw add-one
-      (sym (form_further left at s b some there is more f rest ∙ ap (below (b - 128)) got
-      ∙ below_got (b - 128) v n (omega arith)))
+      (sym (form_further left at s b some there is more _ rest ∙ below_got (b - 128) v n (omega arith)))
 
 -- what bounds a form of at most `most` bytes that was read at a place
 pub record FormBounds (most at : ℕ) (s : List ℕ) (v n : ℕ) : Type 0 where
@@ -76,12 +75,12 @@ pub record FormBounds (most at : ℕ) (s : List ℕ) (v n : ℕ) : Type 0 where
   pub within : at + n ≤ length s
 
 pub form_bounds : (most left at : ℕ) (s : List ℕ) → ((i : ℕ) → Fits w8 (get_or s i 0)) → left ≤ most
-    → (f : Form) → f ≡ form left (drop at s) → (v n : ℕ) → f ≡ Got v n → FormBounds most at s v n
-form_bounds most left at s h l f r v n is =
-    let w : FormWithin left (drop at s) n = form-within left (drop at s) v n (sym r ∙ is) in
+    → (v n : ℕ) → Got v n ≡ form left (drop at s) → FormBounds most at s v n
+form_bounds most left at s h l v n r =
+    let w : FormWithin left (drop at s) n = form-within left (drop at s) v n (sym r) in
     record {
       small =
-          lt_of_lt_of_le (form_read left (drop at s) v n (Bytes-drop s at (Bytes-slice s h)) (sym r ∙ is)).small
+          lt_of_lt_of_le (form_read left (drop at s) v n (Bytes-drop s at (Bytes-slice s h)) (sym r)).small
           (pow-le-pow_right (omega arith) l);
       few = omega arith;
       within = omega (arith, w, length-drop at s);

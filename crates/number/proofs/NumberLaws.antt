@@ -11,20 +11,17 @@ use borrow.Author.Tests.{leb-true, leb-false, le-leb, lt-leb}
 use lib.Dec.{leb}
 use lib.ListN.{length, take, drop, length-drop}
 use lib.Seq.{sets, drop-drop}
-use Rattle.number.specs.declared.Number.{Number}
-use Rattle.number.specs.declared.Number.TheVariants.{Read, Refused}
-use Rattle.number.specs.declared.NumberWritten.{NumberWritten}
-use Rattle.number.specs.declared.NumberWritten.TheVariants.{Next}
-use Rattle.number.specs.declared.Form.{Form}
-use Rattle.number.specs.declared.Form.TheVariants.{Got, Ends, Bad}
+use Rattle.number.specs.Numbers.{Form, Got, Ends, Bad}
 use Rattle.bits.proofs.BoolLaws.{by_test}
-use Rattle.refusals.specs.Outcomes.{Outcome, given, refused, Found, found}
+use Rattle.refusals.specs.Outcomes.{Outcome, given, refused, found}
 use Rattle.refusals.specs.Refusals.{input_ends, bad_form, buffer_too_short}
 use Rattle.refusals.specs.Order.{first_no}
 use Rattle.number.specs.Numbers.{Width, current_width, Bytes, form, placed, number_at, encode, number_bytes}
-use Rattle.number.specs.Numbers.{number_writing, told_number, told_number_written}
+use Rattle.number.specs.Numbers.{number_writing}
 use Rattle.refusals.proofs.OutcomeLaws.{refused_never, given_injective}
-use Rattle.refusals.proofs.Told.{Told, answer_of, given_or_refused}
+use Rattle.refusals.specs.declared.Found.{Found}
+use Rattle.refusals.specs.declared.No.TheVariants as No
+use Rattle.refusals.proofs.Tabled.{Tabled, tabled_given, tabled_refused}
 use Rattle.number.proofs.FormLaws.{FormRead, Bytes-drop, form_written, form_read, form-within}
 use Rattle.number.proofs.FormLaws.{form_no_further}
 use Rattle.number.proofs.Buffers.{take-drop}
@@ -152,26 +149,23 @@ module _ (w : Width) where
 
   -- ---- a number from its form, as `read_number` reads it
 
-  pub number-ends : (s : List ℕ) (at : ℕ) (f : Form) → f ≡ form w.longest (drop at s) → f ≡ Ends
+  pub number-ends : (s : List ℕ) (at : ℕ) → Ends ≡ form w.longest (drop at s)
       → refused input_ends (length s) ≡ number_at w s at
   unfolding number_at placed
-  number-ends s at f r is = sym (ap (placed w (length s) at) (sym r ∙ is))
+  number-ends s at r = ap (placed w (length s) at) r
 
-  pub number_bad : (s : List ℕ) (at : ℕ) (f : Form) → f ≡ form w.longest (drop at s) → f ≡ Bad
-      → refused bad_form at ≡ number_at w s at
+  pub number_bad : (s : List ℕ) (at : ℕ) → Bad ≡ form w.longest (drop at s) → refused bad_form at ≡ number_at w s at
   unfolding number_at placed
-  number_bad s at f r is = sym (ap (placed w (length s) at) (sym r ∙ is))
+  number_bad s at r = ap (placed w (length s) at) r
 
-  module _ (s : List ℕ) (at : ℕ) (f : Form) (v m : ℕ) (r : f ≡ form w.longest (drop at s)) (is : f ≡ Got v m) where
+  module _ (s : List ℕ) (at v m : ℕ) (r : Got v m ≡ form w.longest (drop at s)) where
     pub number_got : v ≤ w.largest → found v (at + m) ≡ number_at w s at
     unfolding number_at
-    number_got most =
-        sym (ap (placed w (length s) at) (sym r ∙ is) ∙ placed_as (length s) at v m most)
+    number_got most = sym (placed_as (length s) at v m most) ∙ ap (placed w (length s) at) r
 
     pub number_over : w.largest < v → refused bad_form at ≡ number_at w s at
     unfolding number_at
-    number_over over =
-        sym (ap (placed w (length s) at) (sym r ∙ is) ∙ placed_over (length s) at v m over)
+    number_over over = sym (placed_over (length s) at v m over) ∙ ap (placed w (length s) at) r
 
 -- ---- reading what was written, and writing what was read
 
@@ -254,18 +248,24 @@ module _ (v : ℕ) (out : List ℕ) (at bytes : ℕ) (long : bytes ≡ length (n
     unfolding number_bytes
     number_stored out' wrote = rw (long, wrote) (sym (number_written v out at (rw (← long) fits)))
 
--- ---- answers and what they tell
+-- ---- what reading and writing come to is given, or refused by a number of the table
 
-pub number-told : Told told_number
-number-told = given_or_refused told_number (λ f. Read f.value f.next) Refused (λ a. refl) (λ n p. refl) back
-  where
-    back : (x : Number) → answer_of (λ f. Read f.value f.next) Refused (told_number x) ≡ x
-    back (Read v n) = refl
-    back (Refused r) = refl
+pub placed_tabled : (w : Width) (len at : ℕ) (f : Form) → Tabled (placed w len at f)
+unfolding placed
+placed_tabled w len at (Got v n) =
+    by_test (leb v w.largest)
+    (λ most. rw most (tabled_given _))
+    (λ over. rw over (tabled_refused No.BadForm at))
+placed_tabled w len at Ends = tabled_refused No.InputEnds len
+placed_tabled w len at Bad = tabled_refused No.BadForm at
 
-pub number_written_told : Told told_number_written
-number_written_told = given_or_refused told_number_written Next NumberWritten.Refused (λ a. refl) (λ n p. refl) back
-  where
-    back : (x : NumberWritten) → answer_of Next NumberWritten.Refused (told_number_written x) ≡ x
-    back (Next n) = refl
-    back (NumberWritten.Refused r) = refl
+pub number_tabled : (w : Width) (s : List ℕ) (at : ℕ) → Tabled (number_at w s at)
+unfolding number_at
+number_tabled w s at = placed_tabled w (length s) at (form w.longest (drop at s))
+
+pub number_writing_tabled : (v : ℕ) (out : List ℕ) (at : ℕ) → Tabled (number_writing v out at).0
+unfolding number_writing first_no
+number_writing_tabled v out at =
+    by_test (leb (at + length (number_bytes v)) (length out))
+    (λ fits. rw fits (tabled_given _))
+    (λ lacks. rw lacks (tabled_refused No.BufferTooShort 0))

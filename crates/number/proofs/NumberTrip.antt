@@ -7,20 +7,21 @@ use borrow.Author.Tests.{leb-true}
 use lib.Dec.{leb}
 use lib.ListN.{length, drop}
 use Rattle.bits.proofs.BoolLaws.{by_test}
-use Rattle.refusals.specs.Outcomes.{Outcome, given}
+use Rattle.refusals.specs.Outcomes.{Outcome, given, told}
 use Rattle.refusals.specs.Refusals.{buffer_too_short}
 use Rattle.refusals.proofs.OutcomeLaws.{refused_never, given_injective}
-use Rattle.number.specs.declared.NumberWritten.{NumberWritten}
-use Rattle.number.specs.Numbers.{number_bytes, told_number_written, WritesNumber}
+use Rattle.std.specs.Prelude.{Result}
+use Rattle.refusals.specs.declared.Refusal.{Refusal}
+use Rattle.number.specs.Numbers.{number_bytes, WritesNumber}
 use Rattle.number.specs.NumberTrip.{NumberWrittenRead, NumberReadWritten}
 use Rattle.number.proofs.Buffers.{drop_sets, piece_between}
 use Rattle.number.proofs.NumberLaws.{number_unwritten, number_written, number_written_read, number_read_written}
 use Rattle.number.proofs.NumberLaws.{ReadBack}
 
 -- where a number has room at a place, it is written there
-module _ (v at : ℕ) (out : List ℕ) {out' : List ℕ} (w : NumberWritten) (wrote : WritesNumber v out at w out')
+module _ (v at : ℕ) (out : List ℕ) {out' : List ℕ} (w : Result ℕ Refusal) (wrote : WritesNumber v out at w out')
     (fits : at + length (number_bytes v) ≤ length out) where
-  written-told : told_number_written w ≡ given (at + length (number_bytes v))
+  written-told : told w ≡ given (at + length (number_bytes v))
   written-told = ap (λ (x : Outcome ℕ × List ℕ). x.0) (wrote ∙ number_written v out at fits)
 
   written_there : drop at out' ≡ number_bytes v ++ drop (at + length (number_bytes v)) out
@@ -29,19 +30,19 @@ module _ (v at : ℕ) (out : List ℕ) {out' : List ℕ} (w : NumberWritten) (wr
       ∙ drop_sets out at (number_bytes v) fits
 
 -- and it has room where it was written
-written_fits : (v at n : ℕ) (out : List ℕ) {out' : List ℕ} (w : NumberWritten) → WritesNumber v out at w out'
-    → told_number_written w ≡ given n → at + length (number_bytes v) ≤ length out
-written_fits v at n out w wrote told =
+written_fits : (v at n : ℕ) (out : List ℕ) {out' : List ℕ} (w : Result ℕ Refusal) → WritesNumber v out at w out'
+    → told w ≡ given n → at + length (number_bytes v) ≤ length out
+written_fits v at n out w wrote tells =
     by_test (leb (at + length (number_bytes v)) (length out))
     (leb-true _ _)
     (λ none.
     absurd (refused_never buffer_too_short 0 n
-    (ap (λ (x : Outcome ℕ × List ℕ). x.0) (number_unwritten v out at _ refl none ∙ sym wrote) ∙ told)))
+    (ap (λ (x : Outcome ℕ × List ℕ). x.0) (number_unwritten v out at _ refl none ∙ sym wrote) ∙ tells)))
 
 pub number_written_back : NumberWrittenRead
-number_written_back v at n out out' w r small wrote told read =
-    let fits = written_fits v at n out w wrote told in
-    let next : n ≡ at + length (number_bytes v) = given_injective _ _ (sym told ∙ written-told v at out w wrote fits) in
+number_written_back v at n out out' w r small wrote tells read =
+    let fits = written_fits v at n out w wrote tells in
+    let next : n ≡ at + length (number_bytes v) = given_injective _ _ (sym tells ∙ written-told v at out w wrote fits) in
     read ∙ rw next (number_written_read out' at v _ small (written_there v at out w wrote fits))
 
 pub number_read_back : NumberReadWritten

@@ -8,8 +8,7 @@ use mathlib.Core.Logic.{◌⊎◌, inl, inr}
 use mathlib.Core.List.{List, [], ◌∷◌}
 use lib.ListN.{length, drop}
 use Rattle.bits.proofs.BoolLaws.{by_less}
-use Rattle.number.specs.declared.Form.{Form}
-use Rattle.number.specs.declared.Form.TheVariants.{Got, Ends, Bad}
+use Rattle.number.specs.Numbers.{Form, Got, Ends, Bad}
 use Rattle.refusals.specs.Refusals.{bad_form}
 use Rattle.refusals.proofs.Kept.{Kept, stands, was_refused}
 use Rattle.number.specs.Numbers.{Width, three_bytes, current_width, below, form, placed, number_at}

@@ -17,12 +17,13 @@
 --       not_shortest       2, "or not shortest": the last byte is 0, and not the only byte
 --     FormExactly          over the call: it answers o exactly if the bytes come to o, at the current width
 -- A slice's bytes are below 256 (`Bytes`); lists do not say so by themselves.
-use Rattle.std.specs.Prelude.{ℕ, ◌+◌, ◌*◌, ◌%◌, ◌<◌, ◌≤◌, ◌≡◌, ◌↔◌, List, [], ◌∷◌, ◌++◌, length, drop}
+use Rattle.std.specs.Prelude.{ℕ, Result, ◌+◌, ◌*◌, ◌%◌, ◌<◌, ◌≤◌, ◌≡◌, ◌↔◌, List, [], ◌∷◌, ◌++◌, length, drop}
 use Rattle.lists.specs.Members.{All}
-use Rattle.number.specs.declared.Number.{Number}
-use Rattle.refusals.specs.Outcomes.{Outcome, refused, Found, found}
+use Rattle.refusals.specs.declared.Found.{Found}
+use Rattle.refusals.specs.declared.Refusal.{Refusal}
+use Rattle.refusals.specs.Outcomes.{Outcome, refused, found, told}
 use Rattle.refusals.specs.Refusals.{input_ends, bad_form}
-use Rattle.number.specs.Numbers.{Width, current_width, Bytes, told_number, ReadsNumber}
+use Rattle.number.specs.Numbers.{Width, current_width, Bytes, ReadsNumber}
 
 abbrev pub TopBit : ℕ → Type 0
 TopBit b = 128 ≤ b
@@ -45,7 +46,7 @@ pub data NumberForm (w : Width) (s : List ℕ) (at : ℕ) : Outcome (Found ℕ) 
 
 abbrev pub FormExactly : Type 0
 FormExactly =
-    (s : List ℕ) (at : ℕ) (r : Number) (o : Outcome (Found ℕ))
+    (s : List ℕ) (at : ℕ) (r : Result (Found ℕ) Refusal) (o : Outcome (Found ℕ))
     → Bytes s
     → ReadsNumber s at r
-    → told_number r ≡ o ↔ NumberForm current_width s at o
+    → told r ≡ o ↔ NumberForm current_width s at o

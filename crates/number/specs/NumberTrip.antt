@@ -6,28 +6,28 @@
 --     NumberReadWritten    a number that was read and is written, at any place of any buffer where as many bytes have
 --                          room, is not refused, and has there the bytes that were read
 -- A slice's bytes are below 256 (`Bytes`); lists do not say so by themselves.
-use Rattle.std.specs.Prelude.{ℕ, ◌+◌, ◌-◌, ◌≤◌, ◌≡◌, List, length, take, drop}
-use Rattle.refusals.specs.Outcomes.{given, found}
-use Rattle.number.specs.declared.Number.{Number}
-use Rattle.number.specs.declared.NumberWritten.{NumberWritten}
-use Rattle.number.specs.Numbers.{current_width, Bytes, told_number, told_number_written, ReadsNumber, WritesNumber}
+use Rattle.std.specs.Prelude.{ℕ, Result, ◌+◌, ◌-◌, ◌≤◌, ◌≡◌, List, length, take, drop}
+use Rattle.refusals.specs.declared.Found.{Found}
+use Rattle.refusals.specs.declared.Refusal.{Refusal}
+use Rattle.refusals.specs.Outcomes.{given, found, told}
+use Rattle.number.specs.Numbers.{current_width, Bytes, ReadsNumber, WritesNumber}
 
 abbrev pub NumberWrittenRead : Type 0
 NumberWrittenRead =
-    (v at n : ℕ) (out out' : List ℕ) (w : NumberWritten) (r : Number)
+    (v at n : ℕ) (out out' : List ℕ) (w : Result ℕ Refusal) (r : Result (Found ℕ) Refusal)
     → v ≤ current_width.largest
     → WritesNumber v out at w out'
-    → told_number_written w ≡ given n
+    → told w ≡ given n
     → ReadsNumber out' at r
-    → told_number r ≡ found v n
+    → told r ≡ found v n
 
 abbrev pub NumberReadWritten : Type 0
 NumberReadWritten =
-    (s out out' : List ℕ) (at v n i : ℕ) (r : Number) (w : NumberWritten)
+    (s out out' : List ℕ) (at v n i : ℕ) (r : Result (Found ℕ) Refusal) (w : Result ℕ Refusal)
     → Bytes s
     → ReadsNumber s at r
-    → told_number r ≡ found v n
+    → told r ≡ found v n
     → WritesNumber v out i w out'
     → let m = i + (n - at) in
     m ≤ length out
-    → (told_number_written w ≡ given m) × (drop i (take m out') ≡ drop at (take n s))
+    → (told w ≡ given m) × (drop i (take m out') ≡ drop at (take n s))

@@ -7,6 +7,10 @@
 --     three_bytes                     the width before request A1
 --     current_width                   the width of the rule book as it stands
 --     Bytes s                         every element of s is a byte
+--     Form                            what some bytes are as a number:
+--       Got v n                       one worth v, of n bytes
+--       Ends                          cut
+--       Bad                           none, or none in its shortest form
 --     below g f                       the group g below the rest of a number, whose form is f
 --     form k s                        the number of at most k bytes that the bytes s begin with: got its value and
 --                                     length; ends, if s ends inside or before it; bad, if it is longer or not shortest
@@ -21,8 +25,7 @@
 --                                     no room there
 --     number_writing v out at         what that answers, and the buffer afterwards: its bytes stand at the place and
 --                                     the rest stays
---     told_number r                   an answer to reading in the rule book's numbers
---     told_number_written r           an answer to writing in the rule book's numbers
+--     told_form r                     what `read_form` answers, as a form
 --     ReadsNumber s at r              promise: `read_number` at place `at` of the bytes s answers r
 --     NumberLength v r                promise: `number_length` of v answers r
 --     WritesNumber v out at r out'    promise: `write_number` of v into the buffer `out` at a place answers r, and
@@ -30,13 +33,13 @@
 use Rattle.std.specs.Prelude.{ℕ, zero, suc, ◌+◌, ◌-◌, ◌*◌, ◌/◌, ◌%◌, ◌<◌, ◌≡◌, cond, List, [], ◌∷◌, ltb, leb, length}
 use Rattle.std.specs.Prelude.{get_or, drop}
 use Rattle.std.proofs.lemmas.List.Edits.{sets}
-use Rattle.number.specs.declared.Form.{Form}
-use Rattle.number.specs.declared.Form.TheVariants.{Got, Ends, Bad}
-use Rattle.number.specs.declared.Number.{Number}
-use Rattle.number.specs.declared.Number.TheVariants.{Read, Refused}
-use Rattle.number.specs.declared.NumberWritten.{NumberWritten}
-use Rattle.number.specs.declared.NumberWritten.TheVariants.{Next}
-use Rattle.refusals.specs.Outcomes.{Outcome, refused, given, Found, found}
+use Rattle.std.specs.Prelude.{Result}
+use Rattle.number.specs.declared.Groups.{Groups}
+use Rattle.number.specs.declared.Flaw.{Flaw}
+use Rattle.number.specs.declared.Flaw.TheVariants.{Cut, NoNumber}
+use Rattle.refusals.specs.declared.Found.{Found}
+use Rattle.refusals.specs.declared.Refusal.{Refusal}
+use Rattle.refusals.specs.Outcomes.{Outcome, refused, given, found, told}
 use Rattle.refusals.specs.Refusals.{input_ends, bad_form, buffer_too_short}
 use Rattle.refusals.specs.Order.{Order, first_no, answering}
 
@@ -52,6 +55,11 @@ current_width = record { longest = 5; largest = 4_294_967_295 }
 
 abbrev pub Bytes : List ℕ → Type 0
 Bytes s = (i : ℕ) → get_or s i 0 < 256
+
+pub data Form : Type 0 where
+  Got : ℕ → ℕ → Form
+  Ends : Form
+  Bad : Form
 
 -- a rest of 0 would be a last byte 0 that is not the only byte
 unfoldable pub below : ℕ → Form → Form
@@ -89,19 +97,16 @@ number_writing v out at =
     answering (first_no (number_lines v out at)) (λ n p. (refused n p, out))
     (λ _. (given (at + length (number_bytes v)), sets out at (number_bytes v)))
 
-abbrev pub told_number : Number → Outcome (Found ℕ)
-told_number (Read v n) = found v n
-told_number (Refused r) = refused r.number r.place
+abbrev pub told_form : Result Groups Flaw → Form
+told_form (Result.Ok g) = Got g.value g.bytes
+told_form (Result.Err Cut) = Ends
+told_form (Result.Err NoNumber) = Bad
 
-abbrev pub told_number_written : NumberWritten → Outcome ℕ
-told_number_written (Next n) = given n
-told_number_written (NumberWritten.Refused r) = refused r.number r.place
-
-abbrev pub ReadsNumber : List ℕ → ℕ → Number → Type 0
-ReadsNumber s at r = told_number r ≡ number_at current_width s at
+abbrev pub ReadsNumber : List ℕ → ℕ → Result (Found ℕ) Refusal → Type 0
+ReadsNumber s at r = told r ≡ number_at current_width s at
 
 abbrev pub NumberLength : ℕ → ℕ → Type 0
 NumberLength v r = r ≡ length (number_bytes v)
 
-abbrev pub WritesNumber : ℕ → List ℕ → ℕ → NumberWritten → List ℕ → Type 0
-WritesNumber v out at r out' = ◌≡◌ {A = Outcome ℕ × List ℕ} (told_number_written r, out') (number_writing v out at)
+abbrev pub WritesNumber : ℕ → List ℕ → ℕ → Result ℕ Refusal → List ℕ → Type 0
+WritesNumber v out at r out' = ◌≡◌ {A = Outcome ℕ × List ℕ} (told r, out') (number_writing v out at)

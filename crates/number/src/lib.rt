@@ -3,33 +3,23 @@
 
 ghost use Rattle.std.specs.Prelude.{◌≡◌, ◌+◌, ◌≤◌, ◌<◌, ◌^◌, leb, length, drop};
 ghost use Rattle.std.proofs.lemmas.List.Edits.{sets};
-ghost use Rattle.refusals.specs.Outcomes.{refused};
-ghost use Rattle.number.specs.Numbers.{current_width, form, encode, told_number};
+ghost use Rattle.number.specs.Numbers.{current_width, encode, form, told_form};
 ghost use Rattle.number.specs.Numbers.{ReadsNumber, NumberLength, WritesNumber};
 
-use refusals::{BAD_FORM, BUFFER_TOO_SHORT, INPUT_ENDS, Refusal};
+use refusals::{Found, No, Refusal, unless};
 
-// What reading a number gives: its value and the next place, or the refusal.
+// What some bytes are worth as a number, with room for five groups of seven bits, and how many they are.
 #[derive(Clone, Copy)]
-pub enum Number {
-    Read(u32, usize),
-    Refused(Refusal),
+struct Groups {
+    value: u64,
+    bytes: usize,
 }
 
-// What writing a number gives: the next place, or the refusal.
+// Why some bytes are no number: they are cut, or none in its shortest form.
 #[derive(Clone, Copy)]
-pub enum NumberWritten {
-    Next(usize),
-    Refused(Refusal),
-}
-
-// What some bytes are as a number: what they are worth, with room for five groups of seven bits, and how many they are;
-// cut; or no number.
-#[derive(Clone, Copy)]
-enum Form {
-    Got(u64, usize),
-    Ends,
-    Bad,
+enum Flaw {
+    Cut,
+    NoNumber,
 }
 
 // The current width: the longest form, in bytes, and the largest value.
@@ -38,50 +28,58 @@ const LONGEST: usize = 5;
 const LARGEST: u64 = 4_294_967_295;
 
 // The number of at most `left` bytes at a place.
-fn read_form(s: &[u8], at: usize, left: usize) -> Form
+fn read_form(s: &[u8], at: usize, left: usize) -> Result<Groups, Flaw>
     requires { left ≤ current_width.longest }
-    ensures { result ≡ form left (drop at s.now) }
+    ensures { told_form result ≡ form left (drop at s.now) }
 {
     if left == 0 {
-        return Form::Bad;
+        return Err(Flaw::NoNumber);
     }
     if s.len() <= at {
-        return Form::Ends;
+        return Err(Flaw::Cut);
     }
-    let group = bits::wide(s[at]) as u64;
+    let group = u64::from(s[at]);
     if group < 128 {
-        return Form::Got(group, 1);
+        return Ok(Groups {
+            value: group,
+            bytes: 1,
+        });
     }
-    let rest = read_form(s, at + 1, left - 1);
-    let Form::Got(above, bytes) = rest else {
-        return rest;
-    };
-    if above == 0 {
-        return Form::Bad;
+    let above = read_form(s, at + 1, left - 1)?;
+    if above.value == 0 {
+        return Err(Flaw::NoNumber);
     }
-    Form::Got(group - 128 + 128 * above, bytes + 1)
-}
-
-// A refusal by number at a place.
-fn refuse(number: u32, place: usize) -> Number
-    ensures { told_number result ≡ refused number place }
-{
-    Number::Refused(Refusal { number, place })
+    Ok(Groups {
+        value: group - 128 + 128 * above.value,
+        bytes: above.bytes + 1,
+    })
 }
 
 // The number at a place of a slice, or refusal 1 or 2.
-pub fn read_number(s: &[u8], at: usize) -> Number
+pub fn read_number(s: &[u8], at: usize) -> Result<Found<u32>, Refusal>
     ensures { ReadsNumber s.now at result }
 {
     match read_form(s, at, LONGEST) {
-        Form::Got(value, bytes) => {
+        Ok(Groups { value, bytes }) => {
             if value > LARGEST {
-                return refuse(BAD_FORM, at);
+                return Err(Refusal {
+                    no: No::BadForm,
+                    place: at,
+                });
             }
-            Number::Read(value as u32, at + bytes)
+            Ok(Found {
+                value: value as u32,
+                next: at + bytes,
+            })
         }
-        Form::Ends => refuse(INPUT_ENDS, s.len()),
-        Form::Bad => refuse(BAD_FORM, at),
+        Err(Flaw::Cut) => Err(Refusal {
+            no: No::InputEnds,
+            place: s.len(),
+        }),
+        Err(Flaw::NoNumber) => Err(Refusal {
+            no: No::BadForm,
+            place: at,
+        }),
     }
 }
 
@@ -124,23 +122,15 @@ fn write_groups(value: u32, left: usize, out: &mut [u8], at: usize)
 fn has_room(len: usize, at: usize, bytes: usize) -> bool
     ensures { result ≡ leb (at + bytes) len }
 {
-    if len < at {
-        return false;
-    }
-    bytes <= len - at
+    at <= len && bytes <= len - at
 }
 
 // Writes a number in its shortest form at a place: 16 if it has no room there.
-pub fn write_number(value: u32, out: &mut [u8], at: usize) -> NumberWritten
+pub fn write_number(value: u32, out: &mut [u8], at: usize) -> Result<usize, Refusal>
     ensures { WritesNumber value out.old at result out.new }
 {
     let bytes = number_length(value);
-    if !has_room(out.len(), at, bytes) {
-        return NumberWritten::Refused(Refusal {
-            number: BUFFER_TOO_SHORT,
-            place: 0,
-        });
-    }
+    unless(has_room(out.len(), at, bytes), No::BufferTooShort)?;
     write_groups(value, LONGEST, out, at);
-    NumberWritten::Next(at + bytes)
+    Ok(at + bytes)
 }

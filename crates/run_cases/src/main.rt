@@ -6,42 +6,39 @@
 // and where there is none, the sets are the board's own.
 #![tactic(auto)]
 
-ghost use Rattle.std.specs.Prelude.{◌≤◌, IfOk, length};
-
-mod handed_case;
-mod handed_sets;
+mod asked;
 mod move_case;
 mod press_case;
-mod print;
-mod print_sets;
+mod print_left;
 mod report_case;
 mod run_case;
-mod typed;
 
+use cases::typed::{self, Besides};
+use press_case::print_pressed;
 use std::io;
-use std::io::Read;
+use std::io::Write;
 
-// The longest text that is taken.
-const LONGEST_TEXT: usize = 65_536;
-
-// Reads until the buffer is full or the input ends, and answers how many bytes were read.
-fn read_text<R: Read>(reader: &mut R, text: &mut [u8]) -> io::Result<usize>
-    ensures { IfOk result (λ read. read ≤ length text.old) }
-{
-    let mut length = 0;
-    while length < text.len() {
-        let more = reader.read(&mut text[length..])?;
-        if more == 0 {
-            return Ok(length);
-        }
-        length += more;
+// Answers the case that this character ends.
+fn answer<W: Write>(out: &mut W, character: u8, sets: &[u8], case: &[u8]) -> io::Result<()> {
+    let asked = asked::of(sets, case);
+    match character {
+        b'+' => print_pressed(
+            out,
+            asked,
+            presses::push(asked.board, asked.kept, asked.number),
+        ),
+        b'-' => print_pressed(
+            out,
+            asked,
+            presses::release(asked.board, asked.kept, asked.number),
+        ),
+        b'^' => move_case::answer_move(out, asked),
+        b'=' => run_case::answer_run(out, asked),
+        b'%' => report_case::answer_report(out, asked),
+        _ => writeln!(out, "bad text"),
     }
-    Ok(length)
 }
 
-// Of a text longer than the buffer the rest is not taken, and has no answers.
 fn main(rt: HostRuntime) -> io::Result<()> {
-    let mut text = [0u8; LONGEST_TEXT];
-    let length = read_text(&mut rt.stdin(), &mut text)?;
-    typed::take_text(&mut rt.stdout(), &text[..length])
+    typed::answer_cases(&mut rt.stdin(), &mut rt.stdout(), Besides::Sets, answer)
 }

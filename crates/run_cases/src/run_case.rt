@@ -1,6 +1,9 @@
 // Runs. What is asked is the length of the log that is lent.
-use crate::{handed_case, handed_sets, print, print_sets};
-use runs::{Ending, Ran};
+use crate::asked::Asked;
+use crate::print_left;
+use cases::refusal::ByCall;
+use refusals::Refusal;
+use runs::Ending;
 use std::io;
 use std::io::Write;
 
@@ -14,69 +17,42 @@ const UNTOUCHED: u8 = 0xaa;
 const MOST_SHOWN: usize = 40;
 
 // Prints the word that a run ended with.
-fn print_word<W: Write>(out: &mut W, word: Ending) -> io::Result<()> {
+fn print_word<W: Write>(out: &mut W, word: Result<Ending, Refusal>) -> io::Result<()> {
     match word {
-        Ending::Idle => print::words(out, "ran idle"),
-        Ending::Spent => print::words(out, "ran spent"),
-        Ending::Conflict => print::words(out, "ran conflict"),
-        Ending::Buzz => print::words(out, "ran buzz"),
-        Ending::Refused(refused) => print::call_refusal(out, "ran refused ", refused),
+        Ok(Ending::Idle) => write!(out, "ran idle"),
+        Ok(Ending::Spent) => write!(out, "ran spent"),
+        Ok(Ending::Conflict) => write!(out, "ran conflict"),
+        Ok(Ending::Buzz) => write!(out, "ran buzz"),
+        Err(refused) => write!(out, "ran refused {}", ByCall(refused)),
     }
 }
 
-// Prints one of the log's bytes: a move made, if it is one of those that are shown, or past the moves that it is
+// Prints the log after so many moves: the moves made, of which not all are shown, and each byte past them that is
 // touched although it must not be.
-fn print_logged<W: Write>(out: &mut W, byte: u8, at: usize, moves: usize) -> io::Result<()> {
-    if moves <= at {
-        if byte != UNTOUCHED {
-            print::words(out, " and more")
-        } else {
-            Ok(())
-        }
-    } else if at < MOST_SHOWN {
-        print::counted(out, " ", byte as u64)
-    } else {
-        Ok(())
-    }
-}
-
-// Prints the log after so many moves.
 fn print_log<W: Write>(out: &mut W, log: &[u8], moves: usize) -> io::Result<()> {
-    for (at, byte) in log.iter().enumerate() {
-        print_logged(out, *byte, at, moves)?;
+    for (at, &byte) in log.iter().enumerate() {
+        if moves <= at {
+            if byte != UNTOUCHED {
+                write!(out, " and more")?;
+            }
+        } else if at < MOST_SHOWN {
+            write!(out, " {byte}")?;
+        }
     }
     Ok(())
 }
 
-// Prints what a run answers.
-fn print_ran<W: Write>(out: &mut W, ran: Ran) -> io::Result<()> {
-    let word = ran.word;
-    print_word(out, word)?;
-    print::counted(out, " ", ran.moves as u64)?;
-    let left = ran.kept;
-    print::state(out, left.state)?;
-    print::counted(out, " ", ran.relay as u64)?;
-    print::counted(out, " ", ran.earlier as u64)?;
-    print::counted(out, " ", ran.between as u64)?;
-    print::words(out, ":")
-}
-
-// Runs a board over a lent log, and prints what it answers, what it logged and the sets that it left.
-fn run_over<W: Write>(out: &mut W, sets: &[u8], bytes: &[u8], log: &mut [u8]) -> io::Result<()> {
-    let board = handed_case::handed_board(bytes);
-    let given = handed_sets::handed_kept(board, handed_case::handed_state(bytes), sets);
-    let ran = runs::run(board, given, log);
-    print_ran(out, ran)?;
-    print_log(out, log, ran.moves)?;
-    print_sets::print_sets(out, board, given, ran.kept)
-}
-
-// Runs a board over a log of the length that is asked.
-pub fn answer_run<W: Write>(out: &mut W, sets: &[u8], bytes: &[u8]) -> io::Result<()> {
-    let length = handed_case::three_bytes_at(bytes, 6) as usize;
-    if LOG_ROOM < length {
-        return print::words(out, "bad case\n");
-    }
+// Runs a board over a log of the length that is asked, and prints what the run answers, what it logged and what it left.
+pub fn answer_run<W: Write>(out: &mut W, asked: Asked) -> io::Result<()> {
     let mut buffer = [UNTOUCHED; LOG_ROOM];
-    run_over(out, sets, bytes, &mut buffer[..length])
+    let Some(log) = buffer.get_mut(..asked.number as usize) else {
+        return writeln!(out, "bad case");
+    };
+    let ran = runs::run(asked.board, asked.kept, log);
+    print_word(out, ran.word)?;
+    write!(out, " {}", ran.moves)?;
+    print_left::print_state(out, ran.kept.state)?;
+    write!(out, " {} {} {}:", ran.relay, ran.earlier, ran.between)?;
+    print_log(out, log, ran.moves)?;
+    print_left::print_sets(out, asked, ran.kept)
 }

@@ -19,12 +19,6 @@ use Rattle.search.specs.Walks.{marked, carried, at_plus, gone}
 
 -- ---- steps
 
-pub step_same : (x y a b : ℕ) → x ≡ a → eqb y b ≡ (eqb x a && eqb y b)
-step_same x y a b e = rw (eq-eqb x a e) refl
-
-pub step_other : (x y a b : ℕ) → (x ≡ a → ⊥) → false ≡ (eqb x a && eqb y b)
-step_other x y a b d = rw (ne_eqb x a d) refl
-
 pub crosses_there : (a b x y : ℕ) (t : Bool) → t ≡ (eqb x a && eqb y b) → t ≡ true → true ≡ crosses a b x y
 unfolding crosses
 crosses_there a b x y t e h = rw (sym e ∙ h) refl
@@ -58,20 +52,9 @@ chain-fields : (k l e f m o : ℕ) (s q : Bool) → k ≡ l → e ≡ f → m �
     (record { length = l; end = f; met = o; beside = q })
 chain-fields k l e f m o s q i j h r = rw (i, j, h, r) refl
 
--- the chain of plus alone, and what it carries
-pub begun-fields : (m : ℕ) → m ≡ including 0 0
-    → ◌≡◌ {A = Chain} (record { length = 1; end = 0; met = m; beside = false }) at_plus
-begun-fields m e = chain-fields _ _ _ _ _ _ _ _ refl refl e refl
-
 pub begun-carried : (v : Winding) → at_plus ≡ carried v (plus ∷ [])
 unfolding carried marked beside some_crosses
 begun-carried v = refl
-
--- the chain gone on to n, and what it carries
-pub gone-fields : (v : Winding) (c : Chain) (n o : ℕ) (q : Bool) → o ≡ including c.met n
-    → q ≡ (c.beside || crosses v.a v.b c.end n)
-    → ◌≡◌ {A = Chain} (record { length = c.length + 1; end = n; met = o; beside = q }) (gone v c n)
-gone-fields v c n o q eo eq = chain-fields _ _ _ _ _ _ _ _ refl refl eo eq
 
 gone_next : (v : Winding) (p : List ℕ) (n : ℕ) → 0 < length p → gone v (carried v p) n ≡ carried v (p ++ (n ∷ []))
 unfolding carried
@@ -86,13 +69,3 @@ gone_next v (x ∷ p) n some =
 pub gone-carried : (v : Winding) (c : Chain) (p : List ℕ) (n : ℕ) → 0 < length p → c ≡ carried v p
     → gone v c n ≡ carried v (p ++ (n ∷ []))
 gone-carried v c p n some e = ap (λ (d : Chain). gone v d n) e ∙ gone_next v p n some
-
--- what the step to n adds: n to the set, and that the winding was crossed
-pub marked_one : (s n m o : ℕ) → o ≡ including s m → m ≡ n → o ≡ including s n
-marked_one s n m o e same = e ∙ ap (including s) same
-
-pub crossed-beside : (s t u : Bool) → t ≡ u → t ≡ true → true ≡ (s || u)
-crossed-beside s t u e h = sym (or-true s) ∙ ap (λ (r : Bool). s || r) (sym h ∙ e)
-
-pub crossed_not : (s t u : Bool) → t ≡ u → t ≡ false → s ≡ (s || u)
-crossed_not s t u e h = sym (or-false s) ∙ ap (λ (r : Bool). s || r) (sym h ∙ e)

@@ -5,28 +5,34 @@ use native.Mathlib.Omega.{arith}
 use mathlib.Core.Path.{◌≡◌, refl, sym, ap, subst, ◌∙◌}
 use mathlib.Core.Bool.{Bool, cond}
 use mathlib.Core.List.{List, [], ◌++◌}
-use Rattle.bits.specs.Sets.{member, first_from, lowest_from}
+use Rattle.std.specs.Prelude.{Some, None}
+use Rattle.bits.specs.Sets.{member, first_from, lowest_from, member_from}
 use Rattle.bits.proofs.BoolLaws.{by_test}
-use Rattle.bits.proofs.LowestLaws.{first_below}
+use Rattle.bits.proofs.LowestLaws.{first_below, member_from_found, member_from_lacks}
 use Rattle.board.specs.Rules.{most_terminals}
 use Rattle.chains.specs.ChainList.{tries}
 
--- ---- the lowest member from x, which is n, up is m; y is the number of terminals t
+-- ---- the lowest member from x, which is n, up, if there is one; y is the number of terminals t
 
-module _ (s t n x m y : ℕ) (start : n ≤ t) (most : t ≤ most_terminals) (from : x ≡ n) (up : y ≡ t)
-    (found : m ≡ lowest_from s x) where
-  lowest : m ≡ first_from (member s) (64 - n) n
+module _ (s t n x y : ℕ) (start : n ≤ t) (most : t ≤ most_terminals) (from : x ≡ n) (up : y ≡ t) where
+  below_terminals : (m : ℕ) → m ≡ lowest_from s x
+      → (m < t → m ≡ first_from (member s) (t - n) n) × (t ≤ m → t ≡ first_from (member s) (t - n) n)
   unfolding lowest_from
-  lowest = found ∙ ap (λ (k : ℕ). first_from (member s) (64 - k) k) from
+  below_terminals m lowest =
+      first_below (member s) t (64 - n) n m start (omega (arith, most))
+      (lowest ∙ ap (λ (k : ℕ). first_from (member s) (64 - k) k) from)
 
-  below_terminals : (m < t → m ≡ first_from (member s) (t - n) n) × (t ≤ m → t ≡ first_from (member s) (t - n) n)
-  below_terminals = first_below (member s) t (64 - n) n m start (omega (arith, most)) lowest
+  pub next_some : (m : ℕ) → Some m ≡ member_from s x → m < y → m ≡ first_from (member s) (t - n) n
+  next_some m found below =
+      (below_terminals m (member_from_found s x m found).1).0 (omega (arith, below, up))
 
-  pub next_none : y ≤ m → t ≡ first_from (member s) (t - n) n
-  next_none past = below_terminals.1 (omega (arith, past, up))
+  pub next_past : (m : ℕ) → Some m ≡ member_from s x → y ≤ m → t ≡ first_from (member s) (t - n) n
+  next_past m found past =
+      (below_terminals m (member_from_found s x m found).1).1 (omega (arith, past, up))
 
-  pub next_some : m < y → m ≡ first_from (member s) (t - n) n
-  next_some below = below_terminals.0 (omega (arith, below, up))
+  pub next_none : None ≡ member_from s x → t ≡ first_from (member s) (t - n) n
+  next_none none =
+      (below_terminals (lowest_from s x) refl).1 (omega (arith, most, member_from_lacks s x none))
 
 -- ---- the numbers passed over add no chain
 

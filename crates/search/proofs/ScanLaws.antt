@@ -22,26 +22,6 @@ use Rattle.search.specs.Walks.{told_walked}
 
 -- ---- the verdict of a walk
 
--- what a walk left, once it is known what it found
-pub left_within : (r : Walked) (ps : List ℕ) (w : ℕ) (f : code-scan.Scan) → r.found ≡ f
-    → LeftWithin (told_walked r ps) w
-    → LeftWithin (told_walked (record { found = f; left = r.left; length = r.length }) ps) w
-left_within r ps w f e h =
-    subst
-    (λ (f : code-scan.Scan). LeftWithin (told_walked (record { found = f; left = r.left; length = r.length }) ps)
-    w) e h
-
-pub concluded_showing : (r : Walked) (ps qs : List ℕ) (w : ℕ) → length ps ≡ most_terminals → r.length ≤ most_terminals
-    → qs ≡ places (take r.length ps) → r.found ≡ Showing
-    → ◌≡◌ {A = Verdict}
-    (record { finding = given Finding.live; effort = w - r.left; length = r.length; places = qs })
-    (concluded (told_walked r ps) w)
-concluded_showing r ps qs w room short shown e =
-    let long : r.length ≡ length (take r.length ps) =
-    sym (length-take-le r.length ps (omega (arith, room, short))) in
-    ap (λ (k : ℕ). record { finding = given Finding.live; effort = w - r.left; length = k; places = qs }) long
-    ∙ rw (shown, e) refl
-
 pub concluded_none : (r : Walked) (ps : List ℕ) (w : ℕ) → r.found ≡ ShowingNone
     → ◌≡◌ {A = Verdict}
     (record { finding = given Finding.dead; effort = w - r.left; length = 0; places = replicate most_terminals 0 })

@@ -1,36 +1,28 @@
--- Laws of the places of a shown chain: the first as they are, the others made 0 one by one. What `walk::shown` needs.
-use Prim.Native.Nat.{ℕ, ◌+◌, ◌-◌, ◌<◌, ◌≤◌}
+-- Laws of the places of a shown chain: the first as they are, the others made 0. What `walk::shown` needs.
+use Prim.Native.Nat.{ℕ, ◌+◌, ◌-◌, ◌≤◌}
 use native.Mathlib.Omega.{arith}
-use native.Mathlib.Numerals.{add-one}
-use mathlib.Core.Path.{◌≡◌, sym, ap, ◌∙◌}
-use mathlib.Core.List.{List, [], ◌∷◌, ◌++◌, append-nil, append_assoc}
-use lib.ListN.{length, take, set, replicate, replicate-append-replicate}
-use lib.Seq.{take_all, take-suc-set, length-take-le}
+use mathlib.Core.Path.{◌≡◌, sym, ap, ap₂, ◌∙◌}
+use mathlib.Core.List.{List, [], ◌∷◌, ◌++◌, append-nil}
+use lib.ListN.{length, take, drop, replicate, length-drop}
+use lib.Seq.{length-take-le}
+use Rattle.std.proofs.lemmas.List.{drop_all}
+use borrow.Rule.Slice.PartMut.{mid_of, put_mid}
 use Rattle.board.specs.Rules.{most_terminals}
 use Rattle.search.specs.Verdicts.{places}
 
--- ts is ps with the places from k up to i made 0
-module _ (ps ts : List ℕ) (k i : ℕ) (room : length ts ≡ most_terminals) (from : k ≤ i)
-    (done : take i ts ≡ take k ps ++ replicate (i - k) 0) where
-  pub shown_more : i < most_terminals → take (i + 1) (set ts i 0) ≡ take k ps ++ replicate (i + 1 - k) 0
-  shown_more below =
-      let count : i - k + 1 ≡ i + 1 - k = omega (arith, from) in
-      ap (λ (n : ℕ). take n (set ts i 0)) (add-one i)
-      ∙ take-suc-set ts i 0 (omega (arith, room, below))
-      ∙ ap (λ (l : List ℕ). l ++ (0 ∷ [])) done
-      ∙ append_assoc (take k ps) (replicate (i - k) 0) (0 ∷ [])
-      ∙ ap (λ (l : List ℕ). take k ps ++ l) (replicate-append-replicate (i - k) 1 0
-      ∙ ap (λ (n : ℕ). replicate n 0) count)
+-- the places of ps from k on are made 0
+module _ (ps ys : List ℕ) (k : ℕ) (long : length ps ≡ most_terminals) (few : k ≤ most_terminals) where
+  part_long : length (mid_of k (most_terminals - k) ps) ≡ most_terminals - length (take k ps)
+  part_long =
+      length-take-le (most_terminals - k) (drop k ps) (omega (arith, long, few, length-drop k ps))
+      ∙ ap (λ (n : ℕ). most_terminals - n) (sym (length-take-le k ps (omega (arith, long, few))))
 
-  pub shown_end : length ps ≡ most_terminals → i ≤ most_terminals → most_terminals ≤ i → ts ≡ places (take k ps)
+  rest_none : drop (most_terminals - k) (drop k ps) ≡ []
+  rest_none = drop_all (most_terminals - k) (drop k ps) (omega (arith, long, length-drop k ps))
+
+  pub shown_cleared : ys ≡ replicate (length (mid_of k (most_terminals - k) ps)) 0
+      → put_mid k (most_terminals - k) ps ys ≡ places (take k ps)
   unfolding places
-  shown_end long most past =
-      let count : i - k ≡ most_terminals - length (take k ps) =
-      omega (arith, most, past, length-take-le k ps (omega (arith, long, from, most))) in
-      sym (take_all i ts (omega (arith, room, past))) ∙ done ∙ ap (λ (n : ℕ). take k ps ++ replicate n 0) count
-
--- before any is made 0
-pub shown_none : (ps : List ℕ) (k : ℕ) → take k ps ≡ take k ps ++ replicate (k - k) 0
-shown_none ps k =
-    let none : 0 ≡ k - k = omega arith in
-    sym (append-nil (take k ps)) ∙ ap (λ (n : ℕ). take k ps ++ replicate n 0) none
+  shown_cleared cleared =
+      ap (λ (l : List ℕ). take k ps ++ l)
+      (ap₂ ◌++◌ (cleared ∙ ap (λ (n : ℕ). replicate n 0) part_long) rest_none ∙ append-nil _)

@@ -1,23 +1,25 @@
 -- Laws of verdicts: what live, dead and undecided say of the chains, what the effort counts, that a verdict is known by
 -- what it tells, and that at most 64 terminals are looked at. What `search`, `judge` and the crates above them need.
-use Prim.Native.Nat.{ℕ, ◌+◌, ◌<◌, ◌≤◌}
+use Prim.Native.Nat.{ℕ, min, ◌+◌, ◌<◌, ◌≤◌}
 use native.Mathlib.Omega.{arith}
 use mathlib.Core.Path.{◌≡◌, refl, sym, ap, subst}
 use mathlib.Core.Logic.{inl}
 use mathlib.Core.Bool.{Bool, true, false}
 use mathlib.Core.List.{List, [], ◌∷◌, ◌++◌}
-use mathlib.Core.Option.{some, none, none-ne-some, some-injective}
+use mathlib.Core.Option.{Option, some, none, none-ne-some, some-injective}
+use lib.Dec.{leb}
 use lib.ListN.{length}
 use borrow.Author.Tests.{lt-ltb, le-ltb, le-leb, lt-leb}
-use Rattle.bits.proofs.BoolLaws.{by_test}
+use Rattle.bits.proofs.BoolLaws.{by_test, by_less}
 use Rattle.lists.specs.Members.{◌∈◌, All}
 use Rattle.lists.proofs.MemberLaws.{all-member, member-append_right}
-use Rattle.refusals.specs.Outcomes.{Outcome, given, refused}
-use Rattle.refusals.proofs.Told.{Told, told_injective}
+use Rattle.refusals.specs.Outcomes.{told_as}
+use Rattle.refusals.proofs.Told.{Told}
+use Rattle.refusals.proofs.Tabled.{Tabled, tabled_given, Tells, tells_injective, result-tells_as}
 use Rattle.board.specs.Rules.{most_terminals}
 use Rattle.search.specs.declared.Winding.{Winding}
 use Rattle.search.specs.declared.Finding as code-finding
-use Rattle.search.specs.declared.Finding.TheVariants.{Live, Dead, Undecided, Refused}
+use Rattle.search.specs.declared.Finding.TheVariants.{Live, Dead, Undecided}
 use Rattle.search.specs.declared.Verdict as code-verdict
 use Rattle.search.specs.Verdicts.{Finding, live, dead, undecided, Verdict, first_shown, effort, settled}
 use Rattle.search.specs.Verdicts.{unsettled, weighed, verdict_by, in_sets, told_finding, told_verdict}
@@ -120,31 +122,35 @@ effort_some s c cs = omega arith
 finding-told : Told told_finding
 finding-told = record { untold = untold; back = back; onto = onto }
   where
-    untold : Outcome Finding → code-finding.Finding
-    untold (given live) = Live
-    untold (given dead) = Dead
-    untold (given undecided) = Undecided
-    untold (refused n p) = Refused (record { number = n; place = p })
+    untold : Finding → code-finding.Finding
+    untold live = Live
+    untold dead = Dead
+    untold undecided = Undecided
 
     back : (x : code-finding.Finding) → untold (told_finding x) ≡ x
     back Live = refl
     back Dead = refl
     back Undecided = refl
-    back (Refused r) = refl
 
-    onto : (y : Outcome Finding) → told_finding (untold y) ≡ y
-    onto (given live) = refl
-    onto (given dead) = refl
-    onto (given undecided) = refl
-    onto (refused n p) = refl
+    onto : (y : Finding) → told_finding (untold y) ≡ y
+    onto live = refl
+    onto dead = refl
+    onto undecided = refl
 
-pub verdict-told : Told told_verdict
-verdict-told = record { untold = untold; back = back; onto = onto }
+-- a verdict whose finding is one of the three, or refused by a number of the table
+abbrev pub TabledVerdict : Verdict → Type 0
+TabledVerdict v = Tabled v.finding
+
+pub verdict-tells : Tells TabledVerdict told_verdict
+verdict-tells = record { untold = untold; back = back; onto = onto }
   where
+    finding-tells : Tells Tabled (told_as told_finding)
+    finding-tells = result-tells_as told_finding finding-told
+
     untold : Verdict → code-verdict.Verdict
     untold v =
         record {
-          finding = finding-told.untold v.finding;
+          finding = finding-tells.untold v.finding;
           effort = v.effort;
           length = v.length;
           terminals = v.places;
@@ -152,29 +158,47 @@ verdict-told = record { untold = untold; back = back; onto = onto }
 
     back : (x : code-verdict.Verdict) → untold (told_verdict x) ≡ x
     back x = λ i. record {
-      finding = finding-told.back x.finding i;
+      finding = finding-tells.back x.finding i;
       effort = x.effort;
       length = x.length;
       terminals = x.terminals;
     }
 
-    onto : (y : Verdict) → told_verdict (untold y) ≡ y
-    onto y = λ i. record {
-      finding = finding-told.onto y.finding i;
+    onto : (y : Verdict) → TabledVerdict y → told_verdict (untold y) ≡ y
+    onto y good = λ i. record {
+      finding = finding-tells.onto y.finding good i;
       effort = y.effort;
       length = y.length;
       places = y.places;
     }
 
 pub told_verdict_injective : (x y : code-verdict.Verdict) → told_verdict x ≡ told_verdict y → x ≡ y
-told_verdict_injective = told_injective told_verdict verdict-told
+told_verdict_injective = tells_injective told_verdict verdict-tells
+
+-- a judgement by the chains is refused by nothing
+pub settled-tabled : (e : ℕ) (o : Option (List ℕ)) → TabledVerdict (settled e o)
+settled-tabled e (some c) = tabled_given live
+settled-tabled e none = tabled_given dead
+
+pub weighed-tabled : (s : List ℕ → Bool) (cs : List (List ℕ)) (w : ℕ) → TabledVerdict (weighed s cs w)
+unfolding weighed
+weighed-tabled s cs w =
+    by_test (leb (effort s cs) w)
+    (λ within. rw within (settled-tabled (effort s cs) (first_shown s cs)))
+    (λ short. rw short (tabled_given undecided))
+
+pub verdict_by-tabled : (near : List ℕ) (t : ℕ) (v : Winding) (w : ℕ) → TabledVerdict (verdict_by near t v w)
+unfolding verdict_by
+verdict_by-tabled near t v w = weighed-tabled _ _ w
 
 -- ---- at most 64 terminals are looked at
 
-pub in_sets_most : (near : List ℕ) (t : ℕ) (v : Winding) (w : ℕ) → most_terminals < t
-    → verdict_by near most_terminals v w ≡ verdict_by near (in_sets t) v w
+pub in_sets_min : (t : ℕ) → in_sets t ≡ min t most_terminals
 unfolding in_sets
-in_sets_most near t v w more = rw (lt-ltb most_terminals t more) refl
+in_sets_min t =
+    by_less most_terminals t
+    (λ more. rw (lt-ltb most_terminals t more) (omega (arith, more)))
+    (λ most. rw (le-ltb most_terminals t most) (omega (arith, most)))
 
 pub in_sets_all : (near : List ℕ) (t : ℕ) (v : Winding) (w : ℕ) → t ≤ most_terminals
     → verdict_by near t v w ≡ verdict_by near (in_sets t) v w

@@ -198,6 +198,18 @@ pub record Trying (near : List ℕ) (t n : ℕ) (v : Winding) (c : Chain) (ps : 
   pub short : c.length < t
   pub lowest : m ≡ first_from (member u) (t - n) n
 
+pub trying : {near : List ℕ} {t n : ℕ} {v : Winding} {c : Chain} {ps : List ℕ} {u m : ℕ} (x : ℕ) → Carries v c ps
+    → x ≡ c.end → u ≡ remaining (get_or near x 0) c.met → n ≤ t → t ≤ most_terminals → c.length < t
+    → m ≡ first_from (member u) (t - n) n → Trying near t n v c ps u m
+trying {near} {t} {n} {v} {c} {ps} {u} {m} x carries at unmet start most short lowest = record {
+  carries = carries;
+  unmet = unmet ∙ ap (λ (y : ℕ). remaining (get_or near y 0) c.met) at;
+  start = start;
+  most = most;
+  short = short;
+  lowest = lowest;
+}
+
 module _ {near : List ℕ} {t n : ℕ} {v : Winding} {c : Chain} {ps : List ℕ} {u m : ℕ}
     (h : Trying near t n v c ps u m) where
   -- of a number that has a place in the sets, u says whether the chain can go on to it
@@ -313,9 +325,6 @@ module _ {near : List ℕ} {t n : ℕ} {v : Winding} {c : Chain} {ps : List ℕ}
 
     pub numbers_fall : {k : ℕ} → (t - c.length) * 100 + (t - n) ≡ k → (t - c.length) * 100 + (t - (m + 1)) < k
     numbers_fall e = omega (arith, first_after _ _ _ _ h.lowest, some, e)
-
-pub tries_fall : (t l k : ℕ) → t ≤ most_terminals → (t - l) * 100 + 99 ≡ k → (t - l) * 100 + (t - 0) < k
-tries_fall t l k most e = omega (arith, most, e)
 
 -- ---- the walk from plus
 

@@ -20,13 +20,13 @@
 use Rattle.std.specs.Prelude.{ℕ, suc, ◌-◌, ◌≡◌, Bool, cond, List, [], ◌∷◌, ◌++◌, leb, ltb}
 use Rattle.std.proofs.Math.Option.{Option, none, some}
 use lib.ListN.{replicate}
-use Rattle.refusals.specs.Outcomes.{Outcome, given, refused}
+use Rattle.refusals.specs.Outcomes.{Outcome, given, refused, told_as}
 use Rattle.board.specs.Rules.{most_terminals}
 use Rattle.neighbours.specs.Neighbours.{joined}
 use Rattle.chains.specs.ChainList.{chains, shows}
 use Rattle.search.specs.declared.Winding.{Winding}
 use Rattle.search.specs.declared.Finding as code-finding
-use Rattle.search.specs.declared.Finding.TheVariants.{Live, Dead, Undecided, Refused}
+use Rattle.search.specs.declared.Finding.TheVariants.{Live, Dead, Undecided}
 use Rattle.search.specs.declared.Verdict as code-verdict
 
 pub data Finding : Type 0 where
@@ -68,15 +68,19 @@ in_sets t = cond (ltb most_terminals t) most_terminals t
 abbrev pub unanswered : ℕ → ℕ → Verdict
 unanswered n p = record { finding = refused n p; effort = 0; length = 0; places = places [] }
 
-abbrev pub told_finding : code-finding.Finding → Outcome Finding
-told_finding Live = given live
-told_finding Dead = given dead
-told_finding Undecided = given undecided
-told_finding (Refused r) = refused r.number r.place
+abbrev pub told_finding : code-finding.Finding → Finding
+told_finding Live = live
+told_finding Dead = dead
+told_finding Undecided = undecided
 
 abbrev pub told_verdict : code-verdict.Verdict → Verdict
 told_verdict v =
-    record { finding = told_finding v.finding; effort = v.effort; length = v.length; places = v.terminals }
+    record {
+      finding = told_as told_finding v.finding;
+      effort = v.effort;
+      length = v.length;
+      places = v.terminals;
+    }
 
 abbrev pub Searches : List ℕ → ℕ → Winding → ℕ → code-verdict.Verdict → Type 0
 Searches near t v w r = told_verdict r ≡ verdict_by near (in_sets t) v w

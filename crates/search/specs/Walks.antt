@@ -14,6 +14,7 @@
 --     told_walked r ps         what an answer says, with the chain found in the lent places ps
 --     WalkComes r c ps qs o    the answer r of a walk from chain c comes to o; the lent places were ps and are qs, and
 --                              c's own are as they were
+--     no_chain f e             the verdict f with effort e, which shows no chain
 --     concluded o w            the verdict that a scan with the allowance w comes to
 --     LeftWithin o w           a scan with the allowance w leaves no more than w
 use Rattle.std.specs.Prelude.{ℕ, zero, suc, ◌+◌, ◌-◌, ◌≤◌, ◌<◌, ◌≡◌, Bool, false, cond, ◌||◌, List, [], ◌∷◌, ◌++◌}
@@ -93,6 +94,9 @@ pub record WalkComes (r : Walked) (c : Chain) (ps qs : List ℕ) (o : Scan) : Ty
   pub short : r.length ≤ most_terminals
   pub kept : path_in c qs ≡ path_in c ps
   pub room : length qs ≡ length ps
+
+abbrev pub no_chain : Finding → ℕ → Verdict
+no_chain f e = record { finding = given f; effort = e; length = 0; places = places [] }
 
 abbrev pub concluded : Scan → ℕ → Verdict
 concluded (showing c left) w =

@@ -24,18 +24,14 @@ pub struct Chain {
 fn is_step(x: u8, y: u8, a: u8, b: u8) -> bool
     ensures { result ≡ eqb x a && eqb y b }
 {
-    if x == a { y == b } else { false }
+    x == a && y == b
 }
 
 // Whether the step from x to y goes from one end of the winding to the other.
 fn crosses(winding: Winding, x: u8, y: u8) -> bool
     ensures { result ≡ crosses winding.a winding.b x y }
 {
-    if is_step(x, y, winding.a, winding.b) {
-        true
-    } else {
-        is_step(x, y, winding.b, winding.a)
-    }
+    is_step(x, y, winding.a, winding.b) || is_step(x, y, winding.b, winding.a)
 }
 
 impl Chain {
@@ -56,17 +52,11 @@ impl Chain {
         requires { self.length < most_terminals }
         ensures { result ≡ gone winding self n }
     {
-        let length = self.length + 1;
-        let met = bits::with(self.met, bits::wide(n));
-        let mut beside = self.beside;
-        if crosses(winding, self.end, n) {
-            beside = true;
-        }
         Chain {
-            length,
+            length: self.length + 1,
             end: n,
-            met,
-            beside,
+            met: bits::with(self.met, u32::from(n)),
+            beside: self.beside || crosses(winding, self.end, n),
         }
     }
 }

@@ -14,25 +14,25 @@ mod walk;
 pub const PLACES: usize = 64;
 
 // The two ends of a winding.
-#[derive(Clone, Copy)]
+#[derive(Clone, Copy, Debug, PartialEq, Eq)]
 pub struct Winding {
     pub a: u8,
     pub b: u8,
 }
 
-// What a judgement comes to.
-#[derive(Clone, Copy)]
+// What a judgement finds.
+#[derive(Clone, Copy, Debug, PartialEq, Eq)]
 pub enum Finding {
     Live,
     Dead,
     Undecided,
-    Refused(Refusal),
 }
 
-// A judgement: what it comes to, its effort, and the chain shown, as its length and 64 places, the unused ones 0.
+// A judgement: what it finds or the refusal, its effort, and the chain shown, as its length and 64 places, the unused
+// ones 0.
 #[derive(Clone, Copy)]
 pub struct Verdict {
-    pub finding: Finding,
+    pub finding: Result<Finding, Refusal>,
     pub effort: u32,
     pub length: usize,
     pub terminals: [u8; 64],
@@ -43,9 +43,5 @@ pub struct Verdict {
 pub fn search(near: &[u64; 64], terminals: u8, winding: Winding, allowance: u32) -> Verdict
     ensures { Searches near.now terminals winding allowance result }
 {
-    if MOST_TERMINALS < terminals {
-        walk::from_plus(near, MOST_TERMINALS, winding, allowance)
-    } else {
-        walk::from_plus(near, terminals, winding, allowance)
-    }
+    walk::from_plus(near, terminals.min(MOST_TERMINALS), winding, allowance)
 }

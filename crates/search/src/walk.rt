@@ -1,10 +1,10 @@
 // The chain walk: one function enters a terminal, another tries its next neighbour; they call each other, with
 // unvisited terminals and untried numbers falling.
-ghost use Rattle.std.specs.Prelude.{◌≡◌, ◌-◌, ◌<◌, ◌≤◌, take};
+ghost use Rattle.std.specs.Prelude.{◌≡◌, ◌-◌, ◌<◌, ◌≤◌, take, unwrap_or, IfSome};
 ghost use Rattle.bits.specs.Sets.{member, first_from};
 ghost use Rattle.board.specs.Rules.{most_terminals};
-ghost use Rattle.search.specs.Verdicts.{places as placed, verdict_by, told_verdict};
-ghost use Rattle.search.specs.Walks.{path_in, Carries, WalkComes, entered, tried, concluded};
+ghost use Rattle.search.specs.Verdicts.{places as placed, verdict_by, told_finding, told_verdict};
+ghost use Rattle.search.specs.Walks.{path_in, Carries, WalkComes, entered, tried, no_chain, concluded};
 ghost use Rattle.search.specs.Walks.{LeftWithin, told_walked};
 
 use crate::chain::Chain;
@@ -14,7 +14,7 @@ use crate::{Finding, PLACES, Verdict, Winding};
 const MINUS: u8 = 1;
 
 // What a walk comes to: a chain that shows the winding; none among the chains walked; or the allowance is spent first.
-#[derive(Clone, Copy)]
+#[derive(Clone, Copy, Debug, PartialEq, Eq)]
 pub enum Scan {
     Showing,
     ShowingNone,
@@ -29,18 +29,28 @@ pub struct Walked {
     pub length: usize,
 }
 
-// The lowest member of the set from n up that is below the number of terminals; else that number.
-fn next_member(set: u64, n: u8, terminals: u8) -> u8
+impl Walked {
+    // What a walk comes to at a chain of this length, with so much of the allowance left.
+    fn at(length: usize, found: Scan, left: u32) -> Self
+        ensures { result ≡ record { found = found; left = left; length = length } }
+    {
+        Walked {
+            found,
+            left,
+            length,
+        }
+    }
+}
+
+// The lowest member of the set from n up that is below the number of terminals, if there is one.
+fn next_member(set: u64, n: u8, terminals: u8) -> Option<u8>
     requires n_within { n ≤ terminals }
     requires terminals_few { terminals ≤ most_terminals }
-    ensures { result ≡ first_from (member set) (terminals - n) n }
+    ensures lowest { unwrap_or result terminals ≡ first_from (member set) (terminals - n) n }
+    ensures below { IfSome result (λ x. x < terminals) }
 {
-    let next = bits::lowest_from(set, bits::wide(n));
-    if bits::wide(terminals) <= next {
-        terminals
-    } else {
-        next as u8
-    }
+    let next = bits::lowest_from(set, u32::from(n))?;
+    if next < u32::from(terminals) { Some(next as u8) } else { None }
 }
 
 // Enters the terminal at which the chain ends: counts the chain, looks whether it shows the winding, and goes on from
@@ -61,33 +71,17 @@ fn enter(
 {
     let length = chain.length;
     if left == 0 {
-        return Walked {
-            found: Scan::AllowanceSpent,
-            left,
-            length,
-        };
+        return Walked::at(length, Scan::AllowanceSpent, left);
     }
     let left = left - 1;
     if chain.end == MINUS {
         if chain.beside {
-            return Walked {
-                found: Scan::Showing,
-                left,
-                length,
-            };
+            return Walked::at(length, Scan::Showing, left);
         }
-        return Walked {
-            found: Scan::ShowingNone,
-            left,
-            length,
-        };
+        return Walked::at(length, Scan::ShowingNone, left);
     }
-    if terminals as usize <= length {
-        return Walked {
-            found: Scan::ShowingNone,
-            left,
-            length,
-        };
+    if usize::from(terminals) <= length {
+        return Walked::at(length, Scan::ShowingNone, left);
     }
     try_next(near, terminals, winding, chain, 0, left, places)
 }
@@ -110,34 +104,25 @@ fn try_next(
     ensures { WalkComes result chain places.old places.new
         (tried near.now terminals winding (path_in chain places.old) n left) }
 {
-    let end = chain.end as usize;
-    let unmet = bits::remaining(near[end], chain.met);
-    let next = next_member(unmet, n, terminals);
     let length = chain.length;
-    if terminals <= next {
-        return Walked {
-            found: Scan::ShowingNone,
-            left,
-            length,
-        };
-    }
+    let unmet = bits::remaining(near[usize::from(chain.end)], chain.met);
+    let Some(next) = next_member(unmet, n, terminals) else {
+        return Walked::at(length, Scan::ShowingNone, left);
+    };
     places[length] = next;
     let longer = chain.on_to(winding, next);
     let walked = enter(near, terminals, winding, longer, left, places);
-    let found = walked.found;
-    if let Scan::ShowingNone = found {
-        let left = walked.left;
-        // The chain as it was, field by field: handed on whole, it would be copied through memory at each call.
-        let again = Chain {
-            length,
-            end: chain.end,
-            met: chain.met,
-            beside: chain.beside,
-        };
-        try_next(near, terminals, winding, again, next + 1, left, places)
-    } else {
-        walked
-    }
+    let Scan::ShowingNone = walked.found else {
+        return walked;
+    };
+    // The chain as it was, field by field: handed on whole, it would be copied through memory at each call.
+    let again = Chain {
+        length,
+        end: chain.end,
+        met: chain.met,
+        beside: chain.beside,
+    };
+    try_next(near, terminals, winding, again, next + 1, walked.left, places)
 }
 
 // The first of the places as they are, the others 0.
@@ -146,12 +131,20 @@ fn shown(places: [u8; 64], length: usize) -> [u8; 64]
     ensures { result ≡ placed (take length places) }
 {
     let mut terminals = places;
-    let mut i = length;
-    while i < PLACES {
-        terminals[i] = 0;
-        i += 1;
-    }
+    terminals[length..].fill(0);
     terminals
+}
+
+// A verdict that shows no chain.
+fn showing_none(finding: Finding, effort: u32) -> Verdict
+    ensures { told_verdict result ≡ no_chain (told_finding finding) effort }
+{
+    Verdict {
+        finding: Ok(finding),
+        effort,
+        length: 0,
+        terminals: [0; PLACES],
+    }
 }
 
 // The verdict that a walk from plus comes to, of which the allowance is given.
@@ -160,36 +153,15 @@ fn verdict(walked: Walked, places: [u8; 64], allowance: u32) -> Verdict
     requires left_within { LeftWithin (told_walked walked places) allowance }
     ensures { told_verdict result ≡ concluded (told_walked walked places) allowance }
 {
-    let found = walked.found;
-    match found {
-        Scan::Showing => {
-            let length = walked.length;
-            let terminals = shown(places, length);
-            Verdict {
-                finding: Finding::Live,
-                effort: allowance - walked.left,
-                length,
-                terminals,
-            }
-        }
-        Scan::ShowingNone => {
-            let terminals = [0u8; 64];
-            Verdict {
-                finding: Finding::Dead,
-                effort: allowance - walked.left,
-                length: 0,
-                terminals,
-            }
-        }
-        Scan::AllowanceSpent => {
-            let terminals = [0u8; 64];
-            Verdict {
-                finding: Finding::Undecided,
-                effort: allowance,
-                length: 0,
-                terminals,
-            }
-        }
+    match walked.found {
+        Scan::Showing => Verdict {
+            finding: Ok(Finding::Live),
+            effort: allowance - walked.left,
+            length: walked.length,
+            terminals: shown(places, walked.length),
+        },
+        Scan::ShowingNone => showing_none(Finding::Dead, allowance - walked.left),
+        Scan::AllowanceSpent => showing_none(Finding::Undecided, allowance),
     }
 }
 

@@ -1,5 +1,5 @@
 -- The laws of a board's state: what each method changes and leaves, and which states a board takes.
--- The crates above cite these, and nothing of the definitions' text. The last section is for the proof of `fits`.
+-- The crates above cite these, and nothing of the definitions' text.
 use Prim.Native.Nat.{ℕ, ◌<◌}
 use mathlib.Core.Path.{◌≡◌, refl}
 use mathlib.Core.Bool.{true, false}
@@ -109,14 +109,3 @@ module _ (c : Counts) (s : State) (n : ℕ) (fine : state_fine c s ≡ true) whe
   state_fits_release =
       let both = both-within c s fine in
       within_both c (with_released s n) both.0 (within-excluding s.pushed c.buttons n both.1)
-
--- ---- what the code's tests say, for the proof of `fits`
-
-module _ (c : Counts) (s : State) (r : ℕ) (relays : r ≡ c.relays) where
-  pub state_relay_beyond : within s.drawn r ≡ false → false ≡ state_fine c s
-  unfolding state_fine
-  state_relay_beyond off = simp (← relays, off)
-
-  pub state_fits_last : (b : ℕ) → b ≡ c.buttons → within s.drawn r ≡ true → within s.pushed b ≡ state_fine c s
-  unfolding state_fine
-  state_fits_last b buttons on = simp (← relays, ← buttons, on)

@@ -7,7 +7,7 @@ ghost use Rattle.state.specs.States.{StateIsDrawn, StateIsPushed, StateFits};
 use board::{Board, Counts};
 
 // The drawn relays and the pushed buttons, each a set in a word.
-#[derive(Clone, Copy)]
+#[derive(Clone, Copy, Debug, PartialEq, Eq)]
 pub struct State {
     pub drawn: u64,
     pub pushed: u64,
@@ -28,10 +28,9 @@ impl State {
     pub fn draw(self, relay: u32) -> Self
         ensures { StateDraws self relay result }
     {
-        let drawn = bits::with(self.drawn, relay);
         State {
-            drawn,
-            pushed: self.pushed,
+            drawn: bits::with(self.drawn, relay),
+            ..self
         }
     }
 
@@ -39,10 +38,9 @@ impl State {
     pub fn drop(self, relay: u32) -> Self
         ensures { StateDrops self relay result }
     {
-        let drawn = bits::without(self.drawn, relay);
         State {
-            drawn,
-            pushed: self.pushed,
+            drawn: bits::without(self.drawn, relay),
+            ..self
         }
     }
 
@@ -50,10 +48,9 @@ impl State {
     pub fn push(self, button: u32) -> Self
         ensures { StatePushes self button result }
     {
-        let pushed = bits::with(self.pushed, button);
         State {
-            drawn: self.drawn,
-            pushed,
+            pushed: bits::with(self.pushed, button),
+            ..self
         }
     }
 
@@ -61,10 +58,9 @@ impl State {
     pub fn release(self, button: u32) -> Self
         ensures { StateReleases self button result }
     {
-        let pushed = bits::without(self.pushed, button);
         State {
-            drawn: self.drawn,
-            pushed,
+            pushed: bits::without(self.pushed, button),
+            ..self
         }
     }
 
@@ -83,13 +79,11 @@ impl State {
     }
 
     // Whether the state has no relay and no button that a board of these counts lacks; one that has is refused by 14.
+    #[tactic(auto, unfolding(crate::specs::States::state_fine))]
     pub fn fits(self, counts: Counts) -> bool
         ensures { StateFits self counts result }
     {
-        if bits::all_below(self.drawn, bits::wide(counts.relays)) {
-            bits::all_below(self.pushed, bits::wide(counts.buttons))
-        } else {
-            false
-        }
+        bits::all_below(self.drawn, u32::from(counts.relays))
+            && bits::all_below(self.pushed, u32::from(counts.buttons))
     }
 }

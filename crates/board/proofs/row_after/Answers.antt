@@ -1,4 +1,4 @@
--- `board::row_after` meets its contract. The invariant: all the parts come to what those from i on come to after the
+-- `board::row_after` meets its contract. The invariant: all the parts come to what those that are left come to after the
 -- windings and marks so far.
 use borrow.Author.Rules.{rules}
 use Rattle.board.proofs.RuleLaws.{row_walk_off, row_walk_on, row_walk_end}
@@ -7,8 +7,8 @@ use Rattle.board.proofs.row_after.Goals as goal
 pub returns-then-not-part_fine : goal.returns-then-not-part_fine
 returns-then-not-part_fine c = search (rules, row_walk_off)
 
-pub loop-i-preserved : goal.loop-i-preserved
-loop-i-preserved c = search (rules, row_walk_on)
+pub loop-part-preserved : goal.loop-part-preserved
+loop-part-preserved c = search (rules, row_walk_on)
 
 pub returns : goal.returns
 returns c = search (rules, row_walk_end)

@@ -10,6 +10,3 @@ abbrev pub invariant-loop-x : goal.invariant-loop-x
 invariant-loop-x l =
     FilledTo (λ (s : ℕ). s) (linked_to l.bare l.terminals) 0 most_terminals l.x l.linked
 
-abbrev pub decreases-loop-x : goal.decreases-loop-x
-decreases-loop-x l =
-    l.terminals - l.x

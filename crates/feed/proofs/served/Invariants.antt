@@ -7,8 +7,5 @@ use Rattle.feed.proofs.served.Given as goal
 
 abbrev pub invariant-loop-x : goal.invariant-loop-x
 invariant-loop-x l =
-    (l.served ≡ served_below l.near l.x) × (l.x ≤ most_terminals) × (l.x ≤ l.terminals)
+    l.served ≡ served_below l.near l.x
 
-abbrev pub decreases-loop-x : goal.decreases-loop-x
-decreases-loop-x l =
-    l.terminals - l.x

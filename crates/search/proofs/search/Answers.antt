@@ -1,10 +1,12 @@
 -- `search::search` meets its contract: of more terminals than the sets have, only those are looked at.
-use borrow.Author.Rules.{rules}
-use Rattle.search.proofs.VerdictLaws.{in_sets_most, in_sets_all}
+use mathlib.Core.Path.{◌≡◌, sym, ap, ◌∙◌}
+use Prim.Native.Nat.{ℕ}
+use Rattle.search.specs.Verdicts.{verdict_by}
+use Rattle.search.proofs.VerdictLaws.{in_sets_min}
 use Rattle.search.proofs.search.Goals as goal
 
-pub returns-then-terminals-gt-MOST_TERMINALS : goal.returns-then-terminals-gt-MOST_TERMINALS
-returns-then-terminals-gt-MOST_TERMINALS c = search (rules, in_sets_most)
-
-pub returns-else-terminals-gt-MOST_TERMINALS : goal.returns-else-terminals-gt-MOST_TERMINALS
-returns-else-terminals-gt-MOST_TERMINALS c = search (rules, in_sets_all)
+pub returns : goal.returns
+returns c =
+    c.from_plus.ensures
+    ∙ ap (λ (t : ℕ). verdict_by c.args.near.now t c.args.winding c.args.allowance)
+    (c.min.ensures ∙ sym (in_sets_min c.args.terminals))

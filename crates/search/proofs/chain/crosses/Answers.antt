@@ -4,7 +4,7 @@ use Rattle.search.proofs.CarryLaws.{crosses_there, crosses_back}
 use Rattle.search.proofs.chain.crosses.Goals as goal
 
 pub returns-then-is_step : goal.returns-then-is_step
-returns-then-is_step c = crosses_there _ _ _ _ _ c.is_step.ensures c.if-is_step.true
+returns-then-is_step c = search (rules, crosses_there)
 
 pub returns-else-is_step : goal.returns-else-is_step
 returns-else-is_step c = search (rules, crosses_back)

@@ -4,7 +4,7 @@
 use borrow.Author.Rules.{rules}
 use native.Mathlib.Omega.{arith}
 use Rattle.search.proofs.WalkLaws.{enter_spent, enter_showing, enter-ended, enter_full, enter_on}
-use Rattle.search.proofs.WalkLaws.{Trying, try_none, next-carries, carries_still, try_on, try_back}
+use Rattle.search.proofs.WalkLaws.{trying, try_none, next-carries, carries_still, try_on, try_back}
 use Rattle.search.proofs.WalkLaws.{visits_fall, numbers_fall}
 use Rattle.search.proofs.walk.+enter_try_next.Goals as goal
 
@@ -17,78 +17,46 @@ enter-returns-then-chain t c = search (rules, enter_showing)
 pub enter-returns-then-chain-eq-MINUS : goal.enter-returns-then-chain-eq-MINUS
 enter-returns-then-chain-eq-MINUS t c = search (rules, enter-ended)
 
-pub enter-returns-then-terminals-length : goal.enter-returns-then-terminals-length
-enter-returns-then-terminals-length t c = search (rules, enter_full)
-
 pub enter-returns : goal.enter-returns
 enter-returns t c = search (rules, enter_on)
 
-pub try_next-returns-then-terminals-next : goal.try_next-returns-then-terminals-next
-try_next-returns-then-terminals-next t c =
-    let trying : Trying c.args.near.now c.args.terminals c.args.n c.args.winding c.args.chain c.args.places.now
-    c.remaining-unmet.result c.next_member-next.result =
-    record {
-      carries = c.requires.carries;
-      unmet = c.remaining-unmet.ensures;
-      start = c.requires.n_within;
-      most = c.requires.terminals_few;
-      short = c.requires.length_below;
-      lowest = c.next_member-next.ensures;
-    } in
-    try_none trying _ c.if-terminals-next.true
+pub enter-returns-then-from-length : goal.enter-returns-then-from-length
+enter-returns-then-from-length t c = search (rules, enter_full)
 
 pub try_next-enter-walked-requires : goal.try_next-enter-walked-requires
-try_next-enter-walked-requires t c = search (rules, next-carries, visits_fall)
+try_next-enter-walked-requires t c = search (rules, trying, next-carries, visits_fall)
+
+pub try_next-returns-in_default : goal.try_next-returns-in_default
+try_next-returns-in_default t c = search (rules, trying, try_none)
 
 pub try_next-try_next-requires : goal.try_next-try_next-requires
 try_next-try_next-requires t c =
-    let trying : Trying c.args.near.now c.args.terminals c.args.n c.args.winding c.args.chain c.args.places.now
-    c.remaining-unmet.result c.next_member-next.result =
-    record {
-      carries = c.requires.carries;
-      unmet = c.remaining-unmet.ensures;
-      start = c.requires.n_within;
-      most = c.requires.terminals_few;
-      short = c.requires.length_below;
-      lowest = c.next_member-next.ensures;
-    } in
-    let here = trying in (
-      numbers_fall here c.on_to-longer.ensures c.if-terminals-next.false c.decreases,
+    let known =
+    trying _ c.requires.carries c.from.ensures c.remaining-unmet.ensures c.requires.n_within c.requires.terminals_few
+    c.requires.length_below c.in-Some.ensures.lowest in
+    let below = c.in-Some.ensures.below in (
+      numbers_fall known c.on_to-longer.ensures below c.decreases,
       (
-        here.most,
+        known.most,
         (
-          carries_still here c.on_to-longer.ensures c.if-terminals-next.false _ c.enter-walked.ensures,
-          (here.short, omega (arith, c.if-terminals-next.false)),
+          carries_still known c.on_to-longer.ensures below _ c.enter-walked.ensures,
+          (known.short, omega (arith, below)),
         ),
       ),
     )
 
-pub try_next-returns-in-ShowingNone : goal.try_next-returns-in-ShowingNone
-try_next-returns-in-ShowingNone t c =
-    let trying : Trying c.args.near.now c.args.terminals c.args.n c.args.winding c.args.chain c.args.places.now
-    c.remaining-unmet.result c.next_member-next.result =
-    record {
-      carries = c.requires.carries;
-      unmet = c.remaining-unmet.ensures;
-      start = c.requires.n_within;
-      most = c.requires.terminals_few;
-      short = c.requires.length_below;
-      lowest = c.next_member-next.ensures;
-    } in
-    try_on trying c.on_to-longer.ensures c.if-terminals-next.false _ c.enter-walked.ensures
-    c.in-ShowingNone.is c.try_next.ensures
+pub try_next-returns : goal.try_next-returns
+try_next-returns t c =
+    let known =
+    trying _ c.requires.carries c.from.ensures c.remaining-unmet.ensures c.requires.n_within c.requires.terminals_few
+    c.requires.length_below c.in-Some.ensures.lowest in
+    try_on known c.on_to-longer.ensures c.in-Some.ensures.below _ c.enter-walked.ensures c.in-ShowingNone.is
+    c.try_next.ensures
 
-pub try_next-returns-in_default : goal.try_next-returns-in_default
-try_next-returns-in_default t c =
-    let trying : Trying c.args.near.now c.args.terminals c.args.n c.args.winding c.args.chain c.args.places.now
-    c.remaining-unmet.result c.next_member-next.result =
-    record {
-      carries = c.requires.carries;
-      unmet = c.remaining-unmet.ensures;
-      start = c.requires.n_within;
-      most = c.requires.terminals_few;
-      short = c.requires.length_below;
-      lowest = c.next_member-next.ensures;
-    } in
-    try_back trying c.on_to-longer.ensures c.if-terminals-next.false _ c.enter-walked.ensures
-    c.in_default.not-ShowingNone
+pub try_next-returns-in_default-found : goal.try_next-returns-in_default-found
+try_next-returns-in_default-found t c =
+    let known =
+    trying _ c.requires.carries c.from.ensures c.remaining-unmet.ensures c.requires.n_within c.requires.terminals_few
+    c.requires.length_below c.in-Some.ensures.lowest in
+    try_back known c.on_to-longer.ensures c.in-Some.ensures.below _ c.enter-walked.ensures
+    c.in_default-found.not-ShowingNone

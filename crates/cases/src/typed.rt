@@ -1,0 +1,154 @@
+// The text of cases: pairs of hex digits are a case's bytes, `#` opens a comment up to the end of the line, white space
+// stands between, and any other character ends the case.
+use arrayvec::ArrayVec;
+use board_reader::LONGEST_INPUT;
+use std::io;
+use std::io::{Read, Write};
+
+// The longest text that is taken.
+const LONGEST_TEXT: usize = 65_536;
+
+// What the text of a program may hold besides: the kept sets that a case hands in, before a colon, which stands after
+// whole bytes and once; or `*`, which adds zero bytes up to the longest input.
+#[derive(Clone, Copy, Debug, PartialEq, Eq)]
+pub enum Besides {
+    Sets,
+    Zeros,
+}
+
+// The most bytes of a case: more than the longest input has.
+const MOST_BYTES: usize = 65_540;
+
+impl Besides {
+    // The most bytes of a case; digits beyond them are dropped.
+    fn room(self) -> usize {
+        match self {
+            Besides::Sets => 8_192,
+            Besides::Zeros => MOST_BYTES,
+        }
+    }
+}
+
+// A case as far as it is typed: its bytes, the first digit of the next, and how many bytes stand before its colon.
+#[derive(Drop)]
+struct Case {
+    bytes: ArrayVec<u8, MOST_BYTES>,
+    half: Option<u8>,
+    sets: usize,
+}
+
+impl Case {
+    // A case of which nothing is typed yet.
+    fn fresh() -> Self {
+        Case {
+            bytes: ArrayVec::new(),
+            half: None,
+            sets: 0,
+        }
+    }
+
+    // Whether nothing is typed yet.
+    fn is_fresh(&self) -> bool {
+        self.bytes.is_empty() && self.half.is_none()
+    }
+
+    // Adds a digit, if there is room for a byte.
+    fn add_digit(&mut self, digit: u8, room: usize) {
+        if room <= self.bytes.len() {
+            return;
+        }
+        self.half = match self.half {
+            None => Some(digit),
+            Some(high) => {
+                let _ = self.bytes.try_push(16 * (high % 16) + digit % 16);
+                None
+            }
+        };
+    }
+
+    // Adds zero bytes up to the longest input, unless a byte is not whole.
+    fn add_zeros(&mut self) {
+        if self.half.is_none() {
+            for _ in self.bytes.len()..LONGEST_INPUT {
+                let _ = self.bytes.try_push(0);
+            }
+        }
+    }
+
+    // Ends the kept sets, and says whether they may end here.
+    fn end_sets(&mut self) -> bool {
+        if self.sets != 0 || self.half.is_some() {
+            return false;
+        }
+        self.sets = self.bytes.len();
+        true
+    }
+}
+
+// Reads until the buffer is full or the input ends, and gives what was read.
+fn read_text<'t, R: Read>(
+    reader: &mut R,
+    text: &'t mut [u8; LONGEST_TEXT],
+) -> io::Result<&'t [u8]> {
+    let mut length = 0;
+    while length < text.len() {
+        let more = reader.read(&mut text[length..])?;
+        if more == 0 {
+            break;
+        }
+        length += more;
+    }
+    Ok(&text[..length])
+}
+
+// Takes all of the text, and has each case answered where it ends, by the character that ends it, the bytes before its
+// colon and those after it. What stands after the last case is malformed. Of a text longer than 65,536 bytes the rest
+// is not taken, and has no answers.
+pub fn answer_cases<R: Read, W: Write, F>(
+    reader: &mut R,
+    out: &mut W,
+    besides: Besides,
+    answer: F,
+) -> io::Result<()>
+where
+    F: Fn(&mut W, u8, &[u8], &[u8]) -> io::Result<()>,
+    requires { F.IsAlwaysCallable answer }
+{
+    let room = besides.room();
+    let mut text = [0; LONGEST_TEXT];
+    let mut case = Case::fresh();
+    let mut comment = false;
+    for &character in read_text(reader, &mut text)? {
+        if comment {
+            comment = character != b'\n';
+            continue;
+        }
+        match character {
+            b'0'..=b'9' => case.add_digit(character - b'0', room),
+            b'a'..=b'f' => case.add_digit(character - b'a' + 10, room),
+            b' ' | b'\n' => {}
+            b'#' => comment = true,
+            b'*' if besides == Besides::Zeros => case.add_zeros(),
+            b':' if besides == Besides::Sets => {
+                if !case.end_sets() {
+                    writeln!(out, "bad text")?;
+                    case = Case::fresh();
+                }
+            }
+            _ => {
+                if case.half.is_some() {
+                    writeln!(out, "bad text")?;
+                } else {
+                    let bytes = case.bytes.as_slice();
+                    let (sets, asked) = bytes.split_at(case.sets.min(bytes.len()));
+                    answer(out, character, sets, asked)?;
+                }
+                case = Case::fresh();
+            }
+        }
+    }
+    if !case.is_fresh() {
+        writeln!(out, "bad text")?;
+    }
+    Ok(())
+}
