@@ -1,23 +1,26 @@
 -- Laws of a run as a call: when nothing stands against it, what it tells by what does, and that an answer is known by
 -- what it tells.
 use Prim.Native.Nat.{ℕ, ◌≤◌}
-use mathlib.Core.Path.{◌≡◌, refl, sym, ap, subst, ◌∙◌}
+use mathlib.Core.Path.{◌≡◌, refl, subst, ◌∙◌}
+use mathlib.Core.Bool.{true, false}
 use mathlib.Core.List.{List, []}
 use lib.ListN.{length}
 use lib.Dec.{leb}
 use borrow.Author.Tests.{le-leb}
-use Rattle.refusals.specs.Outcomes.{Outcome, given, refused, ◌>>◌, unless}
+use Rattle.refusals.specs.Outcomes.{Outcome, given, refused}
 use Rattle.refusals.specs.Refusals.{number_of, log_too_long}
 use Rattle.refusals.specs.declared.No.TheVariants.{StateBeyondBoard, BrokenBoard, ForeignSets, LogTooLong}
 use Rattle.refusals.specs.Order.{first_no, answering}
-use Rattle.refusals.proofs.OrderLaws.{asks_then, all_hold}
+use Rattle.refusals.proofs.OrderLaws.{all_hold}
 use Rattle.refusals.proofs.Told.{Told}
 use Rattle.refusals.proofs.Tabled.{Tabled, gives, refuses, tabled_given, tabled_refused, TabledLines, tabled_lines}
 use Rattle.refusals.proofs.Tabled.{Tells, result-tells_as}
 use Rattle.board.specs.declared.Board.{Board}
 use Rattle.kept.specs.declared.Kept.{Kept}
 use Rattle.kept.specs.Kept.{kept_at, usable_lines, usable}
-use Rattle.kept.proofs.KeptLaws.{usable_lines_lem}
+use Rattle.board.specs.Rules.{most_relays}
+use Rattle.board.proofs.FineLaws.{fine_range}
+use Rattle.kept.proofs.KeptLaws.{usable_given, usable_lines_lem}
 use Rattle.runs.specs.declared.Ending as code-ending
 use Rattle.runs.specs.declared.Ending.TheVariants.{Idle, Spent, Conflict, Buzz}
 use Rattle.runs.specs.declared.Ran.{Ran}
@@ -58,15 +61,30 @@ module _ (b : Board) (h : Kept) (log : List ℕ) where
   -- ---- for the proof of `run`
 
   -- its line after 15, 14 and 18
-  pub runnable_asked : {o q : Outcome (Unit {0})} → o ≡ usable b h
-      → q ≡ (o >> unless (leb (length log) longest_log) log_too_long 0) → runnable b h log ≡ q
-  unfolding runnable usable
-  runnable_asked first second = sym (asks_then (usable_lines b h) log_too_long first refl second)
+  pub runnable_unusable : {k p : ℕ} → usable b h ≡ refused k p → runnable b h log ≡ refused k p
+  unfolding runnable
+  runnable_unusable off = usable_lines_lem b h _ ∙ rw off refl
+
+  pub runnable_long : usable b h ≡ given tt → leb (length log) longest_log ≡ false
+      → runnable b h log ≡ refused log_too_long 0
+  unfolding runnable first_no
+  runnable_long fine long = rw (usable_lines_lem b h _, fine, long) refl
+
+  pub runnable_short : usable b h ≡ given tt → leb (length log) longest_log ≡ true → runnable b h log ≡ given tt
+  unfolding runnable first_no
+  runnable_short fine short = rw (usable_lines_lem b h _, fine, short) refl
+
+  -- what `follow` asks for holds where nothing stands against it
+  pub runnable-follow : runnable b h log ≡ given tt
+      → (b.counts.relays ≤ most_relays) × (h ≡ kept_at b h.state)
+  runnable-follow taken =
+      let can = usable_given b h (runnable_given taken) in
+      ((fine_range b can.0).relays_few, can.2)
 
   -- a refused run tells the same over every log
   pub running_refused : (r : Ran) (n p : ℕ) → told_ran r [] ≡ unrun n p h [] → runnable b h log ≡ refused n p
       → told_ran r log ≡ running b h log
-  running_refused r n p e refuses =
+  running_refused r n p e off =
       (λ i. record {
         word = (e i).word;
         moves = (e i).moves;
@@ -76,7 +94,7 @@ module _ (b : Board) (h : Kept) (log : List ℕ) where
         between = (e i).between;
         log = log;
       })
-      ∙ running_by (refused n p) refuses
+      ∙ running_by (refused n p) off
 
   pub running_ran : (x : told.Ran) → x ≡ ran_over b h log → runnable b h log ≡ given tt → x ≡ running b h log
   running_ran x is taken = is ∙ running_by (given tt) taken
@@ -151,12 +169,12 @@ ran-tells = record { untold = untold; back = back; onto = onto }
 
 -- what a run can be refused by stands in the table
 pub running-tabled : (b : Board) (h : Kept) (log : List ℕ) → Tabled (running b h log).word
-unfolding TabledLines ran
+unfolding runnable TabledLines ran
 running-tabled b h log = by (runnable b h log) refl (tabled_lines (run_lines b h log) lines)
   where
     lines : TabledLines (run_lines b h log)
     lines =
-        ((BrokenBoard, refl), (StateBeyondBoard, refl), (ForeignSets, refl), (LogTooLong, refl), tt)
+        ((BrokenBoard, refl), ((StateBeyondBoard, refl), ((ForeignSets, refl), ((LogTooLong, refl), tt))))
 
     by : (o : Outcome (Unit {0})) → runnable b h log ≡ o → Tabled o → Tabled (running b h log).word
     by o e (gives u is) =

@@ -31,7 +31,10 @@ impl<const WORDS: usize> Notches<WORDS> {
         ensures { result ≡ has_notch self.now.words drawn }
     {
         let at = self.place(drawn);
-        bits::has(self.words[at / NOTCHES_IN_WORD], (at % NOTCHES_IN_WORD) as u32)
+        bits::has(
+            self.words[at / NOTCHES_IN_WORD],
+            (at % NOTCHES_IN_WORD) as u32,
+        )
     }
 
     // Cuts a notch at the place of drawn relays.
@@ -53,7 +56,11 @@ impl<const WORDS: usize> Notches<WORDS> {
     {
         let known = self.has(drawn);
         self.cut(drawn);
-        if known { met_ago(log, moves, drawn) } else { None }
+        if known {
+            met_ago(log, moves, drawn)
+        } else {
+            None
+        }
     }
 }
 

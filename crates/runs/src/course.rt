@@ -27,7 +27,12 @@ fn byte(relay: u8, motion: Move) -> u8
 // made and logged and it looks again, and anything else stops the run. The sets belong to the board and the state, and
 // are kept so. Where the windings lie is found once for the run, and which terminals are served and linked once for a
 // look.
-pub fn follow<const WORDS: usize>(board: Board, start: Kept, log: &mut [u8], notches: &mut Notches<WORDS>) -> Ran
+pub fn follow<const WORDS: usize>(
+    board: Board,
+    start: Kept,
+    log: &mut [u8],
+    notches: &mut Notches<WORDS>,
+) -> Ran
     requires relays_few { board.counts.relays ≤ most_relays }
     requires start_kept { start ≡ kept_at board start.state }
     ensures { told_ran result log.new ≡ ran_over board start log.old }
@@ -44,7 +49,12 @@ pub fn follow<const WORDS: usize>(board: Board, start: Kept, log: &mut [u8], not
         let feed = feed::feed_by(kept.sets, board.counts.terminals);
         'scan: for relay in 0..relays {
             let drawn = state.is_drawn(u32::from(relay));
-            let motion = moves::step(feed.served, &feed.linked, windings[usize::from(relay)], drawn);
+            let motion = moves::step(
+                feed.served,
+                &feed.linked,
+                windings[usize::from(relay)],
+                drawn,
+            );
             match motion {
                 Move::Rests => {}
                 Move::Conflict => break 'run (Ending::Conflict, relay, 0, 0),
