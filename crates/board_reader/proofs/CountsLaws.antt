@@ -4,7 +4,8 @@ use Prim.Native.Nat.{ℕ, ◌≤◌}
 use mathlib.Core.Path.{◌≡◌, ap, ◌∙◌}
 use mathlib.Core.Bool.{true}
 use mathlib.Core.List.{List}
-use Rattle.refusals.specs.Outcomes.{Outcome, refused, Found, found}
+use Rattle.refusals.specs.declared.Found.{Found}
+use Rattle.refusals.specs.Outcomes.{Outcome, refused, found}
 use Rattle.refusals.specs.Refusals.{out_of_range}
 use Rattle.board.specs.declared.Counts.{Counts}
 use Rattle.board.specs.Parts.{most_parts}

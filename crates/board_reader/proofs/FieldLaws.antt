@@ -6,20 +6,16 @@ use mathlib.Core.Bool.{Bool, true, false}
 use mathlib.Core.List.{List}
 use lib.Dec.{leb, ltb}
 use borrow.Author.Tests.{le-leb, lt-leb, leb-true, eq-eqb, ne_eqb}
-use Rattle.refusals.specs.Outcomes.{Outcome, given, refused, Found, found, ◌>>◌, unless}
+use Rattle.refusals.specs.declared.Found.{Found}
+use Rattle.refusals.specs.Outcomes.{given, refused, found, ◌>>◌, unless}
 use Rattle.refusals.specs.Refusals.{no_such_name}
-use Rattle.number.specs.Numbers.{current_width, number_at, told_number, ReadsNumber}
-use Rattle.number.specs.declared.Number.{Number}
-use Rattle.number.specs.declared.Number.TheVariants.{Read, Refused}
-use Rattle.refusals.specs.declared.Refusal.{Refusal}
+use Rattle.number.specs.Numbers.{number_at}
 use Rattle.kinds.specs.Kinds.{wire_kind}
 use Rattle.board.specs.declared.Counts.{Counts}
 use Rattle.bits.proofs.BoolLaws.{both_true}
 use Rattle.board.specs.Rules.{in_range, limit_of}
-use Rattle.board_reader.specs.declared.ReadAnswer.{ReadAnswer}
-use Rattle.board_reader.specs.Editions.{Edition, current_edition}
-use Rattle.board_reader.specs.Reading.{wanted, name_at, told_read_answer}
-use Rattle.board_reader.specs.Steps.{found_at, place_of}
+use Rattle.board_reader.specs.Editions.{Edition}
+use Rattle.board_reader.specs.Reading.{wanted, name_at}
 use Rattle.refusals.proofs.OutcomeLaws.{given_injective, handed, passed}
 
 module _ (e : Edition) (ok : ℕ → Bool) (n : ℕ) (s : List ℕ) (at : ℕ) where
@@ -36,32 +32,6 @@ module _ (e : Edition) (ok : ℕ → Bool) (n : ℕ) (s : List ℕ) (at : ℕ) w
       → wanted e ok n s at ≡ found v next
   unfolding wanted
   wanted_passes v next h fine = rw (h, fine)
-
--- a number's value and the place just after it, as a `let .. else` binds them
-abbrev pub bound : ℕ × (ℕ × Unit {0}) → Outcome (Found ℕ)
-bound b = found b.0 b.1.0
-
--- what a number's answer says of the outcome that it tells
-pub told-found : (o : Outcome (Found ℕ)) (x : Number) (v next : ℕ) → x ≡ Read v next → told_number x ≡ o
-    → o ≡ found v next
-told-found o x v next e h = sym h ∙ ap told_number e
-
-pub told_refused : (o : Outcome (Found ℕ)) (x : Number) (r : Refusal) → x ≡ Refused r → told_number x ≡ o
-    → o ≡ refused r.number r.place
-told_refused o x r e h = sym h ∙ ap told_number e
-
--- a number's refusal as that of the thing it was read for
-pub number_stopped : {A : Type 0} (a : A) (x : ReadAnswer) (n : Number) (r : Refusal)
-    → told_read_answer x ≡ place_of (told_number n) → n ≡ Refused r
-    → found_at a (told_read_answer x) ≡ refused r.number r.place
-number_stopped a x n r h e = ap (found_at a) (h ∙ ap (λ (m : Number). place_of (told_number m)) e)
-
-pub number_refused : (ok : ℕ → Bool) (n : ℕ) (s : List ℕ) (at : ℕ) (x : Number) (r : Refusal) → x ≡ Refused r
-    → ReadsNumber s at x → told_number x ≡ wanted current_edition ok n s at
-number_refused ok n s at x r e h =
-    ap told_number e
-    ∙ sym (wanted_refused current_edition ok n s at r.number r.place
-    (told_refused (number_at current_width s at) x r e h))
 
 -- a number that was found passed its test
 pub wanted-found : (e : Edition) (ok : ℕ → Bool) (n : ℕ) (s : List ℕ) (at v next : ℕ)

@@ -5,4 +5,5 @@ pub mod FieldLaws
 pub mod PartLaws
 pub mod PartsLaws
 pub mod ReadLaws
+pub mod TabledLaws
 pub mod ToldLaws

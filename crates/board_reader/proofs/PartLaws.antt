@@ -1,13 +1,13 @@
 -- Laws of `ends_at` and `part_at`: each way out of reading one part as an outcome of the definition, and the bounds on
 -- what was found.
 use Prim.Native.Nat.{ℕ, ◌<◌, ◌≤◌}
-use mathlib.Core.Path.{◌≡◌, ap, ◌∙◌}
+use mathlib.Core.Path.{◌≡◌}
 use mathlib.Core.Bool.{Bool, true, false, cond}
 use mathlib.Core.List.{List}
 use native.Mathlib.Omega.{arith}
 use lib.Dec.{ltb, eqb}
 use borrow.Author.Tests.{eq-eqb, ne_eqb, ltb-true}
-use Rattle.refusals.specs.Outcomes.{Outcome, refused, found}
+use Rattle.refusals.specs.Outcomes.{refused, found}
 use Rattle.refusals.specs.Refusals.{no_such_kind, no_such_terminal, ends_equal, no_such_name, winding_taken}
 use Rattle.refusals.specs.Refusals.{marked_twice}
 use Rattle.windings.specs.declared.WoundSoFar.{WoundSoFar}
@@ -17,23 +17,9 @@ use Rattle.board.specs.declared.Counts.{Counts}
 use Rattle.board.specs.declared.Part.{Part}
 use Rattle.board.specs.Rules.{in_range, terminal_fine, limit_of}
 use Rattle.board_reader.specs.Editions.{Edition}
-use Rattle.board_reader.specs.Reading.{wanted, name_at, no_ends, ends_at, part_at, told_read_answer}
-use Rattle.board_reader.specs.Steps.{found_at, told_ends_read, told_part_read}
-use Rattle.board_reader.specs.declared.ReadAnswer.{ReadAnswer}
-use Rattle.board_reader.specs.declared.parts.EndsRead.{EndsRead}
-use Rattle.board_reader.specs.declared.parts.PartRead.{PartRead}
+use Rattle.board_reader.specs.Reading.{wanted, name_at, no_ends, ends_at, part_at}
 use Rattle.number.proofs.NumberLaws.{found_value}
 use Rattle.board_reader.proofs.FieldLaws.{wanted-found}
-
--- a refused part as the answer of its rule
-pub no-part-told : (a : PartRead) (b : ReadAnswer) (k p : ℕ) → a.answer ≡ b → told_read_answer b ≡ refused k p
-    → told_part_read a ≡ refused k p
-no-part-told a b k p e h = ap (found_at a.part) (ap told_read_answer e ∙ h)
-
--- ends told as those of a mark, or as refused
-pub no_ends-told : (a : EndsRead) (b : ReadAnswer) {o : Outcome ℕ} → a ≡ record { a = 0; b = 0; answer = b }
-    → told_read_answer b ≡ o → told_ends_read a ≡ found_at no_ends o
-no_ends-told a b e h = ap told_ends_read e ∙ ap (found_at no_ends) h
 
 -- ---- the ends
 

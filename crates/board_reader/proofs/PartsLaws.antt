@@ -6,25 +6,23 @@ use mathlib.Core.Path.{◌≡◌, refl, sym, ap, ◌∙◌}
 use mathlib.Core.Bool.{true, false}
 use mathlib.Core.List.{List, [], ◌∷◌, ◌++◌, append-nil, append_assoc}
 use lib.ListN.{length, set, replicate, length-append}
-use Rattle.refusals.specs.Outcomes.{Outcome, given, refused, Found, found, ◌>>=◌}
+use Rattle.refusals.specs.declared.Found.{Found}
+use Rattle.refusals.specs.Outcomes.{Outcome, given, refused, found, ◌>>=◌}
 use Rattle.refusals.specs.Refusals.{winding_lacking}
 use Rattle.windings.specs.declared.WoundSoFar.{WoundSoFar}
 use Rattle.windings.specs.Windings.{none_wound, gained, complete}
 use Rattle.board.specs.declared.Counts.{Counts}
 use Rattle.board.specs.declared.Part.{Part}
 use Rattle.board.specs.declared.Board.{Board}
-use Rattle.board.specs.Parts.{most_parts, blank, padded, empty_board}
+use Rattle.board.specs.Parts.{most_parts, blank, padded}
 use Rattle.board.specs.Rules.{gained_all}
 use Rattle.board.proofs.PaddedLaws.{padded_set}
 use Rattle.board.proofs.RuleLaws.{gained_more}
 use Rattle.refusals.proofs.OutcomeLaws.{refused_never, given_injective, handed}
 use Rattle.board_reader.specs.Editions.{Edition}
-use Rattle.board_reader.specs.Reading.{part_at, parts_at, board_from, answered, told_read_answer, told_board_read}
-use Rattle.board_reader.specs.Steps.{found_at, row_from}
-use Rattle.board_reader.specs.declared.ReadAnswer.{ReadAnswer}
-use Rattle.board_reader.specs.declared.ReadAnswer.TheVariants.{Read, Refused}
-use Rattle.board_reader.specs.declared.BoardRead.{BoardRead}
-use Rattle.refusals.specs.declared.Refusal.{Refusal}
+use Rattle.board_reader.specs.Reading.{part_at, parts_at, board_from, answered}
+use Rattle.board_reader.specs.Rows.{row_from}
+use Rattle.board_reader.specs.declared.parts.Row.{Row}
 
 -- parts that were read before those of an outcome
 abbrev read_after : List Part → Outcome (Found (List Part)) → Outcome (Found (List Part))
@@ -111,7 +109,7 @@ module _ (e : Edition) (c : Counts) (s : List ℕ) (start : ℕ) (w₀ : WoundSo
       ∙ ap (read_after walk.so_far) (parts_stop e c (c.parts - (i + 1)) w s at k p here) in
       rw stopped
 
-  pub walk_end : c.parts ≤ i → found (parts, w) at ≡ row_from w₀ (parts_at e c c.parts w₀ s start)
+  pub walk_end : c.parts ≤ i → found (record { parts = parts; windings = w }) at ≡ row_from w₀ (parts_at e c c.parts w₀ s start)
   unfolding row_from
   walk_end past =
       let none : c.parts - i ≡ 0 = omega arith in
@@ -120,7 +118,7 @@ module _ (e : Edition) (c : Counts) (s : List ℕ) (start : ℕ) (w₀ : WoundSo
       ∙ ap (λ (n : ℕ). read_after walk.so_far (parts_at e c n w s at)) none
       ∙ ap (read_after walk.so_far) (parts_done e c w s at)
       ∙ ap (λ (l : List Part). found l at) (append-nil walk.so_far) in
-      rw whole (λ j. found (walk.array j, walk.after j) at)
+      rw whole (λ j. found (record { parts = walk.array j; windings = walk.after j }) at)
 
 -- what a row that was read says of the outcome on its parts
 pub row_stopped : (w : WoundSoFar) (o : Outcome (Found (List Part))) (k p : ℕ) → row_from w o ≡ refused k p
@@ -129,45 +127,24 @@ unfolding row_from
 row_stopped w (given ps) k p e = absurd (refused_never k p _ (sym e))
 row_stopped w (refused m q) k p e = cc
 
-pub record RowFound (w : WoundSoFar) (o : Outcome (Found (List Part))) (parts : List Part) (w' : WoundSoFar)
-    (next : ℕ) : Type 0 where
+pub record RowFound (w : WoundSoFar) (o : Outcome (Found (List Part))) (r : Row) (next : ℕ) : Type 0 where
   pub row : List Part
   pub read : o ≡ found row next
-  pub array : parts ≡ padded row
-  pub after : w' ≡ gained_all w row
+  pub array : r.parts ≡ padded row
+  pub after : r.windings ≡ gained_all w row
 
-pub row_went : (w : WoundSoFar) (o : Outcome (Found (List Part))) (parts : List Part) (w' : WoundSoFar) (next : ℕ)
-    → row_from w o ≡ found (parts, w') next → RowFound w o parts w' next
+pub row_went : (w : WoundSoFar) (o : Outcome (Found (List Part))) (r : Row) (next : ℕ)
+    → row_from w o ≡ found r next → RowFound w o r next
 unfolding row_from
-row_went w o parts w' next e =
+row_went w o r next e =
     let ps = handed o _ _ e in
     let same = given_injective _ _ ps.then in
     record {
       row = ps.value.value;
-      read = ps.first ∙ ap (λ (f : Found (List Part × WoundSoFar)). found ps.value.value f.next) same;
-      array = sym (ap (λ (f : Found (List Part × WoundSoFar)). f.value.0) same);
-      after = sym (ap (λ (f : Found (List Part × WoundSoFar)). f.value.1) same);
+      read = ps.first ∙ ap (λ (f : Found Row). found ps.value.value f.next) same;
+      array = sym (ap (λ (f : Found Row). f.value.parts) same);
+      after = sym (ap (λ (f : Found Row). f.value.windings) same);
     }
-
--- what the answer beside a thing says of the outcome that both tell
-module _ {A : Type 0} (o : Outcome (Found A)) (a : A) (x : ReadAnswer) (told : found_at a (told_read_answer x) ≡ o)
-  where
-    pub answer_stopped : (r : Refusal) → x ≡ Refused r → o ≡ refused r.number r.place
-    answer_stopped r e = sym told ∙ ap (λ (y : ReadAnswer). found_at a (told_read_answer y)) e
-
-    pub answer_went : (next : ℕ) → x ≡ Read next → o ≡ found a next
-    answer_went next e = sym told ∙ ap (λ (y : ReadAnswer). found_at a (told_read_answer y)) e
-
--- a refused answer beside a thing tells the refusal
-pub refused-told : {A : Type 0} (a : A) (x : ReadAnswer) (r : Refusal) → x ≡ Refused r
-    → found_at a (told_read_answer x) ≡ refused r.number r.place
-refused-told a x r e = ap (λ (y : ReadAnswer). found_at a (told_read_answer y)) e
-
--- a refused read: the empty board with the refusal
-pub answer_refused : (r : BoardRead) (a : ReadAnswer) (k p : ℕ) → r.board ≡ empty_board → r.answer ≡ a
-    → told_read_answer a ≡ refused k p → told_board_read r ≡ answered (refused k p)
-unfolding answered
-answer_refused r a k p board answer told = λ i. (board i, (ap told_read_answer answer ∙ told) i)
 
 -- the outcome on a board, from the outcome on its parts and the test of 9 after them
 module _ (c : Counts) (o : Outcome (Found (List Part))) where
@@ -175,16 +152,16 @@ module _ (c : Counts) (o : Outcome (Found (List Part))) where
   unfolding board_from
   board_refused k p h = rw h
 
-  module _ (parts : List Part) (w : WoundSoFar) (next : ℕ) (read : RowFound none_wound o parts w next) where
-    pub board_lacking : complete c.relays w ≡ false → refused winding_lacking next ≡ board_from c o
+  module _ (r : Row) (next : ℕ) (read : RowFound none_wound o r next) where
+    pub board_lacking : complete c.relays r.windings ≡ false → refused winding_lacking next ≡ board_from c o
     unfolding board_from
     board_lacking off =
         let lacks : complete c.relays (gained_all none_wound read.row) ≡ false =
         ap (complete c.relays) (sym read.after) ∙ off in
         rw (read.read, lacks)
 
-    pub board-found : complete c.relays w ≡ true
-        → ◌≡◌ {A = Board × Outcome ℕ} (record { counts = c; parts = parts; start = w.marked }, given next)
+    pub board-found : complete c.relays r.windings ≡ true
+        → ◌≡◌ {A = Board × Outcome ℕ} (record { counts = c; parts = r.parts; start = r.windings.marked }, given next)
         (answered (board_from c o))
     unfolding board_from answered
     board-found full =

@@ -6,18 +6,19 @@ use mathlib.Core.List.{List}
 use lib.Dec.{leb}
 use lib.ListN.{length}
 use borrow.Author.Tests.{le-leb, lt-leb}
-use Rattle.refusals.specs.Outcomes.{Outcome, given, refused, Found, found, ◌>>◌, unless}
+use Rattle.refusals.specs.declared.Found.{Found}
+use Rattle.refusals.specs.Outcomes.{Outcome, given, refused, found, ◌>>◌, unless}
 use mathlib.Core.Bool.{true, false}
 use Rattle.refusals.specs.Refusals.{winding_lacking, input_too_long}
 use Rattle.windings.specs.declared.WoundSoFar.{WoundSoFar}
 use Rattle.windings.specs.Windings.{none_wound, complete}
-use Rattle.board.specs.declared.Part.{Part}
 use Rattle.board.specs.declared.Counts.{Counts}
 use Rattle.board.specs.declared.Board.{Board}
 use Rattle.board.specs.Parts.{empty_board}
 use Rattle.board_reader.specs.Editions.{Edition}
 use Rattle.board_reader.specs.Reading.{counts_at, parts_at, board_from, board_at, longest_input, answered, reading}
-use Rattle.board_reader.specs.Steps.{row_from}
+use Rattle.board_reader.specs.Rows.{row_from}
+use Rattle.board_reader.specs.declared.parts.Row.{Row}
 use Rattle.refusals.proofs.OutcomeLaws.{refused_never, given_injective}
 use Rattle.board_reader.proofs.PartsLaws.{RowFound, row_stopped, row_went, board_refused, board_lacking}
 use Rattle.board_reader.proofs.PartsLaws.{board-found}
@@ -63,21 +64,20 @@ module _ (e : Edition) (s : List ℕ) where
         (row_stopped none_wound (parts_at e c c.parts none_wound s at) k p (rw begins at h)))
         ∙ reading_went c at short counts
 
-    module _ (parts : List Part) (w' : WoundSoFar) (next : ℕ)
-        (row : row_from w (parts_at e c c.parts w s at) ≡ found (parts, w') next) where
-      read : RowFound none_wound (parts_at e c c.parts none_wound s at) parts w' next
-      read = row_went none_wound (parts_at e c c.parts none_wound s at) parts w' next (rw begins at row)
+    module _ (r : Row) (next : ℕ) (row : row_from w (parts_at e c c.parts w s at) ≡ found r next) where
+      read : RowFound none_wound (parts_at e c c.parts none_wound s at) r next
+      read = row_went none_wound (parts_at e c c.parts none_wound s at) r next (rw begins at row)
 
-      pub row_lacking : complete c.relays w' ≡ false → answered (refused winding_lacking next) ≡ reading e s
+      pub row_lacking : complete c.relays r.windings ≡ false → answered (refused winding_lacking next) ≡ reading e s
       row_lacking off =
-          ap answered (board_lacking c (parts_at e c c.parts none_wound s at) parts w' next read off)
+          ap answered (board_lacking c (parts_at e c c.parts none_wound s at) r next read off)
           ∙ reading_went c at short counts
 
-      pub row-found : complete c.relays w' ≡ true
-          → ◌≡◌ {A = Board × Outcome ℕ} (record { counts = c; parts = parts; start = w'.marked }, given next)
+      pub row-found : complete c.relays r.windings ≡ true
+          → ◌≡◌ {A = Board × Outcome ℕ} (record { counts = c; parts = r.parts; start = r.windings.marked }, given next)
           (reading e s)
       row-found full =
-          board-found c (parts_at e c c.parts none_wound s at) parts w' next read full
+          board-found c (parts_at e c c.parts none_wound s at) r next read full
           ∙ reading_went c at short counts
 
 -- an answer gives what was read, and is refused as that is; and a refused read returns the empty board

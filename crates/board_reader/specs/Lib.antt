@@ -1,4 +1,4 @@
 -- The definitions that the contracts cite, in reading order.
 pub mod Editions
 pub mod Reading
-pub mod Steps
+pub mod Rows

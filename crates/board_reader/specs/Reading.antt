@@ -16,10 +16,13 @@
 --     answered o                       the answer, by what was read: "A refused read returns number, place and the
 --                                      empty board (T 2, else 0)"
 --     reading e s                      what reading answers
---     told_read_answer, told_board_read    the answers' cases in the rule book's numbers
+--     told_board_read r                what the code's answer r comes to
 --     Reads s r                        promise: `read` of the bytes s answers r, by the current edition
+--     AnswersTo P n at o r             promise: where the reading of a number comes to o, and P says what a test may say of
+--                                      the value, r is that number, or n at its place where the test fails
 use Rattle.std.specs.Prelude.{ℕ, zero, suc, ◌≡◌, Bool, cond, List, [], ◌∷◌, ltb, leb, eqb, length}
-use Rattle.refusals.specs.Outcomes.{Outcome, given, refused, Found, found, ◌>>=◌, ◌>>◌, unless}
+use Rattle.refusals.specs.declared.Found.{Found}
+use Rattle.refusals.specs.Outcomes.{Outcome, given, refused, found, ◌>>=◌, ◌>>◌, unless, told}
 use Rattle.refusals.specs.Refusals.{out_of_range, no_such_kind, no_such_terminal, ends_equal, no_such_name}
 use Rattle.refusals.specs.Refusals.{winding_taken}
 use Rattle.refusals.specs.Refusals.{winding_lacking, input_too_long, marked_twice}
@@ -36,8 +39,6 @@ use Rattle.board.specs.Rules.{ends_fine}
 use Rattle.board.specs.Rules.{limit_of, start_of, all_wound}
 use Rattle.board_reader.specs.Editions.{Edition, current_edition}
 use Rattle.board_reader.specs.declared.BoardRead.{BoardRead}
-use Rattle.board_reader.specs.declared.ReadAnswer.{ReadAnswer}
-use Rattle.board_reader.specs.declared.ReadAnswer.TheVariants.{Read, Refused}
 
 unfoldable pub wanted : Edition → (ℕ → Bool) → ℕ → List ℕ → ℕ → Outcome (Found ℕ)
 wanted e ok n s at = do
@@ -108,12 +109,12 @@ reading e s = answered (do
   unless (leb (length s) longest_input) input_too_long 0
   board_at e s)
 
-abbrev pub told_read_answer : ReadAnswer → Outcome ℕ
-told_read_answer (Read next) = given next
-told_read_answer (Refused r) = refused r.number r.place
-
 abbrev pub told_board_read : BoardRead → Board × Outcome ℕ
-told_board_read r = (r.board, told_read_answer r.answer)
+told_board_read r = (r.board, told r.answer)
 
 abbrev pub Reads : List ℕ → BoardRead → Type 0
 Reads s r = told_board_read r ≡ reading current_edition s
+
+abbrev pub AnswersTo : (ℕ → Bool → Type 0) → ℕ → ℕ → Outcome (Found ℕ) → Outcome (Found ℕ) → Type 0
+AnswersTo P n at (given v) r = (ok : Bool) × P v.value ok × (r ≡ (unless ok n at >> given v))
+AnswersTo P n at (refused m p) r = r ≡ refused m p

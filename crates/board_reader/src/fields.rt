@@ -1,69 +1,35 @@
 // Reading one number of a board file: its form first, then its meaning.
-ghost use Rattle.std.specs.Prelude.{◌≡◌, ltb};
-ghost use Rattle.number.specs.Numbers.{told_number};
-ghost use Rattle.refusals.specs.Outcomes.{refused};
-ghost use Rattle.board.specs.Rules.{in_range};
-ghost use Rattle.board_reader.specs.Editions.{current_edition};
-ghost use Rattle.board_reader.specs.Reading.{wanted, told_read_answer};
-ghost use Rattle.board_reader.specs.Steps.{place_of};
+ghost use Rattle.std.specs.Prelude.{◌≡◌, Result};
+ghost use Rattle.refusals.specs.Outcomes.{told};
+ghost use Rattle.refusals.specs.Refusals.{number_of};
+ghost use Rattle.number.specs.Numbers.{current_width, number_at};
+ghost use Rattle.board_reader.specs.Reading.{AnswersTo};
 
-use crate::ReadAnswer;
-use number::Number;
-use refusals::Refusal;
+use refusals::{Found, No, Refusal};
 
-// The number at a place, refused by `refusal` there unless it is from low to high.
-pub fn read_within(s: &[u8], at: usize, low: u32, high: u32, refusal: u32) -> Number
-    ensures { told_number result ≡ wanted current_edition (in_range low high) refusal s.now at }
+// The number at a place, refused there unless it passes the test.
+pub fn read_wanted<F: FnOnce(u32) -> bool>(
+    s: &[u8],
+    at: usize,
+    ok: F,
+    no: No,
+) -> Result<Found<u32>, Refusal>
+    requires { F.IsAlwaysCallable ok }
+    ensures { AnswersTo (F.post ok) (number_of no) at (number_at current_width s.now at) (told result) }
 {
-    let number = number::read_number(s, at);
-    let Number::Read(value, _) = number else {
-        return number;
+    let read = number::read_number(s, at);
+    let Ok(found) = read else {
+        return Err(read.unwrap_err());
     };
-    if value < low {
-        return Number::Refused(Refusal {
-            number: refusal,
-            place: at,
-        });
+    if !ok(found.value) {
+        return refuse(no, at);
     }
-    if high < value {
-        return Number::Refused(Refusal {
-            number: refusal,
-            place: at,
-        });
-    }
-    number
-}
-
-// The number at a place, refused by `refusal` there unless it is below the limit.
-pub fn read_below(s: &[u8], at: usize, limit: u32, refusal: u32) -> Number
-    ensures { told_number result ≡ wanted current_edition (λ v. ltb v limit) refusal s.now at }
-{
-    let number = number::read_number(s, at);
-    let Number::Read(value, _) = number else {
-        return number;
-    };
-    if limit <= value {
-        return Number::Refused(Refusal {
-            number: refusal,
-            place: at,
-        });
-    }
-    number
-}
-
-// A number's answer without its value: where it ends, or its refusal.
-pub fn place_of(number: Number) -> ReadAnswer
-    ensures { told_read_answer result ≡ place_of (told_number number) }
-{
-    match number {
-        Number::Read(_, next) => ReadAnswer::Read(next),
-        Number::Refused(refusal) => ReadAnswer::Refused(refusal),
-    }
+    Ok(found)
 }
 
 // A refusal by number at a place.
-pub fn refuse(number: u32, place: usize) -> ReadAnswer
-    ensures { told_read_answer result ≡ refused number place }
+pub fn refuse<T>(no: No, place: usize) -> Result<Found<T>, Refusal>
+    ensures { result ≡ Result.Err (record { no = no; place = place }) }
 {
-    ReadAnswer::Refused(Refusal { number, place })
+    Err(Refusal { no, place })
 }

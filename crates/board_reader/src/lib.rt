@@ -3,72 +3,73 @@
 #![tactic(auto)]
 
 ghost use Rattle.std.specs.Prelude.{◌≡◌};
-ghost use Rattle.board.specs.Parts.{empty_board};
-ghost use Rattle.board_reader.specs.Reading.{Reads};
+ghost use Rattle.refusals.specs.Outcomes.{told};
+ghost use Rattle.board_reader.specs.Editions.{current_edition};
+ghost use Rattle.board_reader.specs.Reading.{answered, reading, Reads};
 
 mod counts;
 mod fields;
 mod parts;
 
 use board::Board;
-use refusals::Refusal;
+use refusals::{Found, No, Refusal};
 use windings::WoundSoFar;
 
 // The longest input that is read.
 pub const LONGEST_INPUT: usize = 65_536;
 
-// What reading came to: the place just after what was read, or the refusal.
-#[derive(Clone, Copy)]
-pub enum ReadAnswer {
-    Read(usize),
-    Refused(Refusal),
-}
-
-// The board that was read, or the empty board where the answer is a refusal.
+// The board that was read, with the place just after it; or the empty board, with the refusal.
 #[derive(Clone, Copy)]
 pub struct BoardRead {
     pub board: Board,
-    pub answer: ReadAnswer,
+    pub answer: Result<usize, Refusal>,
 }
 
-// A refused board: the refusal with the empty board.
-fn no_board(answer: ReadAnswer) -> BoardRead
-    ensures { (result.board ≡ empty_board) × (result.answer ≡ answer) }
-{
-    let board = board::empty();
-    BoardRead { board, answer }
-}
-
-// Reads the board at the start of the input; the bytes after it are not judged.
-pub fn read(s: &[u8]) -> BoardRead
-    ensures { Reads s.now result }
+// The board at the start of the input: 10 where the input is too long, and 9 after the last part.
+fn read_board(s: &[u8]) -> Result<Found<Board>, Refusal>
+    ensures { answered (told result) ≡ reading current_edition s.now }
 {
     if LONGEST_INPUT < s.len() {
-        return no_board(fields::refuse(refusals::INPUT_TOO_LONG, 0));
+        return fields::refuse(No::InputTooLong, 0);
     }
-    let counts_read = counts::read_counts(s);
-    let answer = counts_read.answer;
-    let ReadAnswer::Read(at) = answer else {
-        return no_board(answer);
+    let read = counts::read_counts(s);
+    let Ok(counts) = read else {
+        return Err(read.unwrap_err());
     };
-    let counts = counts_read.counts;
-    let row = parts::read_parts(s, at, counts, WoundSoFar::none());
-    let row_answer = row.answer;
-    let ReadAnswer::Read(next) = row_answer else {
-        return no_board(row_answer);
+    let read = parts::read_parts(s, counts.next, counts.value, WoundSoFar::none());
+    let Ok(row) = read else {
+        return Err(read.unwrap_err());
     };
-    let windings = row.windings;
-    if !windings.complete(counts.relays) {
-        return no_board(fields::refuse(refusals::WINDING_LACKING, next));
+    let parts = row.value.parts;
+    let windings = row.value.windings;
+    if !windings.complete(counts.value.relays) {
+        return fields::refuse(No::WindingLacking, row.next);
     }
-    let parts = row.parts;
     let board = Board {
-        counts,
+        counts: counts.value,
         parts,
         start: windings.marked,
     };
+    Ok(Found {
+        value: board,
+        next: row.next,
+    })
+}
+
+// Reads the board at the start of the input; the bytes after it are not judged.
+#[tactic(auto, unfolding(crate::specs::Reading::answered))]
+pub fn read(s: &[u8]) -> BoardRead
+    ensures { Reads s.now result }
+{
+    let read = read_board(s);
+    let Ok(found) = read else {
+        return BoardRead {
+            board: board::empty(),
+            answer: Err(read.unwrap_err()),
+        };
+    };
     BoardRead {
-        board,
-        answer: ReadAnswer::Read(next),
+        board: found.value,
+        answer: Ok(found.next),
     }
 }

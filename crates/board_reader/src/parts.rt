@@ -1,175 +1,147 @@
 // Reading the parts of a board file: one part field by field, and all of them one after the other.
 ghost use Rattle.std.specs.Prelude.{◌≡◌, ◌≤◌};
-ghost use Rattle.number.specs.Numbers.{told_number};
-ghost use Rattle.refusals.specs.Refusals.{no_such_terminal};
+ghost use Rattle.refusals.specs.Outcomes.{told};
+ghost use Rattle.refusals.specs.Refusals.{no_such_kind, no_such_terminal};
+ghost use Rattle.kinds.specs.Kinds.{last_kind};
 ghost use Rattle.board.specs.Parts.{most_parts};
-ghost use Rattle.board.specs.Rules.{terminal_fine};
+ghost use Rattle.board.specs.Rules.{in_range, terminal_fine};
 ghost use Rattle.board_reader.specs.Editions.{current_edition};
-ghost use Rattle.board_reader.specs.Reading.{wanted, name_at, ends_at, part_at, parts_at, told_read_answer};
-ghost use Rattle.board_reader.specs.Steps.{place_of, row_from, told_ends_read, told_part_read, told_row_read};
+ghost use Rattle.board_reader.specs.Reading.{wanted, name_at, ends_at, part_at, parts_at};
+ghost use Rattle.board_reader.specs.Rows.{row_from};
 
-use crate::{ReadAnswer, fields};
+use crate::fields;
 use board::{Counts, Part};
 use kinds::Kind;
-use number::Number;
+use refusals::{Found, No, Refusal};
 use windings::WoundSoFar;
 
-// The ends that were read, where the answer is no refusal. Those of a mark, which has none, are 0.
+// A row of parts, the places past them blank, and the windings and marks after it.
 #[derive(Clone, Copy)]
-pub struct EndsRead {
-    pub a: u8,
-    pub b: u8,
-    pub answer: ReadAnswer,
-}
-
-// The part that was read, where the answer is no refusal.
-#[derive(Clone, Copy)]
-pub struct PartRead {
-    pub part: Part,
-    pub answer: ReadAnswer,
-}
-
-// A row of parts that was read, and the windings and marks after it, where the answer is no refusal.
-#[derive(Clone, Copy)]
-pub struct RowRead {
+pub struct Row {
     pub parts: [Part; 256],
     pub windings: WoundSoFar,
-    pub answer: ReadAnswer,
 }
 
-// Refused ends, or those of a mark.
-fn no_ends(answer: ReadAnswer) -> EndsRead
-    ensures { result ≡ record { a = 0; b = 0; answer = answer } }
+// The kind number at a place, refused by 4 there if it is above the last.
+#[tactic(auto, unfolding(crate::specs::Reading::wanted, board::specs::Rules::in_range))]
+fn read_kind(s: &[u8], at: usize) -> Result<Found<u32>, Refusal>
+    ensures { told result ≡ wanted current_edition (in_range 0 last_kind) no_such_kind s.now at }
 {
-    EndsRead { a: 0, b: 0, answer }
-}
-
-// A refused part.
-fn no_part(answer: ReadAnswer) -> PartRead
-    ensures { result.answer ≡ answer }
-{
-    let part = board::blank();
-    PartRead { part, answer }
-}
-
-// A field's answer that is a refusal, as that of the whole part.
-fn no_field(number: Number) -> PartRead
-    ensures { told_read_answer result.answer ≡ place_of (told_number number) }
-{
-    no_part(fields::place_of(number))
+    fields::read_wanted(s, at, |kind| kind <= kinds::LAST_KIND, No::NoSuchKind)
 }
 
 // The terminal at a place, refused by 5 there unless it is below T.
-fn read_terminal(s: &[u8], at: usize, counts: Counts) -> Number
-    ensures { told_number result ≡ wanted current_edition (terminal_fine counts) no_such_terminal s.now at }
+#[tactic(auto, unfolding(crate::specs::Reading::wanted))]
+fn read_terminal(s: &[u8], at: usize, counts: Counts) -> Result<Found<u32>, Refusal>
+    ensures { told result ≡ wanted current_edition (terminal_fine counts) no_such_terminal s.now at }
 {
-    let limit = bits::wide(counts.terminals);
-    fields::read_below(s, at, limit, refusals::NO_SUCH_TERMINAL)
+    let limit = u32::from(counts.terminals);
+    fields::read_wanted(s, at, |terminal| terminal < limit, No::NoSuchTerminal)
 }
 
 // The relay or button of a part of this kind number, refused by 7 unless it is there; a wire has none.
-fn read_name(s: &[u8], at: usize, counts: Counts, kind: u32) -> Number
-    ensures { told_number result ≡ name_at current_edition counts kind s.now at }
+#[tactic(auto, unfolding(crate::specs::Reading::name_at, crate::specs::Reading::wanted))]
+fn read_name(s: &[u8], at: usize, counts: Counts, kind: u32) -> Result<Found<u32>, Refusal>
+    ensures { told result ≡ name_at current_edition counts kind s.now at }
 {
     if kind == kinds::WIRE_KIND {
-        return Number::Read(0, at);
+        return Ok(Found { value: 0, next: at });
     }
-    let limit = bits::wide(board::limit(counts, kind));
-    fields::read_below(s, at, limit, refusals::NO_SUCH_NAME)
+    let limit = u32::from(board::limit(counts, kind));
+    fields::read_wanted(s, at, |name| name < limit, No::NoSuchName)
 }
 
-// The ends of a part of this kind number; a mark has none.
-fn read_ends(s: &[u8], at: usize, counts: Counts, kind: u32) -> EndsRead
-    ensures { told_ends_read result ≡ ends_at current_edition counts kind s.now at }
+// The ends of a part of this kind number; a mark has none, and 0 stands in their place.
+#[tactic(auto, unfolding(crate::specs::Reading::ends_at))]
+fn read_ends(s: &[u8], at: usize, counts: Counts, kind: u32) -> Result<Found<(u8, u8)>, Refusal>
+    ensures { told result ≡ ends_at current_edition counts kind s.now at }
 {
     if kind == kinds::MARK_KIND {
-        return no_ends(ReadAnswer::Read(at));
+        return Ok(Found {
+            value: (0, 0),
+            next: at,
+        });
     }
-    let a_read = read_terminal(s, at, counts);
-    let Number::Read(a, b_at) = a_read else {
-        return no_ends(fields::place_of(a_read));
+    let read = read_terminal(s, at, counts);
+    let Ok(a) = read else {
+        return Err(read.unwrap_err());
     };
-    let b_read = read_terminal(s, b_at, counts);
-    let Number::Read(b, next) = b_read else {
-        return no_ends(fields::place_of(b_read));
+    let read = read_terminal(s, a.next, counts);
+    let Ok(b) = read else {
+        return Err(read.unwrap_err());
     };
-    if a == b {
-        return no_ends(fields::refuse(refusals::ENDS_EQUAL, b_at));
+    if a.value == b.value {
+        return fields::refuse(No::EndsEqual, a.next);
     }
-    EndsRead {
-        a: a as u8,
-        b: b as u8,
-        answer: ReadAnswer::Read(next),
-    }
+    Ok(Found {
+        value: (a.value as u8, b.value as u8),
+        next: b.next,
+    })
 }
 
 // The part at a place, after parts that gave these windings and marks.
-fn read_part(s: &[u8], at: usize, counts: Counts, windings: WoundSoFar) -> PartRead
-    ensures { told_part_read result ≡ part_at current_edition counts windings s.now at }
+#[tactic(auto, unfolding(crate::specs::Reading::part_at))]
+fn read_part(
+    s: &[u8],
+    at: usize,
+    counts: Counts,
+    windings: WoundSoFar,
+) -> Result<Found<Part>, Refusal>
+    ensures { told result ≡ part_at current_edition counts windings s.now at }
 {
-    let kind_read = fields::read_within(s, at, 0, kinds::LAST_KIND, refusals::NO_SUCH_KIND);
-    let Number::Read(kind_number, ends_at) = kind_read else {
-        return no_field(kind_read);
+    let read = read_kind(s, at);
+    let Ok(number) = read else {
+        return Err(read.unwrap_err());
     };
-    let ends_read = read_ends(s, ends_at, counts, kind_number);
-    let answer = ends_read.answer;
-    let ReadAnswer::Read(name_at) = answer else {
-        return no_part(answer);
+    let read = read_ends(s, number.next, counts, number.value);
+    let Ok(ends) = read else {
+        return Err(read.unwrap_err());
     };
-    let name_read = read_name(s, name_at, counts, kind_number);
-    let Number::Read(name, next) = name_read else {
-        return no_field(name_read);
+    let read = read_name(s, ends.next, counts, number.value);
+    let Ok(name) = read else {
+        return Err(read.unwrap_err());
     };
-    let kind = Kind::of(kind_number, name as u8);
+    let kind = Kind::of(number.value, name.value as u8);
     if !windings.free(kind) {
-        return no_part(fields::refuse(refusals::WINDING_TAKEN, name_at));
+        return fields::refuse(No::WindingTaken, ends.next);
     }
     if !windings.unmarked(kind) {
-        return no_part(fields::refuse(refusals::MARKED_TWICE, name_at));
+        return fields::refuse(No::MarkedTwice, ends.next);
     }
-    let part = Part {
-        a: ends_read.a,
-        b: ends_read.b,
-        kind,
-    };
-    PartRead {
-        part,
-        answer: ReadAnswer::Read(next),
-    }
+    let (a, b) = ends.value;
+    Ok(Found {
+        value: Part { a, b, kind },
+        next: name.next,
+    })
 }
 
 // The first C parts from a place on, after parts that gave these windings and marks.
-pub fn read_parts(s: &[u8], start: usize, counts: Counts, windings: WoundSoFar) -> RowRead
+pub fn read_parts(
+    s: &[u8],
+    start: usize,
+    counts: Counts,
+    windings: WoundSoFar,
+) -> Result<Found<Row>, Refusal>
     requires { counts.parts ≤ most_parts }
-    ensures { told_row_read result
+    ensures { told result
         ≡ row_from windings (parts_at current_edition counts counts.parts windings s.now start) }
 {
-    let filler = board::blank();
-    let mut parts = [filler; 256];
-    let mut after = windings;
+    let mut row = Row {
+        parts: [board::blank(); 256],
+        windings,
+    };
     let mut at = start;
-    let count = counts.parts;
-    let mut i = 0;
-    while i < count {
-        let part_read = read_part(s, at, counts, after);
-        let answer = part_read.answer;
-        let ReadAnswer::Read(next) = answer else {
-            return RowRead {
-                parts,
-                windings: after,
-                answer,
-            };
+    for i in 0..counts.parts {
+        let read = read_part(s, at, counts, row.windings);
+        let Ok(part) = read else {
+            return Err(read.unwrap_err());
         };
-        let part = part_read.part;
-        let kind = part.kind;
-        after = after.with(kind);
-        parts[i] = part;
-        at = next;
-        i += 1;
+        row.parts[i] = part.value;
+        row.windings = row.windings.with(part.value.kind);
+        at = part.next;
     }
-    RowRead {
-        parts,
-        windings: after,
-        answer: ReadAnswer::Read(at),
-    }
+    Ok(Found {
+        value: row,
+        next: at,
+    })
 }

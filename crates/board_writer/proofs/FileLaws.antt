@@ -8,10 +8,14 @@ use borrow.Author.Tests.{leb-true, leb-false}
 use lib.Dec.{eqb, leb}
 use lib.ListN.{length, take, drop, length-append, length-take}
 use lib.Seq.{take_all}
+use Rattle.std.specs.Prelude.{Result}
 use Rattle.refusals.proofs.OutcomeLaws.{given_injective, refused_never}
-use Rattle.refusals.proofs.Told.{Told, answer_of, given_or_refused}
-use Rattle.refusals.specs.Outcomes.{Outcome, given, refused}
-use Rattle.refusals.specs.Refusals.{broken_board, buffer_too_short}
+use Rattle.refusals.proofs.Tabled.{Tabled, TabledLines, tabled_lines}
+use Rattle.refusals.specs.declared.Refusal.{Refusal}
+use Rattle.refusals.specs.declared.No.TheVariants.{BrokenBoard, BufferTooShort}
+use Rattle.refusals.specs.Outcomes.{Outcome, given, refused, told}
+use Rattle.refusals.specs.Order.{first_no, answering}
+use Rattle.refusals.specs.Refusals.{broken_board, buffer_too_short, number_of}
 use Rattle.number.specs.Numbers.{number_bytes}
 use Rattle.number.proofs.NumberLaws.{number_bytes_one, number_bytes-length_two}
 use Rattle.kinds.specs.declared.Kind.{Kind}
@@ -27,11 +31,9 @@ use Rattle.lists.specs.Members.{All}
 use Rattle.bits.proofs.BoolLaws.{by_test}
 use Rattle.kinds.proofs.KindLaws.{kind_number_most, fields_few}
 use Rattle.board.proofs.BreaksNoRule.{fine_fits}
-use Rattle.board_writer.specs.declared.Written.{Written}
-use Rattle.board_writer.specs.declared.Written.TheVariants.{Bytes, Refused}
 use Rattle.board_writer.specs.File.{row_bytes, numbers_bytes, part_bytes, parts_bytes, counts_bytes, board_bytes}
 use Rattle.board_writer.specs.File.{longest_file}
-use Rattle.board_writer.specs.Writing.{writing, told_written, bytes_written, Writes}
+use Rattle.board_writer.specs.Writing.{write_lines, writing, bytes_written, Writes}
 use Rattle.board_writer.proofs.LengthLaws.{counts_bytes_sum, part_bytes_sum}
 use Rattle.board_writer.proofs.WriteLaws.{board_bytes_sum, writing_broken}
 use Rattle.board_writer.proofs.WriteLaws.{writing_short, writing_with_room}
@@ -175,13 +177,12 @@ module _ (b : Board) (out : List ℕ) {A : Type 0} where
       (λ fine. by_test (leb (length (board_bytes b)) (length out))
       (λ fits. whole fine (leb-true (length (board_bytes b)) (length out) fits))
       (λ off. short
-      (writing_short b out fine refl refl
-      (omega (arith, board_bytes_sum b, leb-false (length (board_bytes b)) (length out) off)) refl)))
+      (writing_short b out fine refl (leb-false (length (board_bytes b)) (length out) off) refl)))
       (λ off. broken (writing_broken b out off refl))
 
 -- `write` never refuses a buffer of LONGEST_FILE bytes by 16
-pub write_never_short : (b : Board) (out out' : List ℕ) (w : Written) → longest_file ≤ length out
-    → Writes b out w out' → ¬ (told_written w ≡ refused buffer_too_short 0)
+pub write_never_short : (b : Board) (out out' : List ℕ) (w : Result ℕ Refusal) → longest_file ≤ length out
+    → Writes b out w out' → ¬ (told w ≡ refused buffer_too_short 0)
 write_never_short b out out' w room wrote short =
     by_test (board_fine b)
     (λ fine. refused_never buffer_too_short 0 (length (board_bytes b))
@@ -230,22 +231,28 @@ writing_given b out n out' is =
 
 -- whatever `write` answers, the bytes that it says were written are the file's first, they begin the buffer, and the
 -- rest stays
-pub write_bytes : (b : Board) (out out' : List ℕ) (w : Written) → Writes b out w out'
+pub write_bytes : (b : Board) (out out' : List ℕ) (w : Result ℕ Refusal) → Writes b out w out'
     → (bytes_written w ≤ length (board_bytes b))
     × (out' ≡ take (bytes_written w) (board_bytes b) ++ drop (bytes_written w) out)
-write_bytes b out out' (Bytes n) wrote =
+write_bytes b out out' (Result.Ok n) wrote =
     let was = writing_given b out n out' (sym wrote) in (
       omega (arith, was.count),
       was.begins ∙ ap (λ (l : List ℕ). l ++ drop n out)
           (sym (take_all n (board_bytes b) (omega (arith, was.count)))),
     )
-write_bytes b out out' (Refused r) wrote =
-    (omega arith, (writing_refused b out r.number r.place out' (sym wrote)).0)
+write_bytes b out out' (Result.Err r) wrote =
+    (omega arith, (writing_refused b out (number_of r.no) r.place out' (sym wrote)).0)
 
--- answers and what they tell
-pub written-told : Told told_written
-written-told = given_or_refused told_written Bytes Refused (λ a. refl) (λ n p. refl) back
+-- a write is refused by numbers of the table alone
+pub writing_tabled : (b : Board) (out : List ℕ) → Tabled (writing b out).0
+unfolding writing
+writing_tabled b out = by (first_no (write_lines b out)) (tabled_lines (write_lines b out) lines)
   where
-    back : (x : Written) → answer_of Bytes Refused (told_written x) ≡ x
-    back (Bytes n) = refl
-    back (Refused r) = refl
+    lines : TabledLines (write_lines b out)
+    unfolding TabledLines
+    lines = ((BrokenBoard, refl), ((BufferTooShort, refl), tt))
+
+    by : (o : Outcome (Unit {0})) → Tabled o
+        → Tabled (answering o (λ n p. (refused n p, out))
+        (λ u. (given (length (board_bytes b)), board_bytes b ++ drop (length (board_bytes b)) out))).0
+    by o t = ?

@@ -1,5 +1,4 @@
 -- The laws, by subject; each function has its proof in a folder of its own.
-pub mod PieceLaws
 pub mod LengthLaws
 pub mod WriteLaws
 pub mod FileLaws

@@ -2,18 +2,16 @@
 -- stay as lent"; "Written bytes begin the buffer; the rest stays."
 --     write_lines b out      the lines of writing board b into the buffer `out`: 15, 16
 --     writing b out          what writing answers, the count of bytes or the refusal, and the buffer afterwards
---     told_written           the answer's cases in the rule book's numbers
 --     bytes_written w        how many bytes an answer says were written: none where it is a refusal
 --     Writes b out r out'    promise: `write` of board b into the buffer `out` answers r, and leaves the buffer out'
-use Rattle.std.specs.Prelude.{ℕ, ◌≡◌, List, [], ◌∷◌, ◌++◌, leb, length, drop}
-use Rattle.refusals.specs.Outcomes.{Outcome, given, refused}
+use Rattle.std.specs.Prelude.{ℕ, ◌≡◌, List, [], ◌∷◌, ◌++◌, leb, length, drop, Result}
+use Rattle.refusals.specs.Outcomes.{Outcome, given, refused, told}
+use Rattle.refusals.specs.declared.Refusal.{Refusal}
 use Rattle.refusals.specs.Refusals.{broken_board, buffer_too_short}
 use Rattle.refusals.specs.Order.{Order, first_no, answering}
 use Rattle.board.specs.declared.Board.{Board}
 use Rattle.board.specs.Rules.{board_fine}
 use Rattle.board_writer.specs.File.{board_bytes}
-use Rattle.board_writer.specs.declared.Written.{Written}
-use Rattle.board_writer.specs.declared.Written.TheVariants.{Bytes, Refused}
 
 abbrev pub write_lines : Board → List ℕ → Order
 write_lines b out = (board_fine b, broken_board) ∷ (leb (length (board_bytes b)) (length out), buffer_too_short) ∷ []
@@ -23,13 +21,9 @@ writing b out =
     answering (first_no (write_lines b out)) (λ n p. (refused n p, out))
     (λ u. (given (length (board_bytes b)), board_bytes b ++ drop (length (board_bytes b)) out))
 
-abbrev pub told_written : Written → Outcome ℕ
-told_written (Bytes n) = given n
-told_written (Refused r) = refused r.number r.place
+abbrev pub bytes_written : Result ℕ Refusal → ℕ
+bytes_written (Result.Ok n) = n
+bytes_written (Result.Err r) = 0
 
-abbrev pub bytes_written : Written → ℕ
-bytes_written (Bytes n) = n
-bytes_written (Refused r) = 0
-
-abbrev pub Writes : Board → List ℕ → Written → List ℕ → Type 0
-Writes b out r out' = ◌≡◌ {A = Outcome ℕ × List ℕ} (told_written r, out') (writing b out)
+abbrev pub Writes : Board → List ℕ → Result ℕ Refusal → List ℕ → Type 0
+Writes b out r out' = ◌≡◌ {A = Outcome ℕ × List ℕ} (told r, out') (writing b out)

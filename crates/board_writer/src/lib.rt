@@ -1,48 +1,79 @@
-// Writing a board file: into a lent buffer of any length the board's bytes, or a refusal with no byte written.
+// Writing a board file: made once in fixed memory, then measured, then copied into a lent buffer of any length; or a
+// refusal with no byte written.
 #![tactic(auto)]
 
-ghost use Rattle.std.specs.Prelude.{◌≡◌};
-ghost use Rattle.refusals.specs.Outcomes.{refused};
-ghost use Rattle.board_writer.specs.Writing.{told_written, Writes};
+ghost use Rattle.std.specs.Prelude.{◌≡◌, ◌+◌, ◌≤◌, ◌++◌, true, length};
+ghost use Rattle.number.specs.Numbers.{number_bytes};
+ghost use Rattle.board.specs.Parts.{most_parts};
+ghost use Rattle.board.specs.Rules.{board_fine};
+ghost use Rattle.board_writer.specs.File.{counts_bytes, part_bytes, board_bytes, longest_file};
+ghost use Rattle.board_writer.specs.Writing.{Writes};
 
-mod bytes;
-mod lengths;
-
-use board::Board;
-use refusals::Refusal;
+use arrayvec::ArrayVec;
+use board::{Board, Counts, Part};
+use refusals::{No, Refusal, unless};
 
 // No board's file is longer, so a buffer of this length is never refused by 16.
 pub const LONGEST_FILE: usize = 1029;
 
-// What writing came to: the count of bytes, or the refusal.
-#[derive(Clone, Copy)]
-pub enum Written {
-    Bytes(usize),
-    Refused(Refusal),
+// The longest form of a number, in bytes.
+const LONGEST_NUMBER: usize = 5;
+
+// Adds a number's bytes.
+fn push_number(file: &mut ArrayVec<u8, LONGEST_FILE>, value: u32)
+    requires { length file.old.items + length (number_bytes value) ≤ longest_file }
+    ensures { file.new.items ≡ file.old.items ++ number_bytes value }
+{
+    let mut bytes = [0; LONGEST_NUMBER];
+    let length = number::write_number(value, &mut bytes, 0).unwrap();
+    file.try_extend_from_slice(&bytes[..length]).unwrap();
 }
 
-// A refusal by number; a call's place is 0.
-fn refuse(number: u32) -> Written
-    ensures { told_written result ≡ refused number 0 }
+// Adds T, R, B and C.
+fn push_counts(file: &mut ArrayVec<u8, LONGEST_FILE>, counts: Counts)
+    requires room { length file.old.items + length (counts_bytes counts) ≤ longest_file }
+    requires parts { counts.parts ≤ most_parts }
+    ensures { file.new.items ≡ file.old.items ++ counts_bytes counts }
 {
-    Written::Refused(Refusal { number, place: 0 })
+    push_number(file, u32::from(counts.terminals));
+    push_number(file, u32::from(counts.relays));
+    push_number(file, u32::from(counts.buttons));
+    push_number(file, counts.parts as u32);
+}
+
+// Adds a part's kind and its fields.
+fn push_part(file: &mut ArrayVec<u8, LONGEST_FILE>, part: Part)
+    requires { length file.old.items + length (part_bytes part) ≤ longest_file }
+    ensures { file.new.items ≡ file.old.items ++ part_bytes part }
+{
+    push_number(file, part.kind.number());
+    let fields = part.kind.fields(part.a, part.b);
+    for &field in fields.as_slice() {
+        push_number(file, u32::from(field));
+    }
+}
+
+// The file of a board that breaks no rule.
+fn file(board: Board) -> ArrayVec<u8, LONGEST_FILE>
+    requires { board_fine board ≡ true }
+    ensures { result.items ≡ board_bytes board }
+{
+    let mut file = ArrayVec::new();
+    push_counts(&mut file, board.counts);
+    for &part in board.parts() {
+        push_part(&mut file, part);
+    }
+    file
 }
 
 // Writes a board's file at the start of the buffer: 15, then 16, with no byte written.
-pub fn write(board: Board, out: &mut [u8]) -> Written
+pub fn write(board: Board, out: &mut [u8]) -> Result<usize, Refusal>
     ensures { Writes board out.old result out.new }
 {
-    if !board::check(board) {
-        return refuse(refusals::BROKEN_BOARD);
-    }
-    let counts = board.counts;
-    let parts = board.parts;
-    let count = counts.parts;
-    let length = lengths::counts_length(counts) + lengths::parts_length(parts, count);
-    if out.len() < length {
-        return refuse(refusals::BUFFER_TOO_SHORT);
-    }
-    let at = bytes::write_counts(counts, out);
-    bytes::write_parts(parts, count, out, at);
-    Written::Bytes(length)
+    unless(board::check(board), No::BrokenBoard)?;
+    let file = file(board);
+    let bytes = file.as_slice();
+    unless(bytes.len() <= out.len(), No::BufferTooShort)?;
+    out[..bytes.len()].copy_from_slice(bytes);
+    Ok(bytes.len())
 }

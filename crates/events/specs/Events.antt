@@ -1,7 +1,8 @@
 -- One event of a session. Rule book: "then events to the end: 2 x button + 1 pushes, 2 x button releases"; "One line
 -- for the first run (event 0), then one for each event"; "An event refused by 12 prints its number, `refused` and 12;
 -- nothing is run"; "After spent, .. or conflict the next event acts on the state left", and after buzz (request A8).
---     event_of v               the event of the number v: its button, and whether it pushes or releases it
+--     event_of v               the event of the number v: it pushes or releases a button
+--     button_of v              the button of the event v
 --     event_at ed n s at       the event at a place of the input, by the edition ed: a number (1, 2) that names one of
 --                              n buttons (7)
 --     pressing b h v           the event v pushes or releases its button, from the state and the kept sets h
@@ -17,7 +18,8 @@
 --     RunLine b e h r          promise: `run_line` of event e on board b from h answers r
 --     EventLine b e h v r      promise: `event_line` of event e, which is v, likewise
 use Rattle.std.specs.Prelude.{ℕ, ◌/◌, ◌%◌, ◌≡◌, cond, List, ltb, eqb, replicate}
-use Rattle.refusals.specs.Outcomes.{Outcome, given, refused, Found, found, ◌>>=◌}
+use Rattle.refusals.specs.declared.Found.{Found}
+use Rattle.refusals.specs.Outcomes.{Outcome, given, refused, found, ◌>>=◌}
 use Rattle.refusals.specs.Refusals.{no_such_name}
 use Rattle.refusals.specs.Order.{Order}
 use Rattle.board.specs.declared.Board.{Board}
@@ -28,21 +30,28 @@ use Rattle.board_reader.specs.Reading.{wanted}
 use Rattle.runs.specs.Running.{Ran, running}
 use Rattle.lines.specs.Lines.{Line, event, told_line}
 use Rattle.events.specs.declared.Event.{Event}
+use Rattle.events.specs.declared.Event.TheVariants.{Push, Release}
 use Rattle.events.specs.declared.Shown as code
 
 abbrev pub event_of : ℕ → Event
-event_of v = record { button = v / 2; push = eqb (v % 2) 1 }
+event_of v = cond (eqb (v % 2) 1) (Push (v / 2)) (Release (v / 2))
+
+abbrev pub button_of : Event → ℕ
+button_of (Push n) = n
+button_of (Release n) = n
 
 unfoldable pub event_at : Edition → ℕ → List ℕ → ℕ → Outcome (Found Event)
 event_at ed n s at = do
-  v ← wanted ed (λ v. ltb (event_of v).button n) no_such_name s at
+  v ← wanted ed (λ v. ltb (v / 2) n) no_such_name s at
   found (event_of v.value) v.next
 
 unfoldable pub pressing : Board → Kept → Event → Kept × Outcome (Unit {0})
-pressing b h v = cond v.push (pushing b h v.button) (releasing b h v.button)
+pressing b h (Push n) = pushing b h n
+pressing b h (Release n) = releasing b h n
 
 abbrev pub made_lines : Board → Kept → Event → Order
-made_lines b h v = cond v.push (push_lines b h v.button) (release_lines b h v.button)
+made_lines b h (Push n) = push_lines b h n
+made_lines b h (Release n) = release_lines b h n
 
 abbrev pub session_log : List ℕ
 session_log = replicate 4096 0

@@ -8,18 +8,35 @@ ghost use Rattle.events.specs.Events.{pressing, pressed_line, told_shown, RunLin
 
 use board::Board;
 use kept::Kept;
-use lines::Line;
-use presses::{Press, Pressed};
+use lines::{Line, Refused};
+use presses::Pressed;
+use refusals::Refusal;
 use runs::Ending;
 
 // The length of the log of a session's runs: the moves that each may make.
 const LOG_LENGTH: usize = 4_096;
 
-// An event, taken apart: its button, and whether it pushes or releases it.
-#[derive(Clone, Copy)]
-pub struct Event {
-    pub button: u32,
-    pub push: bool,
+// An event: a button is pushed or released.
+#[derive(Clone, Copy, Debug, PartialEq, Eq)]
+pub enum Event {
+    Push(u32),
+    Release(u32),
+}
+
+// The number of an event: 2 x button + 1 pushes, 2 x button releases.
+impl From<u32> for Event {
+    ghost use Rattle.events.specs.Events.{event_of};
+
+    ghost from_gives = { λ number event. event ≡ event_of number };
+
+    fn from(number: u32) -> Event {
+        let button = number / 2;
+        if number % 2 == 1 {
+            Event::Push(button)
+        } else {
+            Event::Release(button)
+        }
+    }
 }
 
 // A line, and the state with the kept sets after what it tells.
@@ -30,47 +47,56 @@ pub struct Shown {
 }
 
 // Runs the board from a state, and tells of it as the event of this number.
+#[tactic(auto, unfolding(crate::specs::Events::ran_line))]
 pub fn run_line(board: Board, number: usize, kept: Kept) -> Shown
     ensures { RunLine board number kept result }
 {
-    let mut log = [0u8; LOG_LENGTH];
+    let mut log = [0; LOG_LENGTH];
     let ran = runs::run(board, kept, &mut log);
-    let word = ran.word;
-    let after = ran.kept;
     Shown {
-        line: Line::Event(number, word, ran.moves, after.state.drawn),
-        kept: after,
+        line: Line::Event {
+            event: number,
+            word: ran.word.map_err(Refused::from),
+            moves: ran.moves,
+            drawn: ran.kept.state.drawn,
+        },
+        kept: ran.kept,
     }
 }
 
 // Pushes or releases the button of an event.
+#[tactic(auto, unfolding(crate::specs::Events::pressing))]
 fn press(board: Board, kept: Kept, event: Event) -> Pressed
     ensures { told_pressed result ≡ pressing board kept event }
 {
-    if event.push {
-        presses::push(board, kept, event.button)
-    } else {
-        presses::release(board, kept, event.button)
+    match event {
+        Event::Push(button) => presses::push(board, kept, button),
+        Event::Release(button) => presses::release(board, kept, button),
     }
 }
 
 // Tells of a push or release, as the event of this number: the run after it, or its refusal.
+#[tactic(auto, unfolding(crate::specs::Events::pressed_line))]
 fn pressed_line(board: Board, number: usize, pressed: Pressed) -> Shown
     ensures { told_shown result ≡ pressed_line board number (told_pressed pressed) }
 {
     let kept = pressed.kept;
-    let answer = pressed.answer;
-    if let Press::Refused(refusal) = answer {
-        Shown {
-            line: Line::Event(number, Ending::Refused(refusal), 0, kept.state.drawn),
+    match pressed.answer {
+        Ok(()) => run_line(board, number, kept),
+        Err(refusal) => Shown {
+            line: Line::Event {
+                event: number,
+                word: Err(refusal.into()),
+                moves: 0,
+                drawn: kept.state.drawn,
+            },
             kept,
-        }
-    } else {
-        run_line(board, number, kept)
+        },
     }
 }
 
 // Makes an event in a state, and tells of it under its number.
+#[tactic(auto, unfolding(crate::specs::Events::event_line))]
 pub fn event_line(board: Board, number: usize, kept: Kept, event: Event) -> Shown
     ensures { EventLine board number kept event result }
 {

@@ -7,7 +7,8 @@ use mathlib.Core.Bool.{true}
 use mathlib.Core.List.{List, [], ◌∷◌, ◌++◌, map, append-nil}
 use lib.ListN.{length}
 use lib.Seq.{length-take-le}
-use Rattle.refusals.specs.Outcomes.{Found, found}
+use Rattle.refusals.specs.declared.Found.{Found}
+use Rattle.refusals.specs.Outcomes.{found}
 use Rattle.refusals.specs.Refusals.{out_of_range, winding_lacking}
 use Rattle.number.specs.Numbers.{number_bytes}
 use Rattle.windings.specs.declared.WoundSoFar.{WoundSoFar}

@@ -10,7 +10,8 @@ use mathlib.Core.List.{List}
 use lib.Dec.{ltb, leb, eqb}
 use lib.ListN.{length}
 use Rattle.bits.proofs.BoolLaws.{by_test}
-use Rattle.refusals.specs.Outcomes.{Outcome, given, refused, Found, found}
+use Rattle.refusals.specs.declared.Found.{Found}
+use Rattle.refusals.specs.Outcomes.{Outcome, given, refused, found}
 use Rattle.refusals.specs.Refusals.{bad_form, no_such_kind, no_such_name, input_too_long}
 use Rattle.refusals.proofs.Kept.{Kept, stands, was_refused, kept_then, kept-unless, kept_looser}
 use Rattle.number.specs.Numbers.{current_width, number_at}

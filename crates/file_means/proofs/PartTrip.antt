@@ -11,7 +11,8 @@ use mathlib.Core.List.{List, [], ◌∷◌, ◌++◌, append-nil, append_assoc}
 use lib.Dec.{ltb, eqb}
 use lib.ListN.{length}
 use borrow.Author.Tests.{ltb-true, lt-ltb, eqb-true, eqb-false}
-use Rattle.refusals.specs.Outcomes.{given, Found, found}
+use Rattle.refusals.specs.declared.Found.{Found}
+use Rattle.refusals.specs.Outcomes.{given, found}
 use Rattle.refusals.specs.Refusals.{no_such_kind, no_such_terminal, ends_equal, no_such_name, winding_taken}
 use Rattle.refusals.specs.Refusals.{marked_twice}
 use Rattle.number.specs.Numbers.{number_at, number_bytes}

@@ -14,7 +14,8 @@ use mathlib.Core.List.{List, [], ◌∷◌, ◌++◌, append-nil, append_assoc}
 use lib.Dec.{ltb}
 use lib.ListN.{length, length-append}
 use borrow.Author.Tests.{lt-ltb, ne_eqb}
-use Rattle.refusals.specs.Outcomes.{Outcome, given, refused, Found, found, ◌>>=◌, ◌>>◌, unless}
+use Rattle.refusals.specs.declared.Found.{Found}
+use Rattle.refusals.specs.Outcomes.{Outcome, given, refused, found, ◌>>=◌, ◌>>◌, unless}
 use Rattle.refusals.specs.Refusals.{out_of_range, no_such_kind, no_such_terminal, no_such_name, winding_lacking}
 use Rattle.kinds.specs.Kinds.{wire_kind, button_kind, mark_kind, last_kind, kind_of}
 use Rattle.windings.specs.declared.WoundSoFar.{WoundSoFar}

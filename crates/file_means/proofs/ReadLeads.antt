@@ -11,7 +11,8 @@ use lib.ListN.{length, length-append}
 use borrow.Author.Tests.{ltb-true, ltb-false, le-leb, leb-false, eqb-true, eqb-false, eq-eqb, ne_eqb, not-false}
 use borrow.Author.Tests.{not-true}
 use Rattle.bits.proofs.BoolLaws.{by_test, by_less}
-use Rattle.refusals.specs.Outcomes.{Outcome, given, refused, Found, found, ◌>>=◌, ◌>>◌, unless}
+use Rattle.refusals.specs.declared.Found.{Found}
+use Rattle.refusals.specs.Outcomes.{Outcome, given, refused, found, ◌>>=◌, ◌>>◌, unless}
 use Rattle.refusals.specs.Refusals.{input_ends, bad_form, out_of_range, no_such_kind, no_such_terminal, ends_equal}
 use Rattle.refusals.specs.Refusals.{no_such_name}
 use Rattle.refusals.specs.Refusals.{winding_taken, winding_lacking, marked_twice}

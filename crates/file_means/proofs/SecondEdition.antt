@@ -10,7 +10,8 @@ use lib.Dec.{leb, eqb}
 use lib.ListN.{length, length-append}
 use borrow.Author.Tests.{eqb-true, eqb-false}
 use Rattle.bits.proofs.BoolLaws.{by_test}
-use Rattle.refusals.specs.Outcomes.{Outcome, given, refused, Found, found}
+use Rattle.refusals.specs.declared.Found.{Found}
+use Rattle.refusals.specs.Outcomes.{Outcome, given, refused, found}
 use Rattle.refusals.specs.Refusals.{no_such_kind, winding_taken, winding_lacking, marked_twice}
 use Rattle.refusals.proofs.OutcomeLaws.{refused_never, passed}
 use Rattle.number.specs.Numbers.{number_at}

@@ -7,7 +7,8 @@ use mathlib.Core.Path.{◌≡◌, refl, sym, ap, ◌∙◌}
 use mathlib.Core.Bool.{Bool, true}
 use mathlib.Core.List.{List, [], ◌++◌, append_assoc}
 use lib.ListN.{length, drop, length-append}
-use Rattle.refusals.specs.Outcomes.{given, Found, found}
+use Rattle.refusals.specs.declared.Found.{Found}
+use Rattle.refusals.specs.Outcomes.{given, found}
 use Rattle.number.specs.Numbers.{current_width, number_at, number_bytes, Bytes}
 use Rattle.number.proofs.Buffers.{drop_past}
 use Rattle.number.proofs.NumberLaws.{number_written_read, number_read_written}

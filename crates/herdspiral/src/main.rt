@@ -13,8 +13,8 @@ ghost use Rattle.session.specs.Carried.{no_line, next_in};
 ghost use Rattle.session.specs.Sessions.{session_text};
 
 use board_reader::LONGEST_INPUT;
-use page::Asked;
-use session::{HandOut, Session};
+use page::NoNumber;
+use session::Session;
 use std::io;
 use std::io::{Read, Write};
 
@@ -61,55 +61,24 @@ fn read_input<R: Read>(reader: &mut R, buffer: &mut [u8]) -> io::Result<usize>
     Ok(length)
 }
 
-// Repeats on standard error the line that begins at a place of the buffer, if it says `refused`: no other word of a
-// line has an `r`. Answers the place after the line. Where standard error takes nothing, that is passed over.
-fn tell_line<E: Write>(err: &mut E, lines: &[u8], begin: usize, used: usize) -> usize
-    requires some_left { begin < used }
-    requires used_fits { used ≤ length lines.now }
-    ensures goes_on { begin < result }
-    ensures within { result ≤ used }
-{
-    let mut refused = false;
-    for at in begin..used {
-        let byte = lines[at];
-        if byte == b'\n' {
-            let after = at + 1;
-            if refused {
-                let _ = err.write_all(&lines[begin..after]);
-            }
-            return after;
+// Repeats on standard error each refused line of a text, so that whoever started the program learns of them without
+// looking through standard output: no other word of a line has an `r`. Where standard error takes nothing, that is
+// passed over.
+fn tell_refused<E: Write>(err: &mut E, lines: &[u8]) {
+    for line in lines.split_inclusive(|&byte| byte == b'\n') {
+        if line.ends_with(b"\n") && line.contains(&b'r') {
+            let _ = err.write_all(line);
         }
-        if byte == b'r' {
-            refused = true;
-        }
-    }
-    used
-}
-
-// Repeats on standard error each refused line among the first bytes of the buffer, so that whoever started the program
-// learns of them without looking through standard output.
-fn tell_refused<E: Write>(err: &mut E, lines: &[u8], used: usize)
-    requires { used ≤ length lines.now }
-{
-    let mut begin = 0;
-    while begin < used {
-        begin = tell_line(err, lines, begin, used);
     }
 }
 
-// Writes out the first bytes of the buffer, and then tells what is refused there. Where a write failed, some of them
-// may be written, and nothing is told.
-fn write_out<W: Write, E: Write>(
-    out: &mut W,
-    err: &mut E,
-    lines: &[u8],
-    used: usize,
-) -> io::Result<()>
-    requires { used ≤ length lines.now }
-    ensures { OnOk result (Appends (W.contents out.old) (W.contents out.new) (take used lines.now)) }
+// Writes out lines, and then tells what is refused there. Where a write failed, some of them may be written, and
+// nothing is told.
+fn write_out<W: Write, E: Write>(out: &mut W, err: &mut E, lines: &[u8]) -> io::Result<()>
+    ensures { OnOk result (Appends (W.contents out.old) (W.contents out.new) lines.now) }
 {
-    out.write_all(&lines[..used])?;
-    tell_refused(err, lines, used);
+    out.write_all(lines)?;
+    tell_refused(err, lines);
     Ok(())
 }
 
@@ -129,31 +98,12 @@ fn print_lines<W: Write, E: Write>(
     let mut session = session::begin(input);
     loop {
         let handed = session::next_lines(session, input, lines);
-        let next = handed.session;
-        session = next;
-        let answer = handed.answer;
-        let HandOut::Written(used) = answer else {
+        session = handed.session;
+        let Ok(Some(used)) = handed.answer else {
             return Ok(session);
         };
-        write_out(out, err, lines, used)?;
+        write_out(out, err, &lines[..used])?;
     }
-}
-
-// Prints the lines of the session that was read into the start of a buffer.
-fn print_session<W: Write, E: Write>(
-    out: &mut W,
-    err: &mut E,
-    buffer: &[u8],
-    read: usize,
-    lines: &mut [u8],
-) -> io::Result<Session>
-    requires length_fits { read ≤ length buffer.now }
-    requires line_fits { longest_line ≤ length lines.old }
-    ensures nothing_left { IfOk result (λ session. (next_in session (take read buffer.now)).1 ≡ no_line) }
-    ensures all_written { OnOk result (Appends (W.contents out.old) (W.contents out.new)
-        (session_text current_edition (take read buffer.now))) }
-{
-    print_lines(out, err, &buffer[..read], lines)
 }
 
 // Tells that a read failed.
@@ -171,51 +121,29 @@ fn tell_no_number<E: Write>(err: &mut E) {
     let _ = err.write_all(b"herdspiral: the length of the log is not a decimal number\n");
 }
 
-// Runs the session that was read into the start of a buffer.
-fn run_session<W: Write, E: Write>(
-    out: &mut W,
-    err: &mut E,
-    buffer: &[u8],
-    read: usize,
-) -> io::Result<()>
-    requires { read ≤ length buffer.now }
+// Runs a session.
+fn run_session<W: Write, E: Write>(out: &mut W, err: &mut E, input: &[u8]) -> io::Result<()>
     ensures { OnOk result (Appends (W.contents out.old) (W.contents out.new)
-        (session_text current_edition (take read buffer.now))) }
+        (session_text current_edition input.now)) }
 {
-    let mut lines = [0u8; LINES_ROOM];
-    print_session(out, err, buffer, read, &mut lines)?;
+    let mut lines = [0; LINES_ROOM];
+    print_lines(out, err, input, &mut lines)?;
     Ok(())
-}
-
-// Reports on the board that was read into the start of a buffer, with the length of the log that is asked for.
-fn report_settings<W: Write, E: Write>(
-    out: &mut W,
-    err: &mut E,
-    buffer: &[u8],
-    read: usize,
-    asked: Asked,
-) -> io::Result<()>
-    requires { read ≤ length buffer.now }
-{
-    if !asked.is_number {
-        tell_no_number(err);
-        return Ok(());
-    }
-    page::print_page(out, err, &buffer[..read], asked.length)
 }
 
 // What standard output and standard error are given is written at once: neither is buffered here.
 fn main(rt: HostRuntime) {
     let mut out = rt.stdout();
     let mut err = rt.stderr();
-    let mut input = [0u8; INPUT_ROOM];
-    let read = match read_input(&mut rt.stdin(), &mut input) {
-        Ok(read) => read,
+    let mut buffer = [0; INPUT_ROOM];
+    let input = match read_input(&mut rt.stdin(), &mut buffer) {
+        Ok(read) => &buffer[..read],
         Err(error) => return tell_unread(&mut err, error),
     };
     let printed = match page::asked_length(&rt) {
-        None => run_session(&mut out, &mut err, &input, read),
-        Some(asked) => report_settings(&mut out, &mut err, &input, read, asked),
+        Ok(None) => run_session(&mut out, &mut err, input),
+        Ok(Some(length)) => page::print_page(&mut out, &mut err, input, length),
+        Err(NoNumber) => return tell_no_number(&mut err),
     };
     if let Err(error) = printed {
         tell_unwritten(&mut err, error);

@@ -3,9 +3,8 @@
 ghost use Rattle.std.specs.Prelude.{◌≤◌};
 
 use crate::write_out;
-use board_reader::ReadAnswer;
-use lines::{LONGEST_LINE, Line, LineWritten};
-use refusals::{Against, Refusal};
+use lines::{LONGEST_LINE, Line};
+use refusals::Refusal;
 use report::Figures;
 use runs::LONGEST_LOG;
 use std::env::FillError;
@@ -16,12 +15,9 @@ use std::rt::Env;
 // The longest argument that is looked at.
 const LONGEST_ARGUMENT: usize = 4_096;
 
-// The length of a log that was asked for, and whether it was typed as a decimal number.
-#[derive(Clone, Copy)]
-pub struct Asked {
-    pub length: usize,
-    pub is_number: bool,
-}
+// Said of an argument that is no decimal number.
+#[derive(Clone, Copy, Debug, PartialEq, Eq)]
+pub struct NoNumber;
 
 // The number with one digit more. One that is above every log's length stays as it is, so none is above 655,369, which
 // is the length of the longest log with a 9 behind it.
@@ -33,47 +29,33 @@ fn with_decimal(number: usize, digit: u8) -> usize
     if LONGEST_LOG < number {
         number
     } else {
-        10 * number + digit as usize
-    }
-}
-
-// What was typed so far, with one character more.
-fn with_character(asked: Asked, character: u8) -> Asked
-    requires { asked.length ≤ 655369 }
-    ensures { result.length ≤ 655369 }
-{
-    match character {
-        b'0'..=b'9' => Asked {
-            length: with_decimal(asked.length, character - 48),
-            is_number: asked.is_number,
-        },
-        _ => Asked {
-            length: asked.length,
-            is_number: false,
-        },
+        10 * number + usize::from(digit)
     }
 }
 
 // The number that a text is in decimal.
-fn number_of(text: &[u8]) -> Asked {
-    let mut asked = Asked {
-        length: 0,
-        is_number: 0 < text.len(),
-    };
-    for at in 0..text.len() {
-        asked = with_character(asked, text[at]);
+fn number_of(text: &[u8]) -> Result<usize, NoNumber> {
+    if text.is_empty() {
+        return Err(NoNumber);
     }
-    asked
+    let mut number = 0;
+    for &character in text {
+        match character {
+            b'0'..=b'9' => number = with_decimal(number, character - b'0'),
+            _ => return Err(NoNumber),
+        }
+    }
+    Ok(number)
 }
 
 // The length of the log that the program's argument asks for; nothing where it has none. An argument that is longer
 // than 4,096 bytes counts as no number.
-pub fn asked_length(rt: &impl Env) -> Option<Asked> {
-    let mut text = [0u8; LONGEST_ARGUMENT];
+pub fn asked_length(rt: &impl Env) -> Result<Option<usize>, NoNumber> {
+    let mut text = [0; LONGEST_ARGUMENT];
     match rt.arg(1, &mut text) {
-        Ok(length) => Some(number_of(&text[..length])),
-        Err(FillError::TooLong) => Some(number_of(b"")),
-        Err(FillError::NotPresent) => None,
+        Ok(length) => number_of(&text[..length]).map(Some),
+        Err(FillError::TooLong) => Err(NoNumber),
+        Err(FillError::NotPresent) => Ok(None),
     }
 }
 
@@ -96,30 +78,29 @@ fn print_figures<W: Write>(out: &mut W, figures: Figures) -> io::Result<()> {
 
 // Prints a refusal as a session does.
 fn print_refused<W: Write, E: Write>(out: &mut W, err: &mut E, refusal: Refusal) -> io::Result<()> {
-    let mut line = [0u8; LONGEST_LINE];
-    let written = lines::write_line(Line::Closing(refusal), &mut line);
-    match written {
-        LineWritten::Length(length) => write_out(out, err, &line, length),
-        LineWritten::Refused(_) => unreachable!(),
-    }
+    let mut line = [0; LONGEST_LINE];
+    let length = lines::write_line(Line::Closing(refusal.into()), &mut line).unwrap();
+    write_out(out, err, &line[..length])
 }
 
-// Prints the page of the board at the start of the input, each setting run with a log of this length.
+// The figures of the board at the start of the input, each setting run with a log of this length.
+fn figures(input: &[u8], length: usize) -> Result<Figures, Refusal> {
+    let read = board_reader::read(input);
+    read.answer?;
+    let reported = report::report(read.board, length);
+    reported.answer?;
+    Ok(reported.figures)
+}
+
+// Prints the page of the board at the start of the input.
 pub fn print_page<W: Write, E: Write>(
     out: &mut W,
     err: &mut E,
     input: &[u8],
     length: usize,
 ) -> io::Result<()> {
-    let read = board_reader::read(input);
-    let answer = read.answer;
-    if let ReadAnswer::Refused(refusal) = answer {
-        return print_refused(out, err, refusal);
-    }
-    let reported = report::report(read.board, length);
-    let against = reported.against;
-    match against {
-        Against::Nothing => print_figures(out, reported.figures),
-        Against::Refused(refusal) => print_refused(out, err, refusal),
+    match figures(input, length) {
+        Ok(figures) => print_figures(out, figures),
+        Err(refusal) => print_refused(out, err, refusal),
     }
 }

@@ -8,7 +8,9 @@ use lib.Dec.{leb}
 use lib.ListN.{length, take, drop}
 use lib.Seq.{take-append_seam, drop-append_seam}
 use borrow.Author.Tests.{leb-true, leb-false}
+use Rattle.std.specs.Prelude.{Result, Option, Some, None}
 use Rattle.bits.proofs.BoolLaws.{by_test}
+use Rattle.refusals.specs.declared.Refusal.{Refusal}
 use Rattle.refusals.specs.Outcomes.{given}
 use Rattle.refusals.specs.Refusals.{buffer_too_short}
 use Rattle.refusals.proofs.OutcomeLaws.{refused_never}
@@ -17,20 +19,19 @@ use Rattle.lines.specs.Lines.{Line, line_text, longest_line}
 use Rattle.lines.proofs.LineLaws.{line-length_most}
 use Rattle.session.specs.declared.Session as code-session
 use Rattle.session.specs.declared.Handed as code-handed
-use Rattle.session.specs.declared.HandOut.TheVariants as said
 use Rattle.session.specs.Carried.{Ahead, Coming, line, no_line, next_in, told_ahead, told_session}
 use Rattle.session.specs.HandingOut.{HandOut, written, HandedAhead, Handed, carrying, handed_by, line_handed}
 use Rattle.session.specs.HandingOut.{next_line, told_hand_out, told_handed, NextLine}
 use Rattle.session.proofs.ToCome.{Advances}
 use Rattle.session.proofs.ComingLaws.{next_less}
 use Rattle.session.proofs.NextLineLaws.{line_handed_short, line_handed-room}
-use Rattle.refusals.proofs.Told.{told_injective}
-use Rattle.session.proofs.ToldLaws.{hand_out_told}
+use Rattle.refusals.proofs.Tabled.{tells_injective}
+use Rattle.session.proofs.ToldLaws.{hand_out_tells}
 
-pub over_never : (n : ℕ) → said.Over ≡ said.Written n → ⊥
+pub over_never : (n : ℕ) → ◌≡◌ {A = Result (Option ℕ) Refusal} (Result.Ok None) (Result.Ok (Some n)) → ⊥
 over_never n e = let z : ◌≡◌ {A = ℕ} 0 1 = cc in omega arith
 
-line-bytes : {m n : ℕ} → said.Written m ≡ said.Written n → m ≡ n
+line-bytes : {m n : ℕ} → ◌≡◌ {A = Result (Option ℕ) Refusal} (Result.Ok (Some m)) (Result.Ok (Some n)) → m ≡ n
 line-bytes e = cc
 
 module _ (z : code-session.Session) (s out out' : List ℕ) (r : code-handed.Handed)
@@ -59,10 +60,10 @@ module _ (z : code-session.Session) (s out out' : List ℕ) (r : code-handed.Han
         sym (line_handed-room _ (told_ahead z.ahead) s out room)
         ∙ ap (λ (x : Ahead × Coming). handed_by x out) is)
 
-    pub call_over : next_in z s ≡ (y, no_line) → r.answer ≡ said.Over
+    pub call_over : next_in z s ≡ (y, no_line) → r.answer ≡ Result.Ok None
     unfolding handed_by
     call_over is =
-        told_injective told_hand_out hand_out_told r.answer said.Over
+        tells_injective told_hand_out hand_out_tells r.answer (Result.Ok None)
         (ap (λ (h : Handed). h.answer) (next_by no_line is))
 
     pub call-lent : next_in z s ≡ (y, no_line) → out' ≡ out
@@ -70,11 +71,11 @@ module _ (z : code-session.Session) (s out out' : List ℕ) (r : code-handed.Han
     call-lent is = ap (λ (h : Handed). h.out) (next_by no_line is)
 
     pub call_line : (l : Line) → next_in z s ≡ (y, line l)
-        → (r.answer ≡ said.Written (length (line_text l))) × (take (length (line_text l)) out' ≡ line_text l)
+        → (r.answer ≡ Result.Ok (Some (length (line_text l)))) × (take (length (line_text l)) out' ≡ line_text l)
     unfolding handed_by
     call_line l is =
         let told = next_by (line l) is in (
-          told_injective told_hand_out hand_out_told r.answer (said.Written (length (line_text l)))
+          tells_injective told_hand_out hand_out_tells r.answer (Result.Ok (Some (length (line_text l))))
               (ap (λ (h : Handed). h.answer) told),
           ap (λ (h : Handed). take (length (line_text l)) h.out) told ∙ take-append_seam (line_text l)
               (drop (length (line_text l)) out),
@@ -95,7 +96,7 @@ module _ (z : code-session.Session) (s out out' : List ℕ) (r : code-handed.Han
     pub text : take n out' ≡ line_text its_line
     pub fits : n ≤ length out
 
-  came_by : (n : ℕ) → r.answer ≡ said.Written n → (x : Ahead × Coming) → next_in z s ≡ x → Came n
+  came_by : (n : ℕ) → r.answer ≡ Result.Ok (Some n) → (x : Ahead × Coming) → next_in z s ≡ x → Came n
   unfolding handed_by
   came_by n said-line (y, no_line) is =
       let room = call-room (written n) (ap told_hand_out said-line) in
@@ -112,7 +113,7 @@ module _ (z : code-session.Session) (s out out' : List ℕ) (r : code-handed.Han
         fits = omega (arith, long, line-length_most l, room);
       }
 
-  pub came : (n : ℕ) → r.answer ≡ said.Written n → Came n
+  pub came : (n : ℕ) → r.answer ≡ Result.Ok (Some n) → Came n
   came n is = came_by n is (next_in z s) refl
 
   -- the board stays

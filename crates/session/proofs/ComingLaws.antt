@@ -8,7 +8,8 @@ use mathlib.Core.List.{List}
 use lib.Dec.{leb}
 use lib.ListN.{length}
 use borrow.Author.Tests.{leb-true, leb-false}
-use Rattle.refusals.specs.Outcomes.{Outcome, given, refused, Found, found}
+use Rattle.refusals.specs.declared.Found.{Found}
+use Rattle.refusals.specs.Outcomes.{Outcome, given, refused, found}
 use Rattle.refusals.specs.Refusals.{no_such_name}
 use Rattle.refusals.proofs.OutcomeLaws.{handed, given_injective}
 use Rattle.number.proofs.NumberLaws.{number_next_within}

@@ -1,5 +1,5 @@
 -- Laws of filling a buffer: the loop of `next_lines` has handed out the first of the lines that fit, and each call of
--- `line_at` hands out the next of them, or ends it.
+-- `next_line` on what is left of the buffer hands out the next of them, or ends it.
 use Prim.Native.Nat.{ℕ, zero, suc, ◌+◌, ◌-◌, ◌<◌, ◌≤◌}
 use native.Mathlib.Omega.{arith}
 use mathlib.Core.Path.{◌≡◌, refl, sym, ap, subst, ◌∙◌}
@@ -17,18 +17,26 @@ use Rattle.board.specs.declared.Board.{Board}
 use Rattle.board_reader.specs.Editions.{current_edition}
 use Rattle.lines.specs.Lines.{Line, line_text, longest_line}
 use Rattle.lines.proofs.LineLaws.{line-length_some, line-length_most, line-room, line_short}
-use Rattle.session.specs.declared.fill.HandedAhead as code-ahead
-use Rattle.session.specs.declared.HandOut as code-handout
-use Rattle.session.specs.declared.HandOut.TheVariants as said
+use Rattle.std.specs.Prelude.{Result, Option, Some, None}
+use Rattle.refusals.specs.declared.Refusal.{Refusal}
+use Rattle.session.specs.declared.Session as code-session
+use Rattle.session.specs.declared.Handed as code-handed
 use Rattle.session.specs.Sessions.{line_texts, printed}
-use Rattle.session.specs.Carried.{Ahead, Coming, line, no_line, next_of, told_ahead}
-use Rattle.session.specs.HandingOut.{HandOut, written, nothing, HandedAhead, handed_by, line_handed}
-use Rattle.session.specs.HandingOut.{told_hand_out, told_handed_ahead}
-use Rattle.session.specs.Filling.{fits_on, fitting, filled_by, lines_handed, behind, summed}
+use Rattle.session.specs.Carried.{Ahead, Coming, line, no_line, next_of, told_ahead, told_session}
+use Rattle.session.specs.HandingOut.{HandOut, written, nothing, HandedAhead, carrying, handed_by, line_handed}
+use Rattle.session.specs.HandingOut.{told_hand_out, told_handed, next_line, NextLine, Handed}
+use Rattle.session.specs.Filling.{fits_on, fitting, filled_by, lines_handed, summed}
 use Rattle.session.proofs.NextLineLaws.{line_handed_short, line_handed-room}
-use Rattle.refusals.proofs.Told.{told_injective}
-use Rattle.session.proofs.ToldLaws.{hand_out_told}
+use Rattle.refusals.proofs.Tabled.{tells_injective}
+use Rattle.session.proofs.ToldLaws.{hand_out_tells}
 use Rattle.session.proofs.FitLaws.{bytes_of, bytes-append, bytes_one, fitting_short, fitting_next}
+
+-- what is handed on behind the bytes x, and what the answer r hands on with the buffer o
+abbrev pub behind : List ℕ → HandedAhead → HandedAhead
+behind x y = record { ahead = y.ahead; answer = y.answer; out = x ++ y.out }
+
+abbrev pub handed_on : code-handed.Handed → List ℕ → HandedAhead
+handed_on r o = record { ahead = told_ahead r.session.ahead; answer = told_hand_out r.answer; out = o }
 
 -- ---- a part of the buffer that was lent, and is back
 
@@ -45,13 +53,16 @@ module _ (out : List ℕ) (at : ℕ) where
       ap (λ (n : ℕ). drop n (drop at out)) (sym part_rest) ∙ drop-length (drop at out) in
       ap (λ (x : List ℕ). take at out ++ (o ++ x)) none ∙ ap (λ (x : List ℕ). take at out ++ x) (append-nil o)
 
-  pub line_at_by : (b : Board) (a : Ahead) (s o out' : List ℕ) (r : code-ahead.HandedAhead)
-      → told_handed_ahead r o ≡ line_handed b a s (mid_of at (length out - at) out)
+  -- the answer r to a call on what is left behind `at` bytes, which left the bytes o there
+  pub call_behind : (z : code-session.Session) (s o out' : List ℕ) (r : code-handed.Handed)
+      → NextLine z s (mid_of at (length out - at) out) r o
       → out' ≡ put_mid at (length out - at) out o
-      → told_handed_ahead r out' ≡ behind (take at out) (line_handed b a s (drop at out))
-  line_at_by b a s o out' r called back =
-      let lent = called ∙ ap (line_handed b a s) part-lent in
-      ap (told_handed_ahead r) (back ∙ part_back o) ∙ ap (behind (take at out)) lent
+      → handed_on r out' ≡ behind (take at out) (line_handed z.board (told_ahead z.ahead) s (drop at out))
+  unfolding next_line
+  call_behind z s o out' r called back =
+      let lent = called ∙ ap (λ (p : List ℕ). carrying (told_session z) (line_handed z.board (told_ahead z.ahead) s p)) part-lent in
+      ap (handed_on r) (back ∙ part_back o)
+      ∙ ap (λ (h : Handed). behind (take at out) (record { ahead = h.session.ahead; answer = h.answer; out = h.out })) lent
 
 -- ---- the answer
 
@@ -247,19 +258,19 @@ module _ (b : Board) (a₀ : Ahead) (s out₀ : List ℕ) (a : Ahead) (out : Lis
           within = omega (arith, room, room-left, line-length_most l);
         }
 
-  -- ---- what a call of `line_at` comes to
+  -- ---- what a call of `next_line` on the rest comes to
 
-  module _ (r : code-ahead.HandedAhead) (out' : List ℕ)
-      (called : told_handed_ahead r out' ≡ behind (take used out) (line_handed b a s (drop used out))) where
+  module _ (r : code-handed.Handed) (out' : List ℕ)
+      (called : handed_on r out' ≡ behind (take used out) (line_handed b a s (drop used out))) where
     came_to_lem : (x : HandedAhead) → line_handed b a s (drop used out) ≡ x
-        → told_handed_ahead r out' ≡ behind (take used out) x
+        → handed_on r out' ≡ behind (take used out) x
     came_to_lem x is = called ∙ ap (behind (take used out)) is
 
     pub record Goes (n : ℕ) : Type 0 where
       pub grows : 0 < n
-      pub filled_on : FilledTo b a₀ s out₀ (told_ahead r.ahead) out' (used + n)
+      pub filled_on : FilledTo b a₀ s out₀ (told_ahead r.session.ahead) out' (used + n)
 
-    goes_by : (n : ℕ) → r.answer ≡ said.Written n → Ways b a s (drop used out) → Goes n
+    goes_by : (n : ℕ) → r.answer ≡ Result.Ok (Some n) → Ways b a s (drop used out) → Goes n
     goes_by n is (no_room short e) =
         absurd (line_not_refused (ap told_hand_out (sym is) ∙ ap (λ (x : HandedAhead). x.answer) (came_to_lem _ e)))
     goes_by n is (no_more y room none e) =
@@ -275,19 +286,19 @@ module _ (b : Board) (a₀ : Ahead) (s out₀ : List ℕ) (a : Ahead) (out : Lis
               (filled_line y l room next);
         }
 
-    pub line_goes : (n : ℕ) → r.answer ≡ said.Written n → Goes n
+    pub line_goes : (n : ℕ) → r.answer ≡ Result.Ok (Some n) → Goes n
     line_goes n is = goes_by n is (ways b a s (drop used out))
 
     -- ---- the end: no line, or no room for one
 
     -- no further line fits, and the buffer is as it was before the call
     record Ends : Type 0 where
-      none : f.rest ≡ (told_ahead r.ahead, [])
+      none : f.rest ≡ (told_ahead r.session.ahead, [])
       buffer : out' ≡ out
       why : Why (length out₀ - used) (told_hand_out r.answer)
 
     ends_with : (y : Ahead) (o : Outcome HandOut) → f.rest ≡ (y, []) → Why (length out₀ - used) o
-        → told_handed_ahead r out' ≡ behind (take used out) (record { ahead = y; answer = o; out = drop used out })
+        → handed_on r out' ≡ behind (take used out) (record { ahead = y; answer = o; out = drop used out })
         → Ends
     ends_with y o none why told =
         record {
@@ -298,7 +309,7 @@ module _ (b : Board) (a₀ : Ahead) (s out₀ : List ℕ) (a : Ahead) (out : Lis
           why = subst (Why (length out₀ - used)) (ap (λ (x : HandedAhead). x.answer) (sym told)) why;
         }
 
-    ends_by : ((n : ℕ) → r.answer ≡ said.Written n → ⊥) → Ways b a s (drop used out) → Ends
+    ends_by : ((n : ℕ) → r.answer ≡ Result.Ok (Some n) → ⊥) → Ways b a s (drop used out) → Ends
     ends_by never (no_room short e) =
         let less : length out₀ - used < longest_line = omega (arith, short, room-left) in
         ends_with a (refused buffer_too_short 0)
@@ -308,18 +319,18 @@ module _ (b : Board) (a₀ : Ahead) (s out₀ : List ℕ) (a : Ahead) (out : Lis
         (came_to_lem _ e)
     ends_by never (one_line y l room next e) =
         absurd (never (length (line_text l))
-        (told_injective told_hand_out hand_out_told r.answer (said.Written (length (line_text l)))
+        (tells_injective told_hand_out hand_out_tells r.answer (Result.Ok (Some (length (line_text l))))
         (ap (λ (x : HandedAhead). x.answer) (came_to_lem _ e))))
 
-    pub line-ends : ((n : ℕ) → r.answer ≡ said.Written n → ⊥) → (o : code-handout.HandOut)
+    pub line-ends : ((n : ℕ) → r.answer ≡ Result.Ok (Some n) → ⊥) → (o : Result (Option ℕ) Refusal)
         → told_hand_out o ≡ summed used (told_hand_out r.answer)
-        → told_handed_ahead (record { ahead = r.ahead; answer = o }) out' ≡ lines_handed b a₀ s out₀
+        → record { ahead = told_ahead r.session.ahead; answer = told_hand_out o; out = out' } ≡ lines_handed b a₀ s out₀
     line-ends never o told =
         let end = ends_by never (ways b a s (drop used out)) in
         let fits =
         f.all
         ∙ ap {B = Ahead × List Line} (λ (w : Ahead × List Line). (w.0, f.lines ++ w.1)) end.none
-        ∙ ap {B = Ahead × List Line} (λ (ls : List Line). (told_ahead r.ahead, ls)) (append-nil f.lines) in
+        ∙ ap {B = Ahead × List Line} (λ (ls : List Line). (told_ahead r.session.ahead, ls)) (append-nil f.lines) in
         rw (told, end.buffer, f.text, f.bytes)
-        (lines_end b a₀ s out₀ (told_ahead r.ahead) (told_hand_out r.answer) f.lines fits
+        (lines_end b a₀ s out₀ (told_ahead r.session.ahead) (told_hand_out r.answer) f.lines fits
         (subst (λ (n : ℕ). Why (length out₀ - n) (told_hand_out r.answer)) f.bytes end.why))

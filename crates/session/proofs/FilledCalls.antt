@@ -9,6 +9,7 @@ use lib.Dec.{leb}
 use lib.ListN.{length, take, drop}
 use lib.Seq.{take_at, drop_at}
 use borrow.Author.Tests.{leb-true, leb-false}
+use Rattle.std.specs.Prelude.{Result, Some, None}
 use Rattle.bits.proofs.BoolLaws.{by_test}
 use Rattle.refusals.specs.Outcomes.{given}
 use Rattle.refusals.proofs.OutcomeLaws.{refused_never}
@@ -17,15 +18,14 @@ use Rattle.board_reader.specs.Editions.{current_edition}
 use Rattle.lines.specs.Lines.{Line, longest_line}
 use Rattle.session.specs.declared.Session as code-session
 use Rattle.session.specs.declared.Handed as code-handed
-use Rattle.session.specs.declared.HandOut.TheVariants as said
 use Rattle.session.specs.Carried.{Ahead, Coming, line, no_line, next_of, next_in, told_ahead, told_session}
 use Rattle.session.specs.HandingOut.{HandOut, written, nothing, HandedAhead, Handed, carrying, told_hand_out}
 use Rattle.session.specs.HandingOut.{told_handed}
 use Rattle.session.specs.Filling.{fitting, filled_by, lines_handed, next_lines, NextLines}
 use Rattle.session.proofs.ToCome.{Advances}
 use Rattle.session.proofs.ComingLaws.{line_never, none-same}
-use Rattle.refusals.proofs.Told.{told_injective}
-use Rattle.session.proofs.ToldLaws.{hand_out_told}
+use Rattle.refusals.proofs.Tabled.{tells_injective}
+use Rattle.session.proofs.ToldLaws.{hand_out_tells}
 use Rattle.session.proofs.FitLaws.{bytes_of, Full, fitting_next, fitting-within, fitting_full}
 use Rattle.session.proofs.FillLaws.{line_is, line_not_nothing, lines_short, lines-room}
 
@@ -68,17 +68,17 @@ module _ (z : code-session.Session) (s out out' : List ℕ) (r : code-handed.Han
   -- where there is room, lines come or nothing does
   answers_by : longest_line ≤ length out → (x : Ahead × List Line)
       → fits_in ≡ x
-      → (r.answer ≡ said.Over) ⊎ ((n : ℕ) × (r.answer ≡ said.Written n))
+      → (r.answer ≡ Result.Ok None) ⊎ ((n : ℕ) × (r.answer ≡ Result.Ok (Some n)))
   unfolding filled_by
   answers_by room (y, []) fits =
-      inl (told_injective told_hand_out hand_out_told r.answer said.Over (told_answer _ (room_by room _ fits)))
+      inl (tells_injective told_hand_out hand_out_tells r.answer (Result.Ok None) (told_answer _ (room_by room _ fits)))
   answers_by room (y, l ∷ ls) fits =
       inr (
         _,
-        told_injective told_hand_out hand_out_told r.answer (said.Written _) (told_answer _ (room_by room _ fits)),
+        tells_injective told_hand_out hand_out_tells r.answer (Result.Ok (Some _)) (told_answer _ (room_by room _ fits)),
       )
 
-  pub filled_answers : longest_line ≤ length out → (r.answer ≡ said.Over) ⊎ ((n : ℕ) × (r.answer ≡ said.Written n))
+  pub filled_answers : longest_line ≤ length out → (r.answer ≡ Result.Ok None) ⊎ ((n : ℕ) × (r.answer ≡ Result.Ok (Some n)))
   filled_answers room = answers_by room (fits_in) refl
 
   -- ---- lines are handed out
@@ -91,7 +91,7 @@ module _ (z : code-session.Session) (s out out' : List ℕ) (r : code-handed.Han
     pub lines_text : take n out' ≡ bytes_of lines_told
     pub lines_stay : drop n out' ≡ drop n out
 
-  came_lines_by : (n : ℕ) → r.answer ≡ said.Written n → (x : Ahead × List Line)
+  came_lines_by : (n : ℕ) → r.answer ≡ Result.Ok (Some n) → (x : Ahead × List Line)
       → fits_in ≡ x → CameLines n
   unfolding filled_by
   came_lines_by n is (y, []) fits =
@@ -117,7 +117,7 @@ module _ (z : code-session.Session) (s out out' : List ℕ) (r : code-handed.Han
             ∙ ap (λ (k : ℕ). drop k out) (sym long);
       }
 
-  pub came_lines : (n : ℕ) → r.answer ≡ said.Written n → CameLines n
+  pub came_lines : (n : ℕ) → r.answer ≡ Result.Ok (Some n) → CameLines n
   came_lines n is = came_lines_by n is (fits_in) refl
 
   -- the board stays
@@ -126,7 +126,7 @@ module _ (z : code-session.Session) (s out out' : List ℕ) (r : code-handed.Han
   filled-board = ap (λ (h : Handed). h.session.board) called
 
   -- they are as many as fit
-  pub came_full : (n : ℕ) (is : r.answer ≡ said.Written n)
+  pub came_full : (n : ℕ) (is : r.answer ≡ Result.Ok (Some n))
       → Full r.session.board s (length out)
       (told_ahead r.session.ahead, (came_lines n is).lines_told)
   came_full n is =
@@ -146,7 +146,7 @@ module _ (z : code-session.Session) (s out out' : List ℕ) (r : code-handed.Han
 
   -- ---- nothing comes
 
-  over_by : r.answer ≡ said.Over → (x : Ahead × List Line)
+  over_by : r.answer ≡ Result.Ok None → (x : Ahead × List Line)
       → fits_in ≡ x → (c : Ahead × Coming) → next_in z s ≡ c
       → c.1 ≡ no_line
   unfolding filled_by
@@ -160,11 +160,11 @@ module _ (z : code-session.Session) (s out out' : List ℕ) (r : code-handed.Han
       absurd (line_not_nothing (sym (told_answer _ (filled_by_lem nothing (ap told_hand_out is) _ fits))
       ∙ ap told_hand_out is))
 
-  pub filled_over : r.answer ≡ said.Over → (c : Ahead × Coming) → next_in z s ≡ c → c.1 ≡ no_line
+  pub filled_over : r.answer ≡ Result.Ok None → (c : Ahead × Coming) → next_in z s ≡ c → c.1 ≡ no_line
   filled_over is = over_by is (fits_in) refl
 
   -- the buffer is as lent
-  lent_by : r.answer ≡ said.Over → (x : Ahead × List Line)
+  lent_by : r.answer ≡ Result.Ok None → (x : Ahead × List Line)
       → fits_in ≡ x → out' ≡ out
   unfolding filled_by
   lent_by is (y, []) fits = ap (λ (h : Handed). h.out) (filled_by_lem nothing (ap told_hand_out is) _ fits)
@@ -172,11 +172,11 @@ module _ (z : code-session.Session) (s out out' : List ℕ) (r : code-handed.Han
       absurd (line_not_nothing (sym (told_answer _ (filled_by_lem nothing (ap told_hand_out is) _ fits))
       ∙ ap told_hand_out is))
 
-  pub filled-lent : r.answer ≡ said.Over → out' ≡ out
+  pub filled-lent : r.answer ≡ Result.Ok None → out' ≡ out
   filled-lent is = lent_by is (fits_in) refl
 
   -- where there is room and no lines come, none is left in the session to carry on
-  stays_by : r.answer ≡ said.Over → (x : Ahead × List Line)
+  stays_by : r.answer ≡ Result.Ok None → (x : Ahead × List Line)
       → fits_in ≡ x → (c : Ahead × Coming) → next_in z s ≡ c
       → told_ahead r.session.ahead ≡ told_ahead z.ahead
   unfolding filled_by
@@ -192,16 +192,16 @@ module _ (z : code-session.Session) (s out out' : List ℕ) (r : code-handed.Han
       ∙ ap (λ (x : Ahead × List Line). x.0) (sym fits ∙ goes)
       ∙ none-same current_edition _ (told_ahead z.ahead) w s next
 
-  none_left : r.answer ≡ said.Over → (next_in r.session s).1 ≡ no_line
+  none_left : r.answer ≡ Result.Ok None → (next_in r.session s).1 ≡ no_line
   none_left is =
       let stays = stays_by is fits_in refl (next_in z s) refl in
       ap₂ (λ (b : Board) (a : Ahead). (next_of current_edition b a s).1) filled-board stays
       ∙ filled_over is (next_in z s) refl
 
-  pub filled-ends : longest_line ≤ length out → ((n : ℕ) → r.answer ≡ said.Written n → ⊥)
+  pub filled-ends : longest_line ≤ length out → ((n : ℕ) → r.answer ≡ Result.Ok (Some n) → ⊥)
       → (next_in r.session s).1 ≡ no_line
   filled-ends room never = by (filled_answers room)
     where
-      by : (r.answer ≡ said.Over) ⊎ ((n : ℕ) × (r.answer ≡ said.Written n)) → (next_in r.session s).1 ≡ no_line
+      by : (r.answer ≡ Result.Ok None) ⊎ ((n : ℕ) × (r.answer ≡ Result.Ok (Some n))) → (next_in r.session s).1 ≡ no_line
       by (inl over) = none_left over
       by (inr (n, is)) = absurd (never n is)

@@ -1,27 +1,20 @@
--- Laws of handing out a line: each way out of `hand_line` and of `next_line`, as the definition has it.
+-- Laws of handing out a line: each way out of `hand_line`, as the definition has it.
 use Prim.Native.Nat.{ℕ, ◌<◌, ◌≤◌}
 use mathlib.Core.Path.{◌≡◌, sym, ap, ◌∙◌}
-use mathlib.Core.List.{List}
-use lib.ListN.{length}
-use Rattle.refusals.specs.Outcomes.{Outcome, refused}
+use mathlib.Core.List.{List, ◌++◌}
+use lib.ListN.{length, drop}
+use Rattle.refusals.specs.declared.Refusal.{Refusal}
+use Rattle.refusals.specs.Outcomes.{Outcome, given, refused, told}
+use Rattle.refusals.proofs.OutcomeLaws.{given_injective, refused_never}
 use Rattle.refusals.specs.Refusals.{buffer_too_short}
 use Rattle.board.specs.declared.Board.{Board}
-use Rattle.lines.specs.declared.Line.{Line}
-use Rattle.lines.specs.declared.LineWritten.{LineWritten}
+use Rattle.std.specs.Prelude.{Result, Option, Some, None}
 use Rattle.board_reader.specs.Editions.{current_edition}
-use Rattle.lines.specs.Lines.{longest_line, line_writing, told_line, told_line_written}
+use Rattle.lines.specs.Lines.{longest_line, line_text, line_writing, told_line}
 use Rattle.lines.proofs.LineLaws.{line-room, line_short, line_written}
-use Rattle.session.specs.declared.Session.{Session}
-use Rattle.session.specs.declared.HandOut.{HandOut}
-use Rattle.session.specs.declared.HandOut.TheVariants.{Over}
-use Rattle.session.specs.declared.fill.HandedAhead.{HandedAhead}
 use Rattle.session.specs.declared.next.Next.{Next}
-use Rattle.session.specs.declared.next.Coming.TheVariants as comes
-use Rattle.session.specs.Carried.{Ahead, Coming, line, no_line, next_of, told_ahead, told_session}
-use Rattle.session.specs.Carried.{told_coming, told_next}
-use Rattle.session.specs.HandingOut as told
-use Rattle.session.specs.HandingOut.{carrying, written_answer, handed_by, line_handed, told_hand_out}
-use Rattle.session.specs.HandingOut.{told_handed_ahead, told_handed}
+use Rattle.session.specs.Carried.{Ahead, Coming, next_of, told_ahead, told_next}
+use Rattle.session.specs.HandingOut.{written, handed_by, line_handed, told_line_handed}
 
 module _ (b : Board) (a : Ahead) (s out : List ℕ) where
   pub line_handed_short : length out < longest_line
@@ -35,37 +28,31 @@ module _ (b : Board) (a : Ahead) (s out : List ℕ) where
   line_handed-room room = rw (line-room out room)
 
   -- the buffer has room, and x is what comes next
-  module _ (x : Next) (room : longest_line ≤ length out) (next : told_next x ≡ next_of current_edition b a s) where
-    line_handed_by : (c : Coming) → told_coming x.coming ≡ c
-        → handed_by (told_ahead x.ahead, c) out ≡ line_handed b a s out
-    line_handed_by c is =
-        let came = ap {B = Ahead × Coming} (λ d. (told_ahead x.ahead, d)) (sym is) ∙ next in
-        ap (λ (y : Ahead × Coming). handed_by y out) came ∙ line_handed-room room
+  module _ (x : Option Next) (room : longest_line ≤ length out) (next : told_next a x ≡ next_of current_edition b a s)
+    where
+    line_handed_by : (y : Option Next) → x ≡ y → handed_by (told_next a y) out ≡ line_handed b a s out
+    line_handed_by y is =
+        ap (λ (z : Ahead × Coming). handed_by z out) (ap (told_next a) (sym is) ∙ next) ∙ line_handed-room room
 
-    pub line_handed_over : x.coming ≡ comes.Over
-        → told_handed_ahead (record { ahead = x.ahead; answer = Over }) out ≡ line_handed b a s out
+    pub line_handed_over : x ≡ None → told_line_handed a (Result.Ok None) out ≡ line_handed b a s out
     unfolding handed_by
-    line_handed_over is = line_handed_by no_line (ap told_coming is)
+    line_handed_over is = line_handed_by None is
 
-    pub line_handed_written : (l : Line) (w : LineWritten) (r : HandOut) (out' : List ℕ) → x.coming ≡ comes.Line l
-        → ◌≡◌ {A = Outcome ℕ × List ℕ} (told_line_written w, out') (line_writing (told_line l) out)
-        → told_hand_out r ≡ written_answer (told_line_written w)
-        → told_handed_ahead (record { ahead = x.ahead; answer = r }) out' ≡ line_handed b a s out
-    unfolding handed_by
-    line_handed_written l w r out' is put told =
-        let written = put ∙ line_written (told_line l) out room in
-        let answer = told ∙ ap (λ (y : Outcome ℕ × List ℕ). written_answer y.0) written in
-        let after = ap (λ (y : Outcome ℕ × List ℕ). y.1) written in
-        (λ i. record { ahead = told_ahead x.ahead; answer = answer i; out = after i })
-        ∙ line_handed_by (line (told_line l)) (ap told_coming is)
+    module _ (n : Next) (is : x ≡ Some n) (w : Result ℕ Refusal) (out' : List ℕ)
+        (put : ◌≡◌ {A = Outcome ℕ × List ℕ} (told w, out') (line_writing (told_line n.line) out)) where
+      written_as : ◌≡◌ {A = Outcome ℕ × List ℕ} (told w, out')
+          (given (length (line_text (told_line n.line))), line_text (told_line n.line) ++ drop (length (line_text (told_line n.line))) out)
+      written_as = put ∙ line_written (told_line n.line) out room
 
--- the session is the one given, with what is handed on ahead
-pub handed-carried : (z : Session) (x : HandedAhead) (out' : List ℕ) {o : told.HandedAhead}
-    → told_handed_ahead x out' ≡ o
-    → told_handed
-    (record {
-      session = record { board = z.board; ahead = x.ahead };
-      answer = x.answer;
-    }) out'
-    ≡ carrying (told_session z) o
-handed-carried z x out' is = ap (carrying (told_session z)) is
+      pub line_handed_written : (k : ℕ) → w ≡ Result.Ok k
+          → told_line_handed a (Result.Ok (Some (record { length = k; ahead = n.ahead }))) out' ≡ line_handed b a s out
+      unfolding handed_by
+      line_handed_written k said =
+          let long = given_injective _ _ (ap told (sym said) ∙ ap (λ (y : Outcome ℕ × List ℕ). y.0) written_as) in
+          let after = ap (λ (y : Outcome ℕ × List ℕ). y.1) written_as in
+          (λ i. record { ahead = told_ahead n.ahead; answer = given (written (long i)); out = after i })
+          ∙ line_handed_by (Some n) is
+
+      pub line_handed_refused : (r : Refusal) → w ≡ Result.Err r → ⊥
+      line_handed_refused r said =
+          refused_never _ _ _ (ap told (sym said) ∙ ap (λ (y : Outcome ℕ × List ℕ). y.0) written_as)

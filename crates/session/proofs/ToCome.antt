@@ -9,9 +9,9 @@ use Prim.Native.Nat.{ℕ, suc, ◌-◌, ◌<◌, ◌≤◌}
 use mathlib.Core.Path.{◌≡◌}
 use mathlib.Core.List.{List}
 use lib.ListN.{length}
+use Rattle.std.specs.Prelude.{Result, Some}
 use Rattle.session.specs.declared.Session as code-session
 use Rattle.session.specs.declared.Handed as code-handed
-use Rattle.session.specs.declared.HandOut.TheVariants as said
 use Rattle.session.specs.Carried.{Stage, first, events, over, refusing, Ahead, told_ahead}
 
 unfoldable pub to_come_at : Stage → ℕ → ℕ
@@ -27,4 +27,4 @@ abbrev pub left_of : code-session.Session → List ℕ → ℕ
 left_of z s = to_come (told_ahead z.ahead) s
 
 abbrev pub Advances : code-session.Session → List ℕ → ℕ → code-handed.Handed → Type 0
-Advances z s n r = (k : ℕ) → r.answer ≡ said.Written k → (k ≤ n) × (left_of r.session s < left_of z s)
+Advances z s n r = (k : ℕ) → r.answer ≡ Result.Ok (Some k) → (k ≤ n) × (left_of r.session s < left_of z s)

@@ -2,19 +2,18 @@
 use Prim.Native.Nat.{ℕ}
 use mathlib.Core.Path.{◌≡◌, refl}
 use mathlib.Core.List.{List}
-use Rattle.refusals.specs.Outcomes.{Outcome, given, refused}
-use Rattle.refusals.proofs.Told.{Told, ToldLent}
+use Rattle.std.specs.Prelude.{Option, Some, None}
+use Rattle.refusals.proofs.Told.{Told}
+use Rattle.refusals.proofs.Tabled.{Tabled, Tells, result-tells_as}
 use Rattle.session.specs.declared.Stage.{Stage}
 use Rattle.session.specs.declared.Stage.TheVariants as stage
 use Rattle.session.specs.declared.Ahead.{Ahead}
 use Rattle.session.specs.declared.Session.{Session}
-use Rattle.session.specs.declared.HandOut.{HandOut}
-use Rattle.session.specs.declared.HandOut.TheVariants as said
 use Rattle.session.specs.declared.Handed.{Handed}
 use Rattle.session.specs.Carried as carried
 use Rattle.session.specs.Carried.{first, events, over, refusing, told_stage, told_ahead, told_session}
 use Rattle.session.specs.HandingOut as handing-out
-use Rattle.session.specs.HandingOut.{written, nothing, told_hand_out, told_handed}
+use Rattle.session.specs.HandingOut.{written, nothing, told_out, told_hand_out, told_handed}
 
 stage-told : Told told_stage
 stage-told = record { untold = untold; back = back; onto = onto }
@@ -76,44 +75,44 @@ session-told = record { untold = untold; back = back; onto = onto }
     onto y =
         λ i. record { board = y.board; ahead = ahead-told.onto y.ahead i }
 
-pub hand_out_told : Told told_hand_out
-hand_out_told = record { untold = untold; back = back; onto = onto }
+out-told : Told told_out
+out-told = record { untold = untold; back = back; onto = onto }
   where
-    untold : Outcome handing-out.HandOut → HandOut
-    untold (given (written n)) = said.Written n
-    untold (given nothing) = said.Over
-    untold (refused n p) = said.Refused (record { number = n; place = p })
+    untold : handing-out.HandOut → Option ℕ
+    untold (written n) = Some n
+    untold nothing = None
 
-    back : (x : HandOut) → untold (told_hand_out x) ≡ x
-    back (said.Written n) = refl
-    back said.Over = refl
-    back (said.Refused r) = refl
+    back : (x : Option ℕ) → untold (told_out x) ≡ x
+    back (Some n) = refl
+    back None = refl
 
-    onto : (y : Outcome handing-out.HandOut) → told_hand_out (untold y) ≡ y
-    onto (given (written n)) = refl
-    onto (given nothing) = refl
-    onto (refused n p) = refl
+    onto : (y : handing-out.HandOut) → told_out (untold y) ≡ y
+    onto (written n) = refl
+    onto nothing = refl
+
+pub hand_out_tells : Tells Tabled told_hand_out
+hand_out_tells = result-tells_as told_out out-told
 
 -- the answer and the buffer afterwards
-pub handed-told : ToldLent told_handed
-handed-told = record { untold = untold; back = back; onto = onto }
+pub handed-tells : Tells (λ y. Tabled y.answer) (λ (x : Handed × List ℕ). told_handed x.0 x.1)
+handed-tells = record { untold = untold; back = back; onto = onto }
   where
     untold : handing-out.Handed → Handed × List ℕ
     untold h = (
-      record { session = session-told.untold h.session; answer = hand_out_told.untold h.answer },
+      record { session = session-told.untold h.session; answer = hand_out_tells.untold h.answer },
       h.out,
     )
 
     back : (x : Handed × List ℕ) → untold (told_handed x.0 x.1) ≡ x
     back (h, o) = λ i. (
-      record { session = session-told.back h.session i; answer = hand_out_told.back h.answer i },
+      record { session = session-told.back h.session i; answer = hand_out_tells.back h.answer i },
       o,
     )
 
-    onto : (y : handing-out.Handed) → told_handed (untold y).0 (untold y).1 ≡ y
-    onto y =
+    onto : (y : handing-out.Handed) → Tabled y.answer → told_handed (untold y).0 (untold y).1 ≡ y
+    onto y good =
         λ i. record {
           session = session-told.onto y.session i;
-          answer = hand_out_told.onto y.answer i;
+          answer = hand_out_tells.onto y.answer good i;
           out = y.out;
         }

@@ -23,12 +23,14 @@
 --                                 is ahead after it
 --     told_stage, told_ahead      the code's stage and what is ahead in these words
 --     told_session                the code's session in these words
---     told_coming, told_next      the code's next line, and what is ahead after it
+--     told_next a r               the code's next line, and what is ahead after it; where there is none, that is a as
+--                                 before
 --     next_in z s                 the next line of the code's session z on the input s by the current edition, and
 --                                 what is ahead after it
 --     Begins s z                  promise: `begin` on the input s answers z
-use Rattle.std.specs.Prelude.{ℕ, suc, ◌≡◌, cond, List, leb, length}
-use Rattle.refusals.specs.Outcomes.{Outcome, given, refused, Found}
+use Rattle.std.specs.Prelude.{ℕ, suc, ◌≡◌, cond, List, leb, length, Option, Some, None}
+use Rattle.refusals.specs.declared.Found.{Found}
+use Rattle.refusals.specs.Outcomes.{Outcome, given, refused}
 use Rattle.board.specs.declared.Board.{Board}
 use Rattle.board.specs.Parts.{empty_board}
 use Rattle.kept.specs.declared.Kept.{Kept}
@@ -40,8 +42,6 @@ use Rattle.session.specs.declared.Stage as code-stage
 use Rattle.session.specs.declared.Stage.TheVariants as said
 use Rattle.session.specs.declared.Ahead as code-ahead
 use Rattle.session.specs.declared.Session as code-session
-use Rattle.session.specs.declared.next.Coming as code-coming
-use Rattle.session.specs.declared.next.Coming.TheVariants as comes
 use Rattle.session.specs.declared.next.Next.{Next}
 use Rattle.events.specs.declared.Event.{Event}
 use Rattle.events.specs.Events.{Shown, event_at, ran_line, event_line}
@@ -119,12 +119,9 @@ told_ahead a = record { kept = a.kept; event = a.event; place = a.place; stage =
 abbrev pub told_session : code-session.Session → Session
 told_session z = record { board = z.board; ahead = told_ahead z.ahead }
 
-abbrev pub told_coming : code-coming.Coming → Coming
-told_coming (comes.Line l) = line (told_line l)
-told_coming comes.Over = no_line
-
-abbrev pub told_next : Next → Ahead × Coming
-told_next r = (told_ahead r.ahead, told_coming r.coming)
+abbrev pub told_next : Ahead → Option Next → Ahead × Coming
+told_next a (Some r) = (told_ahead r.ahead, line (told_line r.line))
+told_next a None = (a, no_line)
 
 abbrev pub next_in : code-session.Session → List ℕ → Ahead × Coming
 next_in z s = next_of current_edition z.board (told_ahead z.ahead) s

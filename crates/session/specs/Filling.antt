@@ -12,7 +12,6 @@
 --     next_lines z s out        the call
 --     NextLines z s out r out'  promise: `next_lines` of session z on the input s, into the buffer `out`, answers r and
 --                               leaves the buffer out'
---     behind x y                what is handed on behind the bytes x; only for the inner function `line_at`
 --     summed n o                the answer after lines of n bytes, where the next call came to o; only for the inner
 --                               function `sum_up`
 use Rattle.std.specs.Prelude.{ℕ, zero, suc, ◌-◌, ◌≡◌, cond, List, [], ◌∷◌, ◌++◌, leb, length, drop}
@@ -55,9 +54,6 @@ next_lines z s out = carrying z (lines_handed z.board z.ahead s out)
 
 abbrev pub NextLines : code-session.Session → List ℕ → List ℕ → code-handed.Handed → List ℕ → Type 0
 NextLines z s out r out' = told_handed r out' ≡ next_lines (told_session z) s out
-
-abbrev pub behind : List ℕ → HandedAhead → HandedAhead
-behind x y = record { ahead = y.ahead; answer = y.answer; out = x ++ y.out }
 
 abbrev pub summed : ℕ → Outcome HandOut → Outcome HandOut
 summed zero o = o

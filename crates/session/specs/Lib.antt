@@ -1,6 +1,5 @@
 -- The definitions that the contracts cite, in reading order.
 pub mod Sessions
-pub mod EventReading
 pub mod Carried
 pub mod HandingOut
 pub mod Filling

@@ -7,8 +7,8 @@ ghost use Rattle.session.specs.HandingOut.{NextLine};
 ghost use Rattle.session.specs.Filling.{NextLines};
 
 use board::Board;
-use board_reader::ReadAnswer;
 use kept::Kept;
+use lines::Refused;
 use refusals::Refusal;
 
 mod event;
@@ -21,7 +21,7 @@ mod start;
 pub enum Stage {
     First,
     Events,
-    Refused(Refusal),
+    Refused(Refused),
     Over,
 }
 
@@ -42,48 +42,43 @@ pub struct Session {
     pub ahead: Ahead,
 }
 
-// What a call for the next line or lines came to: so many bytes written, that no line comes any more, or the refusal.
-#[derive(Clone, Copy)]
-pub enum HandOut {
-    Written(usize),
-    Over,
-    Refused(Refusal),
-}
-
-// The answer to a call for the next line or lines, with the session to carry on.
+// The answer to a call for the next line or lines, so many bytes written, none where no line comes any more, or the
+// refusal; with the session to carry on.
 #[derive(Clone, Copy)]
 pub struct Handed {
     pub session: Session,
-    pub answer: HandOut,
+    pub answer: Result<Option<usize>, Refusal>,
 }
 
 // Reads the board and the allowance, and begins the session in a fresh state of that board.
+#[tactic(auto, unfolding(crate::specs::Carried::beginning))]
 pub fn begin(s: &[u8]) -> Session
     ensures { Begins s.now result }
 {
-    let read = board_reader::read(s);
-    let answer = read.answer;
-    match answer {
-        ReadAnswer::Read(at) => {
-            let board = read.board;
-            start::begin_with(board, number::read_number(s, at))
-        }
-        ReadAnswer::Refused(refusal) => start::refuse(refusal),
-    }
+    start::begin_with(start::head(s))
 }
 
 // Hands out the session's next line into a buffer: 16 if the longest line has no room there.
+#[tactic(auto, unfolding(crate::specs::HandingOut::next_line))]
 pub fn next_line(session: Session, s: &[u8], out: &mut [u8]) -> Handed
     ensures { NextLine session s.now out.old result out.new }
 {
-    let board = session.board;
-    let ahead = session.ahead;
-    let handed = fill::hand_line(board, ahead, s, out);
-    let ahead = handed.ahead;
-    let answer = handed.answer;
-    Handed {
-        session: Session { board, ahead },
-        answer,
+    match fill::hand_line(session.board, session.ahead, s, out) {
+        Ok(Some(line)) => Handed {
+            session: Session {
+                board: session.board,
+                ahead: line.ahead,
+            },
+            answer: Ok(Some(line.length)),
+        },
+        Ok(None) => Handed {
+            session,
+            answer: Ok(None),
+        },
+        Err(refusal) => Handed {
+            session,
+            answer: Err(refusal),
+        },
     }
 }
 
@@ -92,18 +87,15 @@ pub fn next_line(session: Session, s: &[u8], out: &mut [u8]) -> Handed
 pub fn next_lines(session: Session, s: &[u8], out: &mut [u8]) -> Handed
     ensures { NextLines session s.now out.old result out.new }
 {
-    let board = session.board;
-    let mut ahead = session.ahead;
+    let mut session = session;
     let mut used = 0;
     loop {
-        let handed = fill::line_at(board, ahead, s, out, used);
-        let next = handed.ahead;
-        ahead = next;
-        let answer = handed.answer;
-        let HandOut::Written(length) = answer else {
+        let handed = next_line(session, s, &mut out[used..]);
+        session = handed.session;
+        let Ok(Some(length)) = handed.answer else {
             return Handed {
-                session: Session { board, ahead },
-                answer: fill::sum_up(used, answer),
+                session,
+                answer: fill::sum_up(used, handed.answer),
             };
         };
         used += length;

@@ -1,33 +1,25 @@
 // The line that comes next in a session, and what is ahead after it.
-ghost use Rattle.std.specs.Prelude.{◌≡◌};
+ghost use Rattle.std.specs.Prelude.{◌≡◌, Some};
 ghost use Rattle.board_reader.specs.Editions.{current_edition};
 ghost use Rattle.events.specs.Events.{told_shown};
 ghost use Rattle.session.specs.Carried.{following, goes_on, closes, next_event, next_of};
 ghost use Rattle.session.specs.Carried.{told_ahead, told_next};
 
-use crate::event::EventRead;
 use crate::{Ahead, Stage, event};
 use board::Board;
 use board_reader::LONGEST_INPUT;
 use events::Shown;
-use lines::Line;
-use refusals::Refusal;
-
-// The next line, or that there is none.
-#[derive(Clone, Copy)]
-pub enum Coming {
-    Line(Line),
-    Over,
-}
+use lines::{Line, Refused};
 
 // The next line and what is ahead after it.
 #[derive(Clone, Copy)]
 pub struct Next {
+    pub line: Line,
     pub ahead: Ahead,
-    pub coming: Coming,
 }
 
 // The number of the event after this one. No session comes past the longest input: each event takes a byte of it.
+#[tactic(auto, unfolding(crate::specs::Carried::following))]
 fn following(event: usize) -> usize
     ensures { result ≡ following event }
 {
@@ -40,79 +32,59 @@ fn following(event: usize) -> usize
 
 // The event of this number tells what is shown, and the session goes on with the events from a place on.
 fn go_on(event: usize, shown: Shown, place: usize) -> Next
-    ensures { told_next result ≡ goes_on event (told_shown shown) place }
+    ensures { told_next (told_ahead result.ahead) (Some result) ≡ goes_on event (told_shown shown) place }
 {
-    let kept = shown.kept;
-    let line = shown.line;
-    let event = following(event);
     Next {
+        line: shown.line,
         ahead: Ahead {
-            kept,
-            event,
+            kept: shown.kept,
+            event: following(event),
             place,
             stage: Stage::Events,
         },
-        coming: Coming::Line(line),
     }
 }
 
 // The session tells of a refusal, and is over.
-fn close(ahead: Ahead, refusal: Refusal) -> Next
-    ensures { told_next result ≡ closes (told_ahead ahead) refusal.number refusal.place }
+fn close(ahead: Ahead, refused: Refused) -> Next
+    ensures { told_next (told_ahead ahead) (Some result) ≡ closes (told_ahead ahead) refused.number refused.place }
 {
-    let kept = ahead.kept;
     Next {
+        line: Line::Closing(refused),
         ahead: Ahead {
-            kept,
-            event: ahead.event,
-            place: ahead.place,
             stage: Stage::Over,
+            ..ahead
         },
-        coming: Coming::Line(Line::Closing(refusal)),
     }
 }
 
-// What comes of the event at the session's place in the input, or that the input ends there.
-fn next_event(board: Board, ahead: Ahead, s: &[u8]) -> Next
-    ensures { told_next result ≡ next_event current_edition board (told_ahead ahead) s.now }
+// What comes of the event at the session's place in the input, if the input goes on there.
+fn next_event(board: Board, ahead: Ahead, s: &[u8]) -> Option<Next>
+    ensures { told_next (told_ahead ahead) result ≡ next_event current_edition board (told_ahead ahead) s.now }
 {
-    let place = ahead.place;
-    if s.len() <= place {
-        return Next {
-            ahead,
-            coming: Coming::Over,
-        };
+    if s.len() <= ahead.place {
+        return None;
     }
-    let counts = board.counts;
-    let read = event::event_at(counts.buttons, s, place);
-    match read {
-        EventRead::Read(event, next) => {
-            let kept = ahead.kept;
-            let number = ahead.event;
-            let shown = events::event_line(board, number, kept, event);
-            go_on(number, shown, next)
+    Some(match event::event_at(board.counts.buttons, s, ahead.place) {
+        Ok(event) => {
+            let shown = events::event_line(board, ahead.event, ahead.kept, event.value);
+            go_on(ahead.event, shown, event.next)
         }
-        EventRead::Refused(refusal) => close(ahead, refusal),
-    }
+        Err(refusal) => close(ahead, refusal.into()),
+    })
 }
 
-// The next line of the session.
-pub fn advance(board: Board, ahead: Ahead, s: &[u8]) -> Next
-    ensures { told_next result ≡ next_of current_edition board (told_ahead ahead) s.now }
+// The next line of the session, if one comes.
+pub fn advance(board: Board, ahead: Ahead, s: &[u8]) -> Option<Next>
+    ensures { told_next (told_ahead ahead) result ≡ next_of current_edition board (told_ahead ahead) s.now }
 {
-    let stage = ahead.stage;
-    match stage {
+    match ahead.stage {
         Stage::First => {
-            let kept = ahead.kept;
-            let number = ahead.event;
-            let shown = events::run_line(board, number, kept);
-            go_on(number, shown, ahead.place)
+            let shown = events::run_line(board, ahead.event, ahead.kept);
+            Some(go_on(ahead.event, shown, ahead.place))
         }
         Stage::Events => next_event(board, ahead, s),
-        Stage::Refused(refusal) => close(ahead, refusal),
-        Stage::Over => Next {
-            ahead,
-            coming: Coming::Over,
-        },
+        Stage::Refused(refused) => Some(close(ahead, refused)),
+        Stage::Over => None,
     }
 }

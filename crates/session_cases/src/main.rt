@@ -3,13 +3,12 @@
 // comes a line `.`. A length that is too large, or a stream that ends inside a session, ends the program.
 #![tactic(auto)]
 
-ghost use Rattle.std.specs.Prelude.{◌≤◌, IfOk, OnOk, IsTrue, length};
+ghost use Rattle.std.specs.Prelude.{◌≤◌, IfOk, IfSome, OnOk, IsTrue, length};
 ghost use Rattle.std.specs.Io.KnownBytes.{Appends, Consumes};
 ghost use Rattle.board_reader.specs.Editions.{current_edition};
 ghost use Rattle.session.specs.Sessions.{session_text};
 
 use lines::LONGEST_LINE;
-use session::HandOut;
 use std::io;
 use std::io::{ErrorKind, Read, Write};
 
@@ -18,13 +17,6 @@ const SESSION_ROOM: usize = 262_144;
 
 // The most sessions that are taken.
 const MOST_SESSIONS: usize = 1_000_000;
-
-// What comes next in the stream: a session of so many bytes, or nothing more.
-#[derive(Clone, Copy)]
-struct Taken {
-    length: usize,
-    more: bool,
-}
 
 // Fills a buffer, and says whether the stream had so many bytes.
 fn read_full<R: Read>(reader: &mut R, buffer: &mut [u8]) -> io::Result<bool>
@@ -38,34 +30,26 @@ fn read_full<R: Read>(reader: &mut R, buffer: &mut [u8]) -> io::Result<bool>
     }
 }
 
-// The length before a session. Where the stream ends, there is none.
-fn read_length<R: Read>(reader: &mut R) -> io::Result<Taken> {
-    let mut bytes = [0u8; 4];
+// The length before a session, in four bytes, lowest first. Where the stream ends, there is none.
+fn read_length<R: Read>(reader: &mut R) -> io::Result<Option<usize>> {
+    let mut bytes = [0; 4];
     let full = read_full(reader, &mut bytes)?;
-    let length = bits::wide(bytes[0]) + 256 * bits::wide(bytes[1]) + 65_536 * bits::wide(bytes[2]);
-    Ok(Taken {
-        length: length as usize,
-        more: full && bytes[3] == 0,
-    })
+    Ok(full.then_some(u32::from_le_bytes(bytes) as usize))
 }
 
-// Reads the next session into the start of a buffer.
-fn read_session<R: Read>(reader: &mut R, buffer: &mut [u8]) -> io::Result<Taken>
-    ensures { IfOk result (λ taken. taken.length ≤ length buffer.old) }
+// Reads the next session into the start of a buffer, and answers how many bytes it has; nothing where the stream ends,
+// or the length is larger than the buffer.
+fn read_session<R: Read>(reader: &mut R, buffer: &mut [u8]) -> io::Result<Option<usize>>
+    ensures { IfOk result (λ next. IfSome next (λ n. n ≤ length buffer.old)) }
 {
-    let taken = read_length(reader)?;
-    let length = taken.length;
+    let Some(length) = read_length(reader)? else {
+        return Ok(None);
+    };
     if buffer.len() < length {
-        return Ok(Taken {
-            length: 0,
-            more: false,
-        });
+        return Ok(None);
     }
     let full = read_full(reader, &mut buffer[..length])?;
-    Ok(Taken {
-        length,
-        more: taken.more && full,
-    })
+    Ok(full.then_some(length))
 }
 
 // Prints the lines of a session.
@@ -73,17 +57,15 @@ fn print_lines<W: Write>(out: &mut W, input: &[u8]) -> io::Result<()>
     ensures all_written { OnOk result (Appends (W.contents out.old) (W.contents out.new)
         (session_text current_edition input.now)) }
 {
-    let mut line = [0u8; LONGEST_LINE];
+    let mut line = [0; LONGEST_LINE];
     let mut session = session::begin(input);
     loop {
         let handed = session::next_line(session, input, &mut line);
-        let answer = handed.answer;
-        let HandOut::Written(length) = answer else {
+        session = handed.session;
+        let Ok(Some(length)) = handed.answer else {
             return Ok(());
         };
         out.write_all(&line[..length])?;
-        let next = handed.session;
-        session = next;
     }
 }
 
@@ -94,13 +76,11 @@ fn print_end<W: Write>(out: &mut W) -> io::Result<()> {
 
 // Takes the sessions of a stream, and prints the lines of each.
 fn take_sessions<R: Read, W: Write>(reader: &mut R, out: &mut W) -> io::Result<()> {
-    let mut input = [0u8; SESSION_ROOM];
+    let mut input = [0; SESSION_ROOM];
     for _ in 0..MOST_SESSIONS {
-        let taken = read_session(reader, &mut input)?;
-        if !taken.more {
+        let Some(length) = read_session(reader, &mut input)? else {
             return Ok(());
-        }
-        let length = taken.length;
+        };
         print_lines(out, &input[..length])?;
         print_end(out)?;
     }

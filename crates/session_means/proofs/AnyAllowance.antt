@@ -10,7 +10,8 @@ use lib.ListN.{length, drop, length-append}
 use lib.Seq.{drop-drop, drop-append_seam, take-append-le}
 use borrow.Author.Tests.{le-leb, lt-leb, leb-true, leb-false}
 use Rattle.lists.specs.Members.{All}
-use Rattle.refusals.specs.Outcomes.{Outcome, given, refused, Found, found, ◌>>=◌, ◌>>◌, unless}
+use Rattle.refusals.specs.declared.Found.{Found}
+use Rattle.refusals.specs.Outcomes.{Outcome, given, refused, found, ◌>>=◌, ◌>>◌, unless}
 use Rattle.refusals.specs.Refusals.{input_ends, bad_form, no_such_name}
 use Rattle.number.specs.Numbers.{Width, current_width, number_at, number_bytes}
 use Rattle.number.proofs.NumberLaws.{number-alike, number_written_read, number_bytes-length}

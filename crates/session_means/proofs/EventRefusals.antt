@@ -4,7 +4,8 @@ use Prim.Native.Nat.{ℕ}
 use mathlib.Core.Path.{subst}
 use mathlib.Core.List.{List, ◌∷◌}
 use Rattle.lists.specs.Members.{All}
-use Rattle.refusals.specs.Outcomes.{Outcome, given, refused, Found}
+use Rattle.refusals.specs.declared.Found.{Found}
+use Rattle.refusals.specs.Outcomes.{Outcome, given, refused}
 use Rattle.board.specs.declared.Board.{Board}
 use Rattle.board_reader.specs.Editions.{current_edition}
 use Rattle.file_means.proofs.GivesLaws.{Gives}

@@ -8,7 +8,8 @@ use mathlib.Core.List.{List, [], ◌∷◌}
 use lib.Dec.{leb}
 use lib.ListN.{length}
 use borrow.Author.Tests.{le-leb, lt-leb, leb-true, leb-false}
-use Rattle.refusals.specs.Outcomes.{Outcome, given, refused, Found}
+use Rattle.refusals.specs.declared.Found.{Found}
+use Rattle.refusals.specs.Outcomes.{Outcome, given, refused}
 use Rattle.board.specs.declared.Board.{Board}
 use Rattle.kept.specs.declared.Kept.{Kept}
 use Rattle.board_reader.specs.Editions.{Edition}

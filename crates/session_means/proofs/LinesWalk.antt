@@ -7,7 +7,8 @@ use mathlib.Core.Bool.{Bool, true, false, cond}
 use mathlib.Core.List.{List, [], ◌∷◌}
 use lib.Dec.{leb, ltb}
 use lib.ListN.{length}
-use Rattle.refusals.specs.Outcomes.{Outcome, given, refused, Found, found, ◌>>=◌, ◌>>◌, unless}
+use Rattle.refusals.specs.declared.Found.{Found}
+use Rattle.refusals.specs.Outcomes.{Outcome, given, refused, found, ◌>>=◌, ◌>>◌, unless}
 use Rattle.refusals.specs.Refusals.{input_ends, bad_form, no_such_name}
 use Rattle.number.specs.Numbers.{current_width, number_at}
 use Rattle.number.proofs.NumberLaws.{number_refusal}

@@ -7,7 +7,8 @@ use mathlib.Core.List.{List, [], ◌∷◌, ◌++◌}
 use lib.Dec.{leb}
 use lib.ListN.{length}
 use Rattle.lists.specs.Members.{All}
-use Rattle.refusals.specs.Outcomes.{Outcome, given, refused, Found}
+use Rattle.refusals.specs.declared.Found.{Found}
+use Rattle.refusals.specs.Outcomes.{Outcome, given, refused}
 use Rattle.refusals.specs.Refusals.{bad_form, no_such_kind}
 use Rattle.refusals.proofs.Kept.{Kept, stands, was_refused, kept_then}
 use Rattle.number.specs.Numbers.{number_at}

@@ -5,7 +5,8 @@ use native.Mathlib.Omega.{arith}
 use mathlib.Core.Path.{◌≡◌, refl, sym, ap, ◌∙◌}
 use mathlib.Core.List.{List, [], ◌∷◌}
 use lib.ListN.{length}
-use Rattle.refusals.specs.Outcomes.{Outcome, Found}
+use Rattle.refusals.specs.declared.Found.{Found}
+use Rattle.refusals.specs.Outcomes.{Outcome}
 use Rattle.board.specs.declared.Board.{Board}
 use Rattle.board_reader.specs.Editions.{Edition, current_edition}
 use Rattle.board_reader.specs.Reading.{longest_input}

@@ -9,7 +9,8 @@
 --     EventsClosed       so it is of every line of every session whose board and allowance are read
 use Rattle.std.specs.Prelude.{ℕ, ◌≡◌, ◌⊎◌, List}
 use Rattle.lists.specs.Members.{All}
-use Rattle.refusals.specs.Outcomes.{given, refused, Found}
+use Rattle.refusals.specs.declared.Found.{Found}
+use Rattle.refusals.specs.Outcomes.{given, refused}
 use Rattle.refusals.specs.Refusals.{input_ends, bad_form, no_such_name, already_so}
 use Rattle.board.specs.declared.Board.{Board}
 use Rattle.board_reader.specs.Editions.{current_edition}

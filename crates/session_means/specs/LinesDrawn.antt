@@ -11,7 +11,8 @@
 --                              the fresh state of its board with its sets
 use Rattle.std.specs.Prelude.{ℕ, zero, suc, ◌≡◌, true, List, [], ◌∷◌}
 use Rattle.bits.specs.Sets.{sum_below}
-use Rattle.refusals.specs.Outcomes.{given, Found}
+use Rattle.refusals.specs.declared.Found.{Found}
+use Rattle.refusals.specs.Outcomes.{given}
 use Rattle.board.specs.declared.Board.{Board}
 use Rattle.state.specs.States.{state_fine}
 use Rattle.kept.specs.declared.Kept.{Kept}

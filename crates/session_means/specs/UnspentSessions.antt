@@ -5,7 +5,8 @@
 --     SessionsUnspent    no line of a session with at most so many relays does
 use Rattle.std.specs.Prelude.{ℕ, ◌≤◌, ◌≡◌, List}
 use Rattle.lists.specs.Members.{All}
-use Rattle.refusals.specs.Outcomes.{given, refused, Found}
+use Rattle.refusals.specs.declared.Found.{Found}
+use Rattle.refusals.specs.Outcomes.{given, refused}
 use Rattle.board.specs.declared.Board.{Board}
 use Rattle.board_reader.specs.Editions.{current_edition}
 use Rattle.runs.specs.Runs.{idle, spent, conflict, buzz}

@@ -1,23 +1,26 @@
--- `board_reader::parts::read_parts` meets its contract. The invariant: the parts read so far fill the array and give
--- the windings and marks so far, and those of the definition are these and then the ones from the present place on.
-use borrow.Author.Rules.{rules}
-use mathlib.Core.Path.{◌∙◌}
-use lib.ListN.{length-set}
-use Rattle.board_reader.proofs.PartsLaws.{walk_start, walk_on, walk_refused, walk_end, answer_stopped}
-use Rattle.board_reader.proofs.PartsLaws.{answer_went, refused-told}
+-- `board_reader::parts::read_parts` meets its contract: a part that is refused leaves at once, and when all are read
+-- they are those of the definition.
+use Rattle.std.proofs.Common.{◌∙◌, sym, ap, refl, length-set}
+use Rattle.refusals.specs.Outcomes.{told}
+use Rattle.board_reader.proofs.PartsLaws.{walk_start, walk_on, walk_refused, walk_end}
 use Rattle.board_reader.proofs.parts.read_parts.Goals as goal
 
 pub loop-i-init : goal.loop-i-init
-loop-i-init c = search (rules, walk_start)
+loop-i-init c = record { few = c.requires; long = refl; walk = walk_start _ _ _ _ _ _ c.blank.ensures }
+
+pub loop-i-preserved : goal.loop-i-preserved
+loop-i-preserved c =
+    let so_far = c.loop-i.invariant in
+    record {
+      few = so_far.few;
+      long = length-set _ _ _ ∙ so_far.long;
+      walk = walk_on _ _ _ _ _ _ _ _ _ so_far.walk _ _ _ c.loop-i-test.true so_far.few (sym c.in-Ok.ensures) c.with-row.ensures;
+    }
 
 pub returns-in_default : goal.returns-in_default
 returns-in_default c =
-    refused-told _ _ _ c.in_default.is
-    ∙ walk_refused _ _ _ _ _ _ _ _ _ c.loop-i.invariant.4 _ _
-    c.loop-i-test.true (answer_stopped _ _ _ c.read_part-part_read.ensures _ c.in_default.is)
-
-pub loop-i-preserved : goal.loop-i-preserved
-loop-i-preserved c = search (rules, length-set, walk_on, answer_went)
+    walk_refused _ _ _ _ _ _ _ _ _ c.loop-i.invariant.walk _ _ c.loop-i-test.true
+    (sym c.read_part-read.ensures ∙ ap told c.unwrap_err.ensures)
 
 pub returns : goal.returns
-returns c = search (rules, walk_end)
+returns c = walk_end _ _ _ _ _ _ _ _ _ c.loop-i.invariant.walk c.loop-i-test.false
