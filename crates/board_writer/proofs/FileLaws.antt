@@ -10,11 +10,11 @@ use lib.ListN.{length, take, drop, length-append, length-take}
 use lib.Seq.{take_all}
 use Rattle.std.specs.Prelude.{Result}
 use Rattle.refusals.proofs.OutcomeLaws.{given_injective, refused_never}
-use Rattle.refusals.proofs.Tabled.{Tabled, TabledLines, tabled_lines}
+use Rattle.refusals.proofs.Tabled.{Tabled, tabled_given, tabled_refused}
 use Rattle.refusals.specs.declared.Refusal.{Refusal}
 use Rattle.refusals.specs.declared.No.TheVariants.{BrokenBoard, BufferTooShort}
 use Rattle.refusals.specs.Outcomes.{Outcome, given, refused, told}
-use Rattle.refusals.specs.Order.{first_no, answering}
+use Rattle.refusals.specs.Order.{first_no}
 use Rattle.refusals.specs.Refusals.{broken_board, buffer_too_short, number_of}
 use Rattle.number.specs.Numbers.{number_bytes}
 use Rattle.number.proofs.NumberLaws.{number_bytes_one, number_bytes-length_two}
@@ -33,7 +33,7 @@ use Rattle.kinds.proofs.KindLaws.{kind_number_most, fields_few}
 use Rattle.board.proofs.BreaksNoRule.{fine_fits}
 use Rattle.board_writer.specs.File.{row_bytes, numbers_bytes, part_bytes, parts_bytes, counts_bytes, board_bytes}
 use Rattle.board_writer.specs.File.{longest_file}
-use Rattle.board_writer.specs.Writing.{write_lines, writing, bytes_written, Writes}
+use Rattle.board_writer.specs.Writing.{writing, bytes_written, Writes}
 use Rattle.board_writer.proofs.LengthLaws.{counts_bytes_sum, part_bytes_sum}
 use Rattle.board_writer.proofs.WriteLaws.{board_bytes_sum, writing_broken}
 use Rattle.board_writer.proofs.WriteLaws.{writing_short, writing_with_room}
@@ -245,14 +245,10 @@ write_bytes b out out' (Result.Err r) wrote =
 
 -- a write is refused by numbers of the table alone
 pub writing_tabled : (b : Board) (out : List ℕ) → Tabled (writing b out).0
-unfolding writing
-writing_tabled b out = by (first_no (write_lines b out)) (tabled_lines (write_lines b out) lines)
-  where
-    lines : TabledLines (write_lines b out)
-    unfolding TabledLines
-    lines = ((BrokenBoard, refl), ((BufferTooShort, refl), tt))
-
-    by : (o : Outcome (Unit {0})) → Tabled o
-        → Tabled (answering o (λ n p. (refused n p, out))
-        (λ u. (given (length (board_bytes b)), board_bytes b ++ drop (length (board_bytes b)) out))).0
-    by o t = ?
+unfolding writing first_no
+writing_tabled b out =
+    by_test (board_fine b)
+    (λ fine. by_test (leb (length (board_bytes b)) (length out))
+    (λ fits. rw (fine, fits) (tabled_given _))
+    (λ lacks. rw (fine, lacks) (tabled_refused BufferTooShort 0)))
+    (λ off. rw off (tabled_refused BrokenBoard 0))

@@ -3,17 +3,26 @@
 use Prim.Native.Nat.{ℕ, suc, ◌+◌, ◌-◌, ◌≤◌, ◌<◌}
 use native.Mathlib.Omega.{arith}
 use mathlib.Core.Path.{◌≡◌, refl, sym, ap, ◌∙◌}
-use mathlib.Core.Bool.{Bool, true, false, not, cond}
+use mathlib.Core.Bool.{Bool, true, false, cond, false≢true}
 use mathlib.Core.List.{List, [], ◌∷◌}
+use Rattle.std.specs.Prelude.{Option, Some, None, MatchOption, Result}
+use Rattle.std.specs.Result.{IsErr, IsErrAnd}
 use lib.Dec.{ltb}
-use borrow.Author.Tests.{lt-ltb, le-ltb}
+use borrow.Author.Tests.{lt-ltb, le-ltb, ltb-true, ltb-false}
 use Rattle.bits.specs.Sets.{member, first_from}
+use Rattle.bits.proofs.BoolLaws.{by_test, by_less}
 use Rattle.bits.proofs.LowestLaws.{first_found, first-before, first_absent}
-use Rattle.refusals.specs.Outcomes.{Outcome, given, refused, ◌>>◌, ◌>>=◌}
-use Rattle.refusals.specs.Refusals.{terminal_beyond}
-use Rattle.refusals.specs.Order.{first_no, against}
+use Rattle.refusals.specs.Outcomes.{Outcome, given, refused, ◌>>◌, ◌>>=◌, told, told_as}
+use Rattle.refusals.specs.declared.No.{No}
+use Rattle.refusals.specs.declared.Refusal.{Refusal}
+use Rattle.refusals.specs.Refusals.{terminal_beyond, number_of}
+use Rattle.refusals.specs.Order.{first_no, against, AsksLine}
 use Rattle.refusals.proofs.OrderLaws.{asks_append}
-use Rattle.refusals.proofs.Told.{Told, answer_of, given_or_refused}
+use Rattle.refusals.proofs.LineLaws.{ends_with, line_holds, line_refuses}
+use Rattle.refusals.specs.declared.No.TheVariants.{BrokenBoard, StateBeyondBoard, ForeignSets, NoSuchWinding}
+use Rattle.refusals.specs.declared.No.TheVariants.{TerminalBeyond}
+use Rattle.refusals.proofs.Told.{Told}
+use Rattle.refusals.proofs.Tabled.{Tabled, tabled_given, tabled_both, tabled_then, TabledLines, tabled_lines}
 use Rattle.board.specs.declared.Board.{Board}
 use Rattle.neighbours.specs.declared.Sets.{Sets}
 use Rattle.neighbours.specs.Neighbours.{neighbours, sets_of}
@@ -23,56 +32,13 @@ use Rattle.feed.specs.Feeds.{reached_without}
 use Rattle.judge.specs.declared.Which.{Which}
 use Rattle.judge.specs.Judging as by-sets
 use Rattle.judge.specs.Judging.{judge_lines, winding_for}
-use Rattle.judge.proofs.JudgeLaws.{winding_for_lines, winding_for-kept}
-use Rattle.divide.specs.AtOnce.{divides, lowest_dividing, live, shunted, dead, judged_at_once}
+use Rattle.judge.proofs.JudgeLaws.{winding_for_lines, winding_for-kept, winding_for-tabled}
+use Rattle.divide.specs.AtOnce.{divides, lowest_dividing, live, shunted, dead, judged_at_once, DividesLowest}
 use Rattle.divide.specs.declared.Judgement as code-judgement
 use Rattle.divide.specs.declared.Judgement.TheVariants as said
-use Rattle.divide.specs.declared.Checked.{Checked}
-use Rattle.divide.specs.declared.Checked.TheVariants.{Divides, DividesNot, Refused}
-use Rattle.divide.specs.AtOnce.{Judgement, judging_at_once, checking, told_judgement, told_checked}
+use Rattle.divide.specs.AtOnce.{Judgement, judging_at_once, check_lines, checking, told_judgement}
 
--- ---- a terminal and a winding, by what the poles reach without it
-
-module _ (near : List ℕ) (v : Winding) (x reached : ℕ) (is : reached ≡ reached_without near x) where
-  pub divides_not : (a : ℕ) → a ≡ v.a → member reached a ≡ true → false ≡ divides near v x
-  unfolding divides
-  divides_not a at on = rw (← is, ← at, on) refl
-
-  pub divides_by : (a b : ℕ) (r : Bool) → a ≡ v.a → member reached a ≡ false → b ≡ v.b → r ≡ member reached b
-      → not r ≡ divides near v x
-  unfolding divides
-  divides_by a b r at off also reaches = rw (← is, ← at, ← also, off, reaches) refl
-
--- ---- the lowest that divides, where none below x does
-
-module _ (near : List ℕ) (t : ℕ) (v : Winding) where
-  abbrev pub NoneBelow : ℕ → Type 0
-  NoneBelow x = lowest_dividing near t v ≡ first_from (divides near v) (t - x) x
-
-  pub none_starts : NoneBelow 0
-  unfolding lowest_dividing
-  none_starts = let all : t ≡ t - 0 = omega arith in ap (λ (k : ℕ). first_from (divides near v) k 0) all
-
-  none_next : (x : ℕ) (r : Bool) → NoneBelow x → x < t → r ≡ divides near v x
-      → lowest_dividing near t v ≡ cond r x (first_from (divides near v) (t - (x + 1)) (x + 1))
-  unfolding first_from
-  none_next x r so below is =
-      let more : t - x ≡ suc (t - (x + 1)) = omega arith in
-      let next : x + 1 ≡ suc x = omega arith in
-      so ∙ ap (λ (k : ℕ). first_from (divides near v) k x) more ∙ rw (next, is) refl
-
-  module _ (x y : ℕ) (r : Bool) (so : NoneBelow x) (below : x < t) (at : y ≡ x) (is : r ≡ divides near v y) where
-    pub none_found : r ≡ true → x ≡ lowest_dividing near t v
-    none_found on = sym (none_next x r so below (is ∙ ap (divides near v) at) ∙ rw on refl)
-
-    pub none_on : r ≡ false → NoneBelow (x + 1)
-    none_on off = none_next x r so below (is ∙ ap (divides near v) at) ∙ rw off refl
-
-  pub none-ends : (x : ℕ) → NoneBelow x → t ≤ x → x ≡ lowest_dividing near t v
-  unfolding first_from
-  none-ends x so past =
-      let none : t - x ≡ 0 = omega arith in
-      sym (so ∙ ap (λ (k : ℕ). first_from (divides near v) k x) none)
+-- ---- the lowest that divides
 
 -- the lowest that divides does, and none below it does; where there is none, none of the t terminals does
 module _ (near : List ℕ) (t : ℕ) (v : Winding) where
@@ -89,6 +55,42 @@ module _ (near : List ℕ) (t : ℕ) (v : Winding) where
   lowest_none y none below =
       first_absent (divides near v) t 0 y (omega (arith, none)) (omega arith) (omega (arith, below))
 
+-- the lowest of those that divide is the first that is found from 0 up
+module _ (near : List ℕ) (t : ℕ) (v : Winding) where
+  pub lowest_found : (a : Option ℕ)
+      → MatchOption a ((k : ℕ) → 0 ≤ k → k < t → divides near v k ≡ false)
+      (λ i. (0 ≤ i) × (i < t) × (divides near v i ≡ true)
+      × ((k : ℕ) → 0 ≤ k → k < i → divides near v k ≡ false))
+      → DividesLowest near t v a
+  lowest_found None all =
+      by_less (lowest_dividing near t v) t
+      (λ some. absurd (false≢true (sym (all _ (omega arith) some) ∙ lowest-divides near t v some)))
+      (λ past. rw (le-ltb (lowest_dividing near t v) t past) refl)
+  lowest_found (Some i) (from, below, on, none) =
+      let same : i ≡ lowest_dividing near t v =
+      by_less (lowest_dividing near t v) i
+      (λ earlier. absurd (false≢true (sym (none _ (omega arith) earlier)
+      ∙ lowest-divides near t v (omega (arith, earlier, below)))))
+      (λ most. by_less i (lowest_dividing near t v)
+      (λ later. absurd (false≢true (sym (lowest-before near t v i later) ∙ on)))
+      (λ least. omega (arith, most, least))) in
+      rw (← same, lt-ltb i t below) refl
+
+  -- by the answer, whether one of the t terminals divides
+  pub lowest_some : (x : ℕ) → DividesLowest near t v (Some x)
+      → cond (ltb (lowest_dividing near t v) t) (dead (lowest_dividing near t v)) live ≡ dead x
+  lowest_some x is =
+      by_test (ltb (lowest_dividing near t v) t)
+      (λ below. let found : Some x ≡ Some (lowest_dividing near t v) = rw below at is in rw below (ap dead (sym cc)))
+      (λ past. let found : Some x ≡ None = rw past at is in absurd cc)
+
+  pub lowest_lacks : DividesLowest near t v None
+      → cond (ltb (lowest_dividing near t v) t) (dead (lowest_dividing near t v)) live ≡ live
+  lowest_lacks is =
+      by_test (ltb (lowest_dividing near t v) t)
+      (λ below. let found : None ≡ Some (lowest_dividing near t v) = rw below at is in absurd cc)
+      (λ past. rw past refl)
+
 -- ---- the judgement by the sets
 
 module _ (k : Sets) (t : ℕ) (v : Winding) where
@@ -96,14 +98,14 @@ module _ (k : Sets) (t : ℕ) (v : Winding) where
   unfolding judged_at_once
   told-shunted is = rw is refl
 
-  module _ (x : ℕ) (off : by-sets.shunted k v ≡ false) (lowest : x ≡ lowest_dividing k.near t v) where
-    pub told_dead : x < t → dead x ≡ judged_at_once k t v
+  module _ (off : by-sets.shunted k v ≡ false) where
+    pub told_dead : (x : ℕ) → DividesLowest k.near t v (Some x) → dead x ≡ judged_at_once k t v
     unfolding judged_at_once
-    told_dead below = rw (off, ← lowest, lt-ltb x t below) refl
+    told_dead x is = sym (rw off (lowest_some k.near t v x is))
 
-    pub told_live : t ≤ x → live ≡ judged_at_once k t v
+    pub told_live : DividesLowest k.near t v None → live ≡ judged_at_once k t v
     unfolding judged_at_once
-    told_live past = rw (off, ← lowest, le-ltb x t past) refl
+    told_live is = sym (rw off (lowest_lacks k.near t v is))
 
 -- ---- the calls
 
@@ -114,15 +116,18 @@ module _ (b : Board) (h : Kept) (r : ℕ) (n : Which) where
   judging_of v is = rw is refl
 
   -- so by the kept sets
-  pub judging-told : (v : Winding) → winding_for b h r n ≡ given v
-      → given (judged_at_once h.sets b.counts.terminals v) ≡ judging_at_once b h r n
-  judging-told v is =
-      ap (λ (k : Sets). given (judged_at_once k b.counts.terminals v)) (winding_for-kept b h r n v is)
-      ∙ judging_of v is
+  pub judging-told : (v : Winding) (j : Judgement) → given v ≡ winding_for b h r n
+      → j ≡ judged_at_once h.sets b.counts.terminals v → given j ≡ judging_at_once b h r n
+  judging-told v j is said =
+      ap given said
+      ∙ ap (λ (k : Sets). given (judged_at_once k b.counts.terminals v)) (winding_for-kept b h r n v (sym is))
+      ∙ judging_of v (sym is)
 
-  pub judging_refused : (m p : ℕ) → winding_for b h r n ≡ refused m p → refused m p ≡ judging_at_once b h r n
+  pub judging_refused : (e : Refusal) (a : Result code-judgement.Judgement Refusal)
+      → refused (number_of e.no) e.place ≡ winding_for b h r n → IsErr a × IsErrAnd a (λ (y : Refusal). y ≡ e)
+      → told_as told_judgement a ≡ judging_at_once b h r n
   unfolding judging_at_once
-  judging_refused m p is = rw is refl
+  judging_refused e a is ends = ap (told_as told_judgement) (ends_with a e ends) ∙ rw (← is) refl
 
   -- 19 is asked after all of these
   module _ (x : ℕ) where
@@ -141,57 +146,74 @@ module _ (b : Board) (h : Kept) (r : ℕ) (n : Which) where
         (λ (q : Outcome (Unit {0})). q >> winding_for b h r n >>= λ v. given (divides (neighbours b h.state) v x))
         (sym (asks_append (judge_lines b h r n) ((ltb x b.counts.terminals, terminal_beyond) ∷ [])))
 
-    pub checking_refused : (m p : ℕ) → winding_for b h r n ≡ refused m p → refused m p ≡ checking b h r n x
-    checking_refused m p is = checking_by (refused m p) is
+    pub checking_refused : (e : Refusal) (a : Result Bool Refusal)
+        → refused (number_of e.no) e.place ≡ winding_for b h r n → IsErr a × IsErrAnd a (λ (y : Refusal). y ≡ e)
+        → told a ≡ checking b h r n x
+    checking_refused e a is ends =
+        ap told (ends_with a e ends) ∙ checking_by (refused (number_of e.no) e.place) (sym is)
 
     module _ (v : Winding) (is : winding_for b h r n ≡ given v) where
-      pub checking-beyond : b.counts.terminals ≤ x → refused terminal_beyond 0 ≡ checking b h r n x
+      checking_beyond : b.counts.terminals ≤ x → refused terminal_beyond 0 ≡ checking b h r n x
       unfolding first_no
-      checking-beyond past =
+      checking_beyond past =
           sym (rw (le-ltb x b.counts.terminals past) refl) ∙ checking_by (given v) is
 
       pub checking_of : x < b.counts.terminals → given (divides (neighbours b h.state) v x) ≡ checking b h r n x
       unfolding first_no
       checking_of below = sym (rw (lt-ltb x b.counts.terminals below) refl) ∙ checking_by (given v) is
 
-      -- so by the kept sets
-      pub checking_given : x < b.counts.terminals → given (divides h.sets.near v x) ≡ checking b h r n x
-      checking_given below =
-          ap (λ (k : Sets). given (divides k.near v x)) (winding_for-kept b h r n v is) ∙ checking_of below
+    -- by the kept sets; y is the number of terminals
+    module _ (v : Winding) (y : ℕ) (is : given v ≡ winding_for b h r n) (at : y ≡ b.counts.terminals) where
+      pub checking-ends : (e : No) (a : Result Bool Refusal) → AsksLine (ltb x y) TerminalBeyond (Result.Err e)
+          → IsErr a × IsErrAnd a (λ (z : Refusal). z ≡ record { no = e; place = 0 }) → told a ≡ checking b h r n x
+      checking-ends e a asked ended =
+          let ends = line_refuses (ltb x y) TerminalBeyond e a asked ended in
+          ends.1 ∙ checking_beyond v (sym is) (omega (arith, at, ltb-false x y ends.0))
+
+      pub checking_given : (u : Unit {0}) (t : Bool) → AsksLine (ltb x y) TerminalBeyond (Result.Ok u)
+          → t ≡ divides h.sets.near v x → given t ≡ checking b h r n x
+      checking_given u t asked so =
+          ap given so
+          ∙ ap (λ (k : Sets). given (divides k.near v x)) (winding_for-kept b h r n v (sym is))
+          ∙ checking_of v (sym is) (omega (arith, at, ltb-true x y (line_holds (ltb x y) TerminalBeyond u asked)))
 
 -- ---- answers and what they tell
 
 pub judgement-told : Told told_judgement
-judgement-told = given_or_refused told_judgement answer said.Refused gives (λ n p. refl) back
+judgement-told = record { untold = untold; back = back; onto = onto }
   where
-    answer : Judgement → code-judgement.Judgement
-    answer live = said.Live
-    answer shunted = said.Shunted
-    answer (dead x) = said.Dead x
+    untold : Judgement → code-judgement.Judgement
+    untold live = said.Live
+    untold shunted = said.Shunted
+    untold (dead x) = said.Dead x
 
-    gives : (j : Judgement) → told_judgement (answer j) ≡ given j
-    gives live = refl
-    gives shunted = refl
-    gives (dead x) = refl
-
-    back : (x : code-judgement.Judgement) → answer_of answer said.Refused (told_judgement x) ≡ x
+    back : (x : code-judgement.Judgement) → untold (told_judgement x) ≡ x
     back said.Live = refl
     back said.Shunted = refl
     back (said.Dead x) = refl
-    back (said.Refused r) = refl
 
-pub checked-told : Told told_checked
-checked-told = given_or_refused told_checked answer Refused gives (λ n p. refl) back
-  where
-    answer : Bool → Checked
-    answer true = Divides
-    answer false = DividesNot
+    onto : (j : Judgement) → told_judgement (untold j) ≡ j
+    onto live = refl
+    onto shunted = refl
+    onto (dead x) = refl
 
-    gives : (t : Bool) → told_checked (answer t) ≡ given t
-    gives true = refl
-    gives false = refl
+pub judging_at_once-tabled : (b : Board) (h : Kept) (r : ℕ) (n : Which) → Tabled (judging_at_once b h r n)
+unfolding judging_at_once
+judging_at_once-tabled b h r n =
+    tabled_then (winding_for b h r n) _ (winding_for-tabled b h r n) (λ v. tabled_given _)
 
-    back : (x : Checked) → answer_of answer Refused (told_checked x) ≡ x
-    back Divides = refl
-    back DividesNot = refl
-    back (Refused r) = refl
+pub checking-tabled : (b : Board) (h : Kept) (r : ℕ) (n : Which) (x : ℕ) → Tabled (checking b h r n x)
+unfolding checking TabledLines
+checking-tabled b h r n x =
+    tabled_then _ _
+    (tabled_both _ _
+    (tabled_lines (check_lines b h r n x)
+    (
+      (BrokenBoard, refl),
+      (
+        (StateBeyondBoard, refl),
+        ((ForeignSets, refl), ((NoSuchWinding, refl), ((TerminalBeyond, refl), tt))),
+      ),
+    ))
+    (winding_for-tabled b h r n))
+    (λ v. tabled_given _)

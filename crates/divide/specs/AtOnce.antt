@@ -12,14 +12,17 @@
 --     judging_at_once b h r n       the judge, as a call: of winding n of relay r of board b, by h
 --     check_lines b h r n x         the lines of checking terminal x against that winding: 15, 14, 18, 11, 19
 --     checking b h r n x            the check, as a call: whether x divides it, shunted or not
---     told_judgement, told_checked  the answers' cases as judgements, and as whether it divides
+--     told_judgement                the answer's cases as judgements
 --     JudgesAtOnce b h r n a        promise: `judge` of winding n of relay r of board b, by h, answers a
 --     ChecksTerminal b h r n x a    promise: `check` of terminal x against it answers a
+-- What the functions of this crate promise each other:
+--     DividesLowest near t v a      `lowest_dividing` answers a: that terminal, if one of the t terminals divides
 -- `judge_means` shows that these say what the request says, and that the judge agrees with the chains, on every board
 -- that breaks no rule and in every state.
-use Rattle.std.specs.Prelude.{ℕ, ◌≡◌, Bool, true, false, not, cond, ◌&&◌, List, [], ◌∷◌, ◌++◌, ltb}
+use Rattle.std.specs.Prelude.{ℕ, ◌≡◌, Bool, not, cond, ◌&&◌, List, [], ◌∷◌, ◌++◌, ltb, Option, Some, None, Result}
 use Rattle.bits.specs.Sets.{member, first_from}
-use Rattle.refusals.specs.Outcomes.{Outcome, given, refused, ◌>>◌, ◌>>=◌}
+use Rattle.refusals.specs.Outcomes.{Outcome, given, ◌>>◌, ◌>>=◌, told, told_as}
+use Rattle.refusals.specs.declared.Refusal.{Refusal}
 use Rattle.refusals.specs.Refusals.{terminal_beyond}
 use Rattle.refusals.specs.Order.{Order, first_no}
 use Rattle.board.specs.declared.Board.{Board}
@@ -33,8 +36,6 @@ use Rattle.judge.specs.Judging as by-sets
 use Rattle.judge.specs.Judging.{judge_lines, winding_for}
 use Rattle.divide.specs.declared.Judgement as code-judgement
 use Rattle.divide.specs.declared.Judgement.TheVariants as said
-use Rattle.divide.specs.declared.Checked.{Checked}
-use Rattle.divide.specs.declared.Checked.TheVariants.{Divides, DividesNot, Refused}
 
 unfoldable pub divides : List ℕ → Winding → ℕ → Bool
 divides near v x = not (member (reached_without near x) v.a) && not (member (reached_without near x) v.b)
@@ -63,19 +64,17 @@ unfoldable pub checking : Board → Kept → ℕ → Which → ℕ → Outcome B
 checking b h r n x =
     first_no (check_lines b h r n x) >> winding_for b h r n >>= λ v. given (divides (neighbours b h.state) v x)
 
-abbrev pub told_judgement : code-judgement.Judgement → Outcome Judgement
-told_judgement said.Live = given live
-told_judgement said.Shunted = given shunted
-told_judgement (said.Dead x) = given (dead x)
-told_judgement (said.Refused r) = refused r.number r.place
+abbrev pub told_judgement : code-judgement.Judgement → Judgement
+told_judgement said.Live = live
+told_judgement said.Shunted = shunted
+told_judgement (said.Dead x) = dead x
 
-abbrev pub told_checked : Checked → Outcome Bool
-told_checked Divides = given true
-told_checked DividesNot = given false
-told_checked (Refused r) = refused r.number r.place
+abbrev pub JudgesAtOnce : Board → Kept → ℕ → Which → Result code-judgement.Judgement Refusal → Type 0
+JudgesAtOnce b h r n a = told_as told_judgement a ≡ judging_at_once b h r n
 
-abbrev pub JudgesAtOnce : Board → Kept → ℕ → Which → code-judgement.Judgement → Type 0
-JudgesAtOnce b h r n a = told_judgement a ≡ judging_at_once b h r n
+abbrev pub ChecksTerminal : Board → Kept → ℕ → Which → ℕ → Result Bool Refusal → Type 0
+ChecksTerminal b h r n x a = told a ≡ checking b h r n x
 
-abbrev pub ChecksTerminal : Board → Kept → ℕ → Which → ℕ → Checked → Type 0
-ChecksTerminal b h r n x a = told_checked a ≡ checking b h r n x
+abbrev pub DividesLowest : List ℕ → ℕ → Winding → Option ℕ → Type 0
+DividesLowest near t v a =
+    a ≡ cond (ltb (lowest_dividing near t v) t) (Some (lowest_dividing near t v)) None

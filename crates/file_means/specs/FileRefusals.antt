@@ -32,7 +32,7 @@
 --                               parts ps and the start that their marks give, exactly if these are the numbers that
 --                               stand before n, the parts are C, and every relay is regular or steel-core
 use Rattle.std.specs.Prelude.{ℕ, ◌+◌, ◌<◌, ◌≤◌, ◌≡◌, ◌⊎◌, ◌↔◌, List, [], ◌∷◌, ◌++◌, length}
-use Rattle.refusals.specs.Outcomes.{refused, given, found}
+use Rattle.refusals.specs.Outcomes.{refused, given, found, told}
 use Rattle.refusals.specs.Refusals.{input_ends, bad_form, out_of_range, no_such_kind, no_such_terminal, ends_equal}
 use Rattle.refusals.specs.Refusals.{no_such_name}
 use Rattle.refusals.specs.Refusals.{winding_taken, winding_lacking, input_too_long, marked_twice}
@@ -46,7 +46,7 @@ use Rattle.board.specs.Rules.{least_terminals, most_terminals, most_relays, most
 use Rattle.board.specs.Sorts.{count_of, IsRegular, IsSteel, Wound, IsMarked}
 use Rattle.board_reader.specs.declared.BoardRead.{BoardRead}
 use Rattle.board_reader.specs.Editions.{Edition, current_edition}
-use Rattle.board_reader.specs.Reading.{longest_input, told_read_answer, Reads}
+use Rattle.board_reader.specs.Reading.{longest_input, Reads}
 
 abbrev pub StandsAt : Edition → List ℕ → ℕ → ℕ → ℕ → Type 0
 StandsAt e s p v next = number_at e.width s p ≡ found v next
@@ -144,7 +144,7 @@ abbrev pub FileRefused : Type 0
 FileRefused =
     (s : List ℕ) (r : BoardRead) (n p : ℕ)
     → Reads s r
-    → told_read_answer r.answer ≡ refused n p
+    → told r.answer ≡ refused n p
     ↔ ((longest_input < length s) × (n ≡ input_too_long) × (p ≡ 0))
     ⊎ ((length s ≤ longest_input) × LineHolds current_edition s n p)
 
@@ -152,7 +152,7 @@ abbrev pub FileAccepted : Type 0
 FileAccepted =
     (s : List ℕ) (r : BoardRead) (c : Counts) (ps : List Part) (n : ℕ)
     → Reads s r
-    → ((told_read_answer r.answer ≡ given n) × (r.board.counts ≡ c) × (parts_of r.board ≡ ps)
+    → ((told r.answer ≡ given n) × (r.board.counts ≡ c) × (parts_of r.board ≡ ps)
     × (r.board.start ≡ start_of ps))
     ↔ ((length s ≤ longest_input) × Reached current_edition s (at_part c ps) n × (length ps ≡ c.parts)
     × Wound c.relays ps)

@@ -8,42 +8,42 @@
 --     ReadThenWrite    a board that was read and written again is never refused by 15, and its bytes are those that
 --                      were read
 -- A slice's bytes are below 256 (`Bytes`) and an array of parts has 256 places; lists do not say so by themselves.
-use Rattle.std.specs.Prelude.{ℕ, ◌+◌, ◌≤◌, ◌≡◌, true, List, ◌++◌, length, take, drop}
-use Rattle.refusals.specs.Outcomes.{given}
+use Rattle.std.specs.Prelude.{ℕ, ◌+◌, ◌≤◌, ◌≡◌, true, List, ◌++◌, length, take, drop, Result}
+use Rattle.refusals.specs.Outcomes.{given, told}
 use Rattle.number.specs.Numbers.{Bytes}
 use Rattle.board.specs.declared.Board.{Board}
 use Rattle.board.specs.Parts.{most_parts}
 use Rattle.board.specs.SameExactly.{Same}
 use Rattle.board.specs.Rules.{board_fine}
-use Rattle.board_reader.specs.Reading.{longest_input, told_read_answer, Reads}
+use Rattle.board_reader.specs.Reading.{longest_input, Reads}
 use Rattle.board_reader.specs.declared.BoardRead.{BoardRead}
-use Rattle.board_writer.specs.Writing.{told_written, bytes_written, Writes}
-use Rattle.board_writer.specs.declared.Written.{Written}
+use Rattle.board_writer.specs.Writing.{bytes_written, Writes}
+use Rattle.refusals.specs.declared.Refusal.{Refusal}
 
 abbrev pub WriteThenRead : Type 0
 WriteThenRead =
-    (b : Board) (out out' more : List ℕ) (n : ℕ) (w : Written) (r : BoardRead)
+    (b : Board) (out out' more : List ℕ) (n : ℕ) (w : Result ℕ Refusal) (r : BoardRead)
     → length b.parts ≡ most_parts
     → Writes b out w out'
-    → told_written w ≡ given n
+    → told w ≡ given n
     → (n ≤ longest_input)
     × (n + length more ≤ longest_input
     → Reads (take n out' ++ more) r
-    → (told_read_answer r.answer ≡ given n)
+    → (told r.answer ≡ given n)
     × Same b r.board
     × (b.start ≡ r.board.start))
 
 abbrev pub RestStays : Type 0
 RestStays =
-    (b : Board) (out out' : List ℕ) (w : Written)
+    (b : Board) (out out' : List ℕ) (w : Result ℕ Refusal)
     → Writes b out w out'
     → drop (bytes_written w) out' ≡ drop (bytes_written w) out
 
 abbrev pub ReadThenWrite : Type 0
 ReadThenWrite =
-    (s out out' : List ℕ) (n : ℕ) (r : BoardRead) (w : Written)
+    (s out out' : List ℕ) (n : ℕ) (r : BoardRead) (w : Result ℕ Refusal)
     → Bytes s
     → Reads s r
-    → told_read_answer r.answer ≡ given n
+    → told r.answer ≡ given n
     → Writes r.board out w out'
-    → (board_fine r.board ≡ true) × (n ≤ length out → (told_written w ≡ given n) × (take n out' ≡ take n s))
+    → (board_fine r.board ≡ true) × (n ≤ length out → (told w ≡ given n) × (take n out' ≡ take n s))

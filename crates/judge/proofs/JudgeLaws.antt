@@ -2,20 +2,24 @@
 -- call: refused by 15, 14, 18 or 11, in that order, or judged.
 use Prim.Native.Nat.{ℕ, ◌≤◌}
 use native.Mathlib.Omega.{arith}
-use mathlib.Core.Path.{◌≡◌, refl, sym, ap, ap₂, ◌∙◌}
+use mathlib.Core.Path.{◌≡◌, refl, sym, ap, ap₂, subst, ◌∙◌}
 use mathlib.Core.Bool.{Bool, true, false, cond}
 use mathlib.Core.List.{List, [], ◌∷◌}
 use mathlib.Core.Option.{Option, none, some}
 use borrow.Author.Tests.{le-leb}
 use Rattle.bits.specs.Sets.{member, including}
 use Rattle.bits.proofs.BoolLaws.{by_test}
-use Rattle.refusals.specs.declared.Against.{Against}
-use Rattle.refusals.specs.declared.Against.TheVariants as stands
+use Rattle.refusals.specs.Outcomes.{Outcome, given, refused, ◌>>◌, told}
+use Rattle.std.specs.Prelude.{Result}
+use Rattle.std.specs.Result.{IsErr, IsErrAnd}
 use Rattle.refusals.specs.declared.Refusal.{Refusal}
-use Rattle.refusals.specs.Outcomes.{Outcome, given, refused, ◌>>◌}
-use Rattle.refusals.specs.Refusals.{no_such_winding}
-use Rattle.refusals.specs.Order.{first_no, against, told_against}
+use Rattle.refusals.specs.Refusals.{no_such_winding, number_of}
+use Rattle.refusals.proofs.LineLaws.{ends_with}
+use Rattle.refusals.specs.Order.{first_no, against}
+use Rattle.refusals.specs.declared.No.TheVariants.{BrokenBoard, StateBeyondBoard, ForeignSets, NoSuchWinding}
 use Rattle.refusals.proofs.OutcomeLaws.{both_given}
+use Rattle.refusals.proofs.Tabled.{Tabled, gives, refuses, tabled_given, tabled_refused, tabled_both}
+use Rattle.refusals.proofs.Tabled.{TabledLines, tabled_lines}
 use Rattle.refusals.proofs.OrderLaws.{asks_append}
 use Rattle.board.specs.declared.Board.{Board}
 use Rattle.board.specs.Parts.{parts_of}
@@ -31,7 +35,7 @@ use Rattle.chains.specs.ChainList.{chains, shows}
 use Rattle.reach.specs.Floods.{flooded}
 use Rattle.search.specs.declared.Winding.{Winding}
 use Rattle.search.specs.Verdicts.{Verdict, first_shown, effort, settled, weighed, verdict_by, in_sets}
-use Rattle.search.proofs.VerdictLaws.{in_sets_all}
+use Rattle.search.proofs.VerdictLaws.{in_sets_all, TabledVerdict, weighed-tabled}
 use Rattle.judge.specs.declared.Which.{Which}
 use Rattle.judge.specs.RelayWindings.{OfRelay, winding_of, windings_at, winding_named, is_there, or_no_such_winding}
 use Rattle.judge.specs.Judging.{shunted, judged_by, judge_lines, winding_for, verdict_on, judging}
@@ -174,18 +178,18 @@ module _ (b : Board) (h : Kept) (r : ℕ) (n : Which) where
 
   -- ---- one law for each way out of `winding_for`
 
-  pub asked-usable : (a : Against) (x : Outcome Winding) (ws : OfRelay Winding) → a ≡ stands.Nothing
-      → told_against a ≡ usable b h → ws ≡ windings_at r (parts_of b) → x ≡ or_no_such_winding (winding_named n ws)
-      → x ≡ winding_for b h r n
-  asked-usable a x ws nothing told found is =
-      let taken : usable b h ≡ given tt = sym told ∙ ap told_against nothing in
-      is ∙ ap (λ (q : OfRelay Winding). or_no_such_winding (winding_named n q)) found
-      ∙ sym (winding_for_sought (winding_named n (windings_at r (parts_of b))) taken
-      (sym (windings_named b r n (usable_given b h taken).0)))
+  pub asked_unusable : (e : Refusal) (x : Result Winding Refusal) → refused (number_of e.no) e.place ≡ usable b h
+      → IsErr x × IsErrAnd x (λ (y : Refusal). y ≡ e) → told x ≡ winding_for b h r n
+  asked_unusable e x unusable ends =
+      ap told (ends_with x e ends) ∙ sym (winding_for_unusable (number_of e.no) e.place (sym unusable))
 
-  pub asked_unusable : (a : Against) (x : Refusal) → a ≡ stands.Refused x → told_against a ≡ usable b h
-      → refused x.number x.place ≡ winding_for b h r n
-  asked_unusable a x is told = sym (winding_for_unusable x.number x.place (sym told ∙ ap told_against is))
+  pub asked-usable : (x : Outcome Winding) (ws : OfRelay Winding) → given tt ≡ usable b h
+      → ws ≡ windings_at r (parts_of b) → x ≡ or_no_such_winding (winding_named n ws)
+      → x ≡ winding_for b h r n
+  asked-usable x ws taken found is =
+      is ∙ ap (λ (q : OfRelay Winding). or_no_such_winding (winding_named n q)) found
+      ∙ sym (winding_for_sought (winding_named n (windings_at r (parts_of b))) (sym taken)
+      (sym (windings_named b r n (usable_given b h (sym taken)).0)))
 
   -- ---- the call
 
@@ -213,3 +217,33 @@ module _ (b : Board) (h : Kept) (r : ℕ) (n : Which) where
       sym (judging_by w (given v) taken)
       ∙ judged_all (sets_of b h.state) b.counts.terminals v w
       (fine_range b (winding_for_given v taken).0).terminals_few
+
+-- ---- what is asked for, and judged, is refused by the table alone
+
+sought-tabled : (o : Option Winding) → Tabled (or_no_such_winding o)
+sought-tabled (some v) = tabled_given v
+sought-tabled none = tabled_refused NoSuchWinding 0
+
+pub winding_for-tabled : (b : Board) (h : Kept) (r : ℕ) (n : Which) → Tabled (winding_for b h r n)
+unfolding winding_for TabledLines
+winding_for-tabled b h r n =
+    tabled_both _ _
+    (tabled_lines (judge_lines b h r n)
+    ((BrokenBoard, refl), ((StateBeyondBoard, refl), ((ForeignSets, refl), ((NoSuchWinding, refl), tt)))))
+    (sought-tabled (winding_of n r (parts_of b)))
+
+judged_by-tabled : (k : Sets) (t : ℕ) (v : Winding) (w : ℕ) → TabledVerdict (judged_by k t v w)
+judged_by-tabled k t v w =
+    subst TabledVerdict (sym (judged-weighed k t v w)) (weighed-tabled _ _ w)
+
+verdict_on-tabled : (b : Board) (h : Kept) (w : ℕ) (o : Outcome Winding) → Tabled o
+    → TabledVerdict (verdict_on b h.state o w)
+verdict_on-tabled b h w o (gives v is) =
+    subst (λ (q : Outcome Winding). TabledVerdict (verdict_on b h.state q w)) (sym is)
+    (judged_by-tabled (sets_of b h.state) b.counts.terminals v w)
+verdict_on-tabled b h w o (refuses k p is) =
+    subst (λ (q : Outcome Winding). TabledVerdict (verdict_on b h.state q w)) (sym is) (tabled_refused k p)
+
+pub judging-tabled : (b : Board) (h : Kept) (r : ℕ) (n : Which) (w : ℕ) → TabledVerdict (judging b h r n w)
+unfolding judging
+judging-tabled b h r n w = verdict_on-tabled b h w (winding_for b h r n) (winding_for-tabled b h r n)

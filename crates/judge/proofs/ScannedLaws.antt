@@ -1,18 +1,21 @@
--- Laws of a kind that carries a relay, and of a relay's windings among the parts: what the scan of a board's first C
--- parts needs.
+-- Laws of a relay's windings among the parts: what the scan of a board's parts needs.
 use Prim.Native.Nat.{ℕ, ◌+◌, ◌≤◌, ◌<◌}
-use mathlib.Core.Path.{◌≡◌, refl, sym, ap, ◌∙◌}
+use native.Mathlib.Numerals.{add-one}
+use mathlib.Core.Path.{◌≡◌, refl, sym, ap, ap₂, ◌∙◌}
 use mathlib.Core.Logic.{◌⊎◌, ⊎_elim}
 use mathlib.Core.Bool.{Bool, true, false, cond, ◌&&◌}
-use mathlib.Core.List.{List, [], ◌∷◌}
+use mathlib.Core.List.{List, [], ◌∷◌, ◌++◌}
+use Rattle.std.specs.Prelude as code
 use mathlib.Core.Option.{Option, none, some}
 use lib.Dec.{eqb}
-use lib.ListN.{length, get_or, take, drop}
+use lib.ListN.{length, get_or, take}
+use lib.Seq.{take-suc, take_all}
+use Rattle.bits.proofs.BoolLaws.{by_test}
 use borrow.Author.Tests.{eq-eqb, ne_eqb}
 use Rattle.refusals.specs.Outcomes.{given, refused}
 use Rattle.refusals.specs.Refusals.{no_such_winding}
 use Rattle.refusals.proofs.OutcomeLaws.{refused_never, given_injective}
-use Rattle.refusals.proofs.Told.{Told, answer_of, given_or_refused}
+use Rattle.refusals.proofs.Told.{Told}
 use Rattle.kinds.specs.declared.Kind.{Kind}
 use Rattle.kinds.specs.Kinds.{regular_kind, drawing_kind, dropping_kind, kind_number, name_of}
 use Rattle.board.specs.declared.Part.{Part}
@@ -23,41 +26,11 @@ use Rattle.search.specs.declared.Winding.{Winding}
 use Rattle.judge.specs.declared.Which.{Which}
 use Rattle.judge.specs.declared.Which.TheVariants.{First, Second}
 use Rattle.judge.specs.declared.Windings.{Windings}
-use Rattle.judge.specs.declared.Windings.TheVariants.{Regular, Steel, Absent}
+use Rattle.judge.specs.declared.Windings.TheVariants.{Regular, Steel}
 use Rattle.judge.specs.RelayWindings.{is_first, is_second, is_winding, ends_of, winding_of, OfRelay, regular}
 use Rattle.judge.specs.RelayWindings.{steel, absent, of_relay}
-use Rattle.judge.specs.declared.Asked.{Asked}
-use Rattle.judge.specs.declared.Asked.TheVariants.{Given, Refused}
-use Rattle.judge.specs.RelayWindings.{windings_at, winding_named, or_no_such_winding, told_windings, told_asked}
+use Rattle.judge.specs.RelayWindings.{windings_at, winding_named, or_no_such_winding, told_windings}
 use Rattle.judge.specs.RelayWindings.{seen_with}
-
--- ---- a kind that carries a relay, by its number n and its name m
-
-pub carries_same : (j r : ℕ) (k : Kind) (n m : ℕ) → n ≡ kind_number k → m ≡ name_of k → n ≡ j → eqb m r ≡ carries j r k
-unfolding carries
-carries_same j r k n m number name e = rw (name, eq-eqb (kind_number k) j (sym number ∙ e)) refl
-
-pub carries_other : (j r : ℕ) (k : Kind) (n : ℕ) → n ≡ kind_number k → ¬ (n ≡ j) → false ≡ carries j r k
-unfolding carries
-carries_other j r k n number d = rw (ne_eqb (kind_number k) j (λ e. d (number ∙ e))) refl
-
--- a kind that carries another number is no winding of the relay
-carries_else : (j r : ℕ) (k : Kind) → ¬ (name_of k ≡ r) → false ≡ carries j r k
-unfolding carries
-carries_else j r k other = rw (ne_eqb (name_of k) r other) (none (eqb (kind_number k) j))
-  where
-    none : (t : Bool) → false ≡ (t && false)
-    none true = refl
-    none false = refl
-
-pub named_neither : (r : ℕ) (k : Kind) (m : ℕ) → m ≡ name_of k → ¬ (m ≡ r)
-    → (false ≡ is_first r k) × (false ≡ is_second r k)
-named_neither r k m name other =
-    let else : ¬ (name_of k ≡ r) = λ e. other (name ∙ e) in (
-      rw (← carries_else regular_kind r k else) (carries_else drawing_kind r k else),
-      carries_else dropping_kind r k
-          else,
-    )
 
 -- ---- the winding among the parts
 
@@ -84,90 +57,65 @@ pub asked_refused : (o : Option Winding) (k p : ℕ) → or_no_such_winding o �
 asked_refused (some v) k p is = absurd (refused_never k p v (sym is))
 asked_refused none k p is = refl
 
--- no winding of a relay that is absent is there
-pub asked_absent : (n : Which) (x : Windings) → x ≡ Absent
-    → refused no_such_winding 0 ≡ or_no_such_winding (winding_named n (told_windings x))
-asked_absent First x is = simp is
-asked_absent Second x is = simp is
+-- ---- the scan: what is seen of a winding is the one among the parts so far
 
--- ---- the scan: after `seen` among the parts before, the winding among all is that, or else the one from here on
-
-abbrev pub or_else : Option Winding → Option Winding → Option Winding
-or_else (some v) o = some v
-or_else none o = o
-
--- one part more, which is the winding if t
-seen_on : (t : Bool) (o : Option Winding) (p : Part) (rest : Option Winding)
-    → or_else o (cond t (some (ends_of p)) rest) ≡ or_else (seen_with o p t) rest
-seen_on t (some v) p rest = refl
-seen_on true none p rest = refl
-seen_on false none p rest = refl
-
-seen_still : (o : Option Winding) (p : Part) → o ≡ seen_with o p false
-seen_still (some v) p = refl
-seen_still none p = refl
-
-pub seen_all : (o : Option Winding) → or_else o none ≡ o
-seen_all (some v) = refl
-seen_all none = refl
-
--- at place i of the first k parts of l
-module _ (n : Which) (r : ℕ) (l : List Part) (k i : ℕ) (all seen : Option Winding)
-    (here : all ≡ or_else seen (winding_of n r (drop i (take k l)))) where
-  pub scan_on : (next : Option Winding) (t : Bool) → i < k → i < length l → t ≡ is_winding n r (get_or l i blank).kind
-      → next ≡ seen_with seen (get_or l i blank) t → all ≡ or_else next (winding_of n r (drop (i + 1) (take k l)))
+module _ (n : Which) (r : ℕ) where
+  -- one part more
+  winding_append : (ps : List Part) (p : Part)
+      → winding_of n r (ps ++ (p ∷ [])) ≡ seen_with (winding_of n r ps) p (is_winding n r p.kind)
   unfolding winding_of
-  scan_on next t below there is more =
-      here ∙ ap (λ (ps : List Part). or_else seen (winding_of n r ps)) (taken_from blank l k i below there)
-      ∙ seen_on (is_winding n r (get_or l i blank).kind) seen (get_or l i blank)
-      (winding_of n r (drop (i + 1) (take k l)))
-      ∙ ap (λ (o : Option Winding). or_else o (winding_of n r (drop (i + 1) (take k l))))
-      (sym (more ∙ ap (seen_with seen (get_or l i blank)) is))
+  winding_append [] p = refl
+  winding_append (q ∷ ps) p =
+      by_test (is_winding n r q.kind)
+      (λ here. rw here refl)
+      (λ past. rw past (winding_append ps p))
 
-  -- a part that is no winding of the relay is passed
-  pub scan_past : i < k → i < length l → false ≡ is_winding n r (get_or l i blank).kind
-      → all ≡ or_else seen (winding_of n r (drop (i + 1) (take k l)))
-  scan_past below there is = scan_on seen false below there is (seen_still seen (get_or l i blank))
+  pub seen_starts : (l : List Part) → none ≡ winding_of n r (take 0 l)
+  unfolding winding_of
+  seen_starts l = refl
 
-  -- all the parts that count, or all the places of the array, have been passed
-  scan_end : (k ≤ i) ⊎ (length l ≤ i) → all ≡ seen
-  scan_end past =
-      here ∙ ap (λ (ps : List Part). or_else seen (winding_of n r ps))
-      (⊎_elim (taken_past blank l k i) (taken_full blank l k i) past)
-      ∙ ap (or_else seen) (winding_none n r) ∙ seen_all seen
+  -- at place i of l
+  pub seen_next : (l : List Part) (i : ℕ) (d : Part) (seen next : Option Winding) (t : Bool) → i < length l
+      → seen ≡ winding_of n r (take i l) → t ≡ is_winding n r (get_or l i d).kind
+      → next ≡ seen_with seen (get_or l i d) t → next ≡ winding_of n r (take (i + 1) l)
+  seen_next l i d seen next t there so is more =
+      let longer : take (i + 1) l ≡ take i l ++ (get_or l i d ∷ []) =
+      ap (λ (k : ℕ). take k l) (add-one i) ∙ take-suc l i d there in
+      more
+      ∙ ap (λ (u : Bool). seen_with seen (get_or l i d) u) is
+      ∙ ap (λ (o : Option Winding). seen_with o (get_or l i d) (is_winding n r (get_or l i d).kind)) so
+      ∙ sym (ap (winding_of n r) longer ∙ winding_append (take i l) (get_or l i d))
+
+  pub seen_ends : (l : List Part) (i : ℕ) (seen : Option Winding) → length l ≤ i → seen ≡ winding_of n r (take i l)
+      → seen ≡ winding_of n r l
+  seen_ends l i seen past so = so ∙ ap (winding_of n r) (take_all i l past)
 
 -- then what was seen of both windings is what the relay has
-pub scan_windings : (r : ℕ) (l : List Part) (k i : ℕ) (o q : Option Winding) (x : OfRelay Winding)
-    → winding_of First r (take k l) ≡ or_else o (winding_of First r (drop i (take k l)))
-    → winding_of Second r (take k l) ≡ or_else q (winding_of Second r (drop i (take k l)))
-    → (k ≤ i) ⊎ (length l ≤ i) → x ≡ of_relay o q → x ≡ windings_at r (take k l)
+pub seen_windings : (r : ℕ) (l ps : List Part) (i : ℕ) (o q : Option Winding) (x : OfRelay Winding) → l ≡ ps
+    → length l ≤ i → o ≡ winding_of First r (take i l) → q ≡ winding_of Second r (take i l) → x ≡ of_relay o q
+    → x ≡ windings_at r ps
 unfolding windings_at
-scan_windings r l k i o q x first second past is =
-    rw (scan_end First r l k i _ o first past, scan_end Second r l k i _ q second past) is
+seen_windings r l ps i o q x all past first second is =
+    is
+    ∙ ap₂ of_relay (seen_ends First r l i o past first) (seen_ends Second r l i q past second)
+    ∙ ap (λ (l : List Part). of_relay (winding_of First r l) (winding_of Second r l)) all
 
 -- ---- answers and what they tell
 
 pub windings-told : Told told_windings
 windings-told = record { untold = untold; back = back; onto = onto }
   where
-    untold : OfRelay Winding → Windings
-    untold (regular v) = Regular v
-    untold (steel v u) = Steel v u
-    untold absent = Absent
+    untold : OfRelay Winding → code.Option Windings
+    untold (regular v) = code.Some (Regular v)
+    untold (steel v u) = code.Some (Steel v u)
+    untold absent = code.None
 
-    back : (x : Windings) → untold (told_windings x) ≡ x
-    back (Regular v) = refl
-    back (Steel v u) = refl
-    back Absent = refl
+    back : (x : code.Option Windings) → untold (told_windings x) ≡ x
+    back (code.Some (Regular v)) = refl
+    back (code.Some (Steel v u)) = refl
+    back code.None = refl
 
     onto : (y : OfRelay Winding) → told_windings (untold y) ≡ y
     onto (regular v) = refl
     onto (steel v u) = refl
     onto absent = refl
-
-pub asked-told : Told told_asked
-asked-told = given_or_refused told_asked Given Refused (λ v. refl) (λ n p. refl) back
-  where
-    back : (x : Asked) → answer_of Given Refused (told_asked x) ≡ x
-    back (Given v) = refl
-    back (Refused r) = refl

@@ -19,11 +19,12 @@
 --                           `AsAfresh` of `judge_means` cites it
 --     at_once f             the finding f without effort, and no chain shown
 -- `judge_means` shows that `shunted` says what the request says, of a board whose counts and parts fit.
-use Rattle.std.specs.Prelude.{ℕ, ◌≡◌, Bool, cond, [], ◌∷◌, ◌++◌}
+use Rattle.std.specs.Prelude.{ℕ, ◌≡◌, Bool, Result, cond, [], ◌∷◌, ◌++◌}
 use Rattle.std.proofs.Math.Option.{none}
 use Rattle.bits.specs.Sets.{member, including}
-use Rattle.refusals.specs.Outcomes.{Outcome, given, refused, ◌>>◌}
+use Rattle.refusals.specs.Outcomes.{Outcome, given, refused, ◌>>◌, told}
 use Rattle.refusals.specs.Refusals.{no_such_winding}
+use Rattle.refusals.specs.declared.Refusal.{Refusal}
 use Rattle.refusals.specs.Order.{Order, first_no}
 use Rattle.board.specs.declared.Board.{Board}
 use Rattle.board.specs.Parts.{parts_of}
@@ -37,8 +38,7 @@ use Rattle.search.specs.declared.Winding.{Winding}
 use Rattle.search.specs.declared.Verdict as code-verdict
 use Rattle.search.specs.Verdicts.{Finding, Verdict, settled, verdict_by, places, in_sets, unanswered, told_verdict}
 use Rattle.judge.specs.declared.Which.{Which}
-use Rattle.judge.specs.declared.Asked.{Asked}
-use Rattle.judge.specs.RelayWindings.{winding_of, is_there, or_no_such_winding, told_asked}
+use Rattle.judge.specs.RelayWindings.{winding_of, is_there, or_no_such_winding}
 
 unfoldable pub shunted : Sets → Winding → Bool
 shunted k v = member (flooded k.bare (including 0 v.a) 0) v.b
@@ -59,8 +59,8 @@ verdict_on b s (refused n p) w = unanswered n p
 unfoldable pub judging : Board → Kept → ℕ → Which → ℕ → Verdict
 judging b h r n w = verdict_on b h.state (winding_for b h r n) w
 
-abbrev pub AsksFor : Board → Kept → ℕ → Which → Asked → Type 0
-AsksFor b h r n a = told_asked a ≡ winding_for b h r n
+abbrev pub AsksFor : Board → Kept → ℕ → Which → Result Winding Refusal → Type 0
+AsksFor b h r n a = told a ≡ winding_for b h r n
 
 abbrev pub FindsShunt : Sets → Winding → Bool → Type 0
 FindsShunt k v r = r ≡ shunted k v

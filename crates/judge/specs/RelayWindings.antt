@@ -16,15 +16,15 @@
 --     or_no_such_winding o         the winding o of which a call asks; where there is none, 11
 --     windings_if b r              the windings of relay r of board b; absent where it has no such relay
 --     told_windings                the answer's cases as windings
---     told_asked                   the cases of an answer to a call that asks for one, as a winding or a refusal
 --     FindsWindings b r x          promise: `find_windings` of relay r of board b answers x
 --     FindsAllWindings b x         promise: `find_all_windings` of board b answers x
 -- What the functions of this crate promise each other:
---     told_seen                    their answers' cases as a winding or none
+--     told_seen                    what the code has seen, as a winding or none
 --     seen_with o p t              what is seen of a winding after o was seen, with part p besides, which is it if t
 -- `judge_means` shows that on a board that breaks no rule 11 is given exactly if its line holds, and that the winding
 -- is the only one.
 use Rattle.std.specs.Prelude.{ℕ, ◌≡◌, Bool, true, false, cond, ◌||◌, List, [], ◌∷◌, map, ltb}
+use Rattle.std.specs.Prelude as code
 use Rattle.std.proofs.Math.Option.{Option, none, some}
 use Rattle.lists.specs.Tables.{table_from}
 use Rattle.refusals.specs.Outcomes.{Outcome, given, refused}
@@ -40,11 +40,7 @@ use Rattle.search.specs.declared.Winding.{Winding}
 use Rattle.judge.specs.declared.Which.{Which}
 use Rattle.judge.specs.declared.Which.TheVariants.{First, Second}
 use Rattle.judge.specs.declared.Windings.{Windings}
-use Rattle.judge.specs.declared.Windings.TheVariants.{Regular, Steel, Absent}
-use Rattle.judge.specs.declared.Seen.{Seen}
-use Rattle.judge.specs.declared.Seen.TheVariants.{Between, NotYet}
-use Rattle.judge.specs.declared.Asked.{Asked}
-use Rattle.judge.specs.declared.Asked.TheVariants.{Given, Refused}
+use Rattle.judge.specs.declared.Windings.TheVariants.{Regular, Steel}
 
 abbrev pub is_first : ℕ → Kind → Bool
 is_first r k = carries regular_kind r k || carries drawing_kind r k
@@ -91,27 +87,23 @@ abbrev pub or_no_such_winding : Option Winding → Outcome Winding
 or_no_such_winding (some v) = given v
 or_no_such_winding none = refused no_such_winding 0
 
-abbrev pub told_windings : Windings → OfRelay Winding
-told_windings (Regular v) = regular v
-told_windings (Steel v u) = steel v u
-told_windings Absent = absent
+abbrev pub told_windings : code.Option Windings → OfRelay Winding
+told_windings (code.Some (Regular v)) = regular v
+told_windings (code.Some (Steel v u)) = steel v u
+told_windings code.None = absent
 
-abbrev pub FindsWindings : Board → ℕ → Windings → Type 0
+abbrev pub FindsWindings : Board → ℕ → code.Option Windings → Type 0
 FindsWindings b r x = told_windings x ≡ windings_at r (parts_of b)
 
 unfoldable pub windings_if : Board → ℕ → OfRelay Winding
 windings_if b r = cond (ltb r b.counts.relays) (windings_at r (parts_of b)) absent
 
-abbrev pub FindsAllWindings : Board → List Windings → Type 0
+abbrev pub FindsAllWindings : Board → List (code.Option Windings) → Type 0
 FindsAllWindings b x = map told_windings x ≡ table_from (windings_if b) most_relays 0
 
-abbrev pub told_seen : Seen → Option Winding
-told_seen (Between v) = some v
-told_seen NotYet = none
-
-abbrev pub told_asked : Asked → Outcome Winding
-told_asked (Given v) = given v
-told_asked (Refused r) = refused r.number r.place
+abbrev pub told_seen : code.Option Winding → Option Winding
+told_seen (code.Some v) = some v
+told_seen code.None = none
 
 abbrev pub seen_with : Option Winding → Part → Bool → Option Winding
 seen_with (some v) p t = some v

@@ -1,11 +1,14 @@
 -- The laws of a number in decimal: its digits one by one, how many they are, and that they stand for it.
--- `put_digits` writes by the first of these; every line's length rests on `decimal_few`.
+-- What the library writes of a number is that; every line's length rests on `decimal_few`.
 use mathlib.Core.Path.{◌≡◌, refl, sym, ap, ◌∙◌}
 use mathlib.Core.List.{List, [], ◌∷◌, ◌++◌}
 use Prim.Native.Nat.{ℕ, zero, suc, ◌+◌, ◌-◌, ◌*◌, ◌/◌, ◌%◌, ◌^◌, ◌≤◌, ◌<◌}
 use native.Mathlib.Omega.{arith}
 use borrow.Author.Tests.{lt-ltb, le-ltb}
 use lib.ListN.{length, get_or, length-append, get_or-append}
+use Rattle.std.proofs.Common.{append_assoc}
+use Rattle.std.specs.Fmt as fmt
+use Rattle.std.proofs.lemmas.Fmt.{decimal_by_steps}
 use Rattle.bits.proofs.BoolLaws.{by_less}
 use Rattle.lines.specs.Texts.{digit, most_digits, digits_of, decimal, value_of}
 
@@ -104,3 +107,23 @@ digits_front (suc k) n some h =
 pub decimal_front : (n : ℕ) → 0 < n → n < 10 ^ most_digits → digit 0 < get_or (decimal n) 0 0
 unfolding decimal
 decimal_front n some h = digits_front 19 n some h
+
+-- ---- it is what the library writes of a number that fits a word
+
+library_steps : (m : ℕ) (ds : List ℕ) → 10 ≤ m → (m / 10 < 10 ^ most_digits → ds ≡ decimal (m / 10))
+    → m < 10 ^ most_digits → ds ++ ((48 + m % 10) ∷ []) ≡ decimal m
+library_steps m ds large is fits =
+    ap (λ (s : List ℕ). s ++ ((48 + m % 10) ∷ [])) (is (omega arith)) ∙ sym (decimal_more m large fits)
+
+library_decimal : (n : ℕ) → n < 2 ^ 64 → fmt.decimal n ≡ decimal n
+library_decimal n small =
+    decimal_by_steps (λ (m : ℕ) (ds : List ℕ). m < 10 ^ most_digits → ds ≡ decimal m)
+    (λ m one fits. sym (decimal_one m one)) library_steps n small (omega arith)
+
+-- a number pushed to a text, and then what stands after it
+pub number_pushed : (n : ℕ) (t u s then : List ℕ) → n < 2 ^ 64 → u ≡ t ++ fmt.decimal n → s ≡ u ++ then
+    → s ≡ t ++ (decimal n ++ then)
+number_pushed n t u s then small first second =
+    second
+    ∙ ap (λ (x : List ℕ). x ++ then) (first ∙ ap (λ (ds : List ℕ). t ++ ds) (library_decimal n small))
+    ∙ append_assoc t (decimal n) then

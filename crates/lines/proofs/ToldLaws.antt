@@ -1,31 +1,60 @@
 -- Lines, answers, and what they tell: each can be had from the other.
 use mathlib.Core.Path.{◌≡◌, refl}
-use Rattle.refusals.proofs.Told.{Told, answer_of, given_or_refused}
-use Rattle.runs.proofs.RunningLaws.{ending-told}
+use Rattle.std.specs.Prelude.{Result, Ok, Err}
+use Rattle.refusals.specs.Outcomes.{Outcome, given, refused}
+use Rattle.refusals.proofs.Told.{Told}
+use Rattle.runs.specs.declared.Ending as code-ending
+use Rattle.runs.specs.Runs.{Ending}
+use Rattle.runs.proofs.RunningLaws.{word-told}
+use Rattle.lines.specs.declared.Refused.{Refused}
 use Rattle.lines.specs.declared.Line as code
 use Rattle.lines.specs.declared.Line.TheVariants.{Event, Closing}
-use Rattle.lines.specs.declared.LineWritten.{LineWritten}
-use Rattle.lines.specs.declared.LineWritten.TheVariants.{Length, Refused}
-use Rattle.lines.specs.Lines.{Line, event, closing, told_line, told_line_written}
+use Rattle.lines.specs.Lines.{Line, event, closing, told_came, told_line}
+
+-- a run's word, or what refused it by any number
+came-told : Told told_came
+came-told = record { untold = untold; back = back; onto = onto }
+  where
+    untold : Outcome Ending → Result code-ending.Ending Refused
+    untold (given e) = Ok (word-told.untold e)
+    untold (refused n p) = Err (record { number = n; place = p })
+
+    back : (x : Result code-ending.Ending Refused) → untold (told_came x) ≡ x
+    back (Ok e) = λ i. Ok (word-told.back e i)
+    back (Err r) = refl
+
+    onto : (y : Outcome Ending) → told_came (untold y) ≡ y
+    onto (given e) = λ i. given (word-told.onto e i)
+    onto (refused n p) = refl
 
 pub line-told : Told told_line
 line-told = record { untold = untold; back = back; onto = onto }
   where
     untold : Line → code.Line
-    untold (event e o m d) = Event e (ending-told.untold o) m d
+    untold (event e o m d) = Event e (came-told.untold o) m d
     untold (closing n p) = Closing (record { number = n; place = p })
 
     back : (x : code.Line) → untold (told_line x) ≡ x
-    back (Event e w m d) = λ i. Event e (ending-told.back w i) m d
+    back (Event e w m d) = λ i. Event e (came-told.back w i) m d
     back (Closing r) = refl
 
     onto : (y : Line) → told_line (untold y) ≡ y
-    onto (event e o m d) = λ i. event e (ending-told.onto o i) m d
+    onto (event e o m d) = λ i. event e (came-told.onto o i) m d
     onto (closing n p) = refl
 
-pub line_written_told : Told told_line_written
-line_written_told = given_or_refused told_line_written Length Refused (λ a. refl) (λ n p. refl) back
+-- what writing a line answers, and the buffer afterwards
+pub written-tells : Tells {B = Outcome ℕ × List ℕ} (λ y. Tabled y.0) (λ (x : Result ℕ Refusal × List ℕ). (told x.0, x.1))
+written-tells = record { untold = untold; back = back; onto = onto }
   where
-    back : (x : LineWritten) → answer_of Length Refused (told_line_written x) ≡ x
-    back (Length n) = refl
-    back (Refused r) = refl
+    length_tells : Tells Tabled (told {A = ℕ})
+    length_tells = result-tells
+
+    untold : Outcome ℕ × List ℕ → Result ℕ Refusal × List ℕ
+    untold (o, l) = (length_tells.untold o, l)
+
+    back : (x : Result ℕ Refusal × List ℕ) → untold (told x.0, x.1) ≡ x
+    back (a, l) = λ i. (length_tells.back a i, l)
+
+    onto : (y : Outcome ℕ × List ℕ) → Tabled y.0
+        → ◌≡◌ {A = Outcome ℕ × List ℕ} (told (untold y).0, (untold y).1) y
+    onto (o, l) tabled = λ i. (length_tells.onto o tabled i, l)

@@ -1,4 +1,3 @@
 -- The definitions that the contracts cite, in reading order.
 pub mod Texts
 pub mod Lines
-pub mod Pieces

@@ -11,19 +11,20 @@
 --     line_lines out               the lines of a call that writes a line, or lines, into the buffer `out`: 16
 --     line_writing l out           what writing the line l into the buffer `out` answers, and the buffer afterwards:
 --                                  "Written bytes begin the buffer; the rest stays"
---     told_line, told_line_written a line and an answer in the rule book's words and numbers
+--     told_came, told_line         a run's word or what refused it, and a line, in the rule book's words and numbers
 --     WritesLine l out r out'      promise: `write_line` of the line l into the buffer `out` answers r, and leaves the
 --                                  buffer out'
-use Rattle.std.specs.Prelude.{ℕ, ◌≡◌, List, [], ◌∷◌, ◌++◌, leb, length, drop}
-use Rattle.refusals.specs.Outcomes.{Outcome, given, refused}
+use Rattle.std.specs.Prelude.{ℕ, ◌≡◌, Result, Ok, Err, List, [], ◌∷◌, ◌++◌, leb, length, drop}
+use Rattle.refusals.specs.declared.Refusal.{Refusal}
+use Rattle.refusals.specs.Outcomes.{Outcome, given, refused, told}
 use Rattle.refusals.specs.Refusals.{buffer_too_short}
 use Rattle.refusals.specs.Order.{Order, first_no, answering}
+use Rattle.runs.specs.declared.Ending as code-ending
 use Rattle.runs.specs.Runs.{Ending}
-use Rattle.runs.specs.Running.{told_ending}
+use Rattle.runs.specs.Running.{told_word}
 use Rattle.lines.specs.declared.Line as code
 use Rattle.lines.specs.declared.Line.TheVariants.{Event, Closing}
-use Rattle.lines.specs.declared.LineWritten.{LineWritten}
-use Rattle.lines.specs.declared.LineWritten.TheVariants.{Length, Refused}
+use Rattle.lines.specs.declared.Refused.{Refused}
 use Rattle.lines.specs.Texts.{decimal, spaced, ended, refused_text, word_text}
 
 pub data Line : Type 0 where
@@ -48,13 +49,13 @@ line_writing l out =
     (λ n p. (refused n p, out))
     (λ u. (given (length (line_text l)), line_text l ++ drop (length (line_text l)) out))
 
+abbrev pub told_came : Result code-ending.Ending Refused → Outcome Ending
+told_came (Ok e) = given (told_word e)
+told_came (Err r) = refused r.number r.place
+
 abbrev pub told_line : code.Line → Line
-told_line (Event e w m d) = event e (told_ending w) m d
+told_line (Event e w m d) = event e (told_came w) m d
 told_line (Closing r) = closing r.number r.place
 
-abbrev pub told_line_written : LineWritten → Outcome ℕ
-told_line_written (Length n) = given n
-told_line_written (Refused r) = refused r.number r.place
-
-abbrev pub WritesLine : code.Line → List ℕ → LineWritten → List ℕ → Type 0
-WritesLine l out r out' = ◌≡◌ {A = Outcome ℕ × List ℕ} (told_line_written r, out') (line_writing (told_line l) out)
+abbrev pub WritesLine : code.Line → List ℕ → Result ℕ Refusal → List ℕ → Type 0
+WritesLine l out r out' = ◌≡◌ {A = Outcome ℕ × List ℕ} (told r, out') (line_writing (told_line l) out)

@@ -1,59 +1,26 @@
--- Laws of what a relay does by plain tests, one for each way out of `regular` and `steel`; and by its windings, one for
--- each way out of `step`; and that a move turns its relay.
+-- Laws of what a relay does by its windings, one for each way out of `step`; and that a move turns its relay.
 use mathlib.Core.Path.{◌≡◌, refl, sym, ap, ◌∙◌}
-use mathlib.Core.Bool.{Bool, true, false, cond}
+use mathlib.Core.Bool.{Bool, true, false}
+use Rattle.std.specs.Prelude.{Option, Some}
 use Rattle.search.specs.declared.Winding.{Winding}
 use Rattle.judge.specs.declared.Windings.{Windings}
 use Rattle.judge.specs.declared.Windings.TheVariants as found
 use Rattle.judge.specs.RelayWindings.{OfRelay, regular, steel, absent, told_windings}
 use Rattle.moves.specs.Steps.{Move, drew, dropped, rests, conflict, regular_move, steel_move, move_by}
 
--- ---- a regular relay, drawn if d, its winding live if l
-
-pub regular_live : (d l : Bool) → l ≡ true → cond d rests drew ≡ regular_move d l
-unfolding regular_move
-regular_live true l live = rw live refl
-regular_live false l live = rw live refl
-
-pub regular_dead : (d l : Bool) → l ≡ false → cond d dropped rests ≡ regular_move d l
-unfolding regular_move
-regular_dead true l dead = rw dead refl
-regular_dead false l dead = rw dead refl
-
--- ---- a steel relay, drawn if d, its drawing winding live if x and its dropping winding live if y
-
-pub steel_conflict : (d x y : Bool) → x ≡ true → y ≡ true → conflict ≡ steel_move d x y
-unfolding steel_move
-steel_conflict d x y live also = rw (live, also) refl
-
-pub steel_draws : (d x y : Bool) → x ≡ true → y ≡ false → cond d rests drew ≡ steel_move d x y
-unfolding steel_move
-steel_draws true x y live dead = rw (live, dead) refl
-steel_draws false x y live dead = rw (live, dead) refl
-
-pub steel_drops : (d x y : Bool) → x ≡ false → y ≡ true → cond d dropped rests ≡ steel_move d x y
-unfolding steel_move
-steel_drops true x y dead live = rw (dead, live) refl
-steel_drops false x y dead live = rw dead refl
-
-pub steel_rests : (d x y : Bool) → x ≡ false → y ≡ false → rests ≡ steel_move d x y
-unfolding steel_move
-steel_rests true x y dead also = rw (dead, also) refl
-steel_rests false x y dead also = rw dead refl
-
 -- ---- either sort, by its windings x
 
-module _ (live : Winding → Bool) (d : Bool) (x : Windings) where
-  told_by : (y : Windings) → x ≡ y → move_by live d (told_windings y) ≡ move_by live d (told_windings x)
-  told_by y is = ap (λ (z : Windings). move_by live d (told_windings z)) (sym is)
+module _ (live : Winding → Bool) (d : Bool) (x : Option Windings) where
+  told_by : (y : Option Windings) → x ≡ y → move_by live d (told_windings y) ≡ move_by live d (told_windings x)
+  told_by y is = ap (λ (z : Option Windings). move_by live d (told_windings z)) (sym is)
 
-  pub moves_regular : (v : Winding) (l : Bool) (m : Move) → x ≡ found.Regular v → l ≡ live v → m ≡ regular_move d l
+  pub moves_regular : (v : Winding) (l : Bool) (m : Move) → x ≡ Some (found.Regular v) → l ≡ live v → m ≡ regular_move d l
       → m ≡ move_by live d (told_windings x)
-  moves_regular v l m is on moves = moves ∙ ap (regular_move d) on ∙ told_by (found.Regular v) is
+  moves_regular v l m is on moves = moves ∙ ap (regular_move d) on ∙ told_by (Some (found.Regular v)) is
 
-  pub moves_steel : (v u : Winding) (l k : Bool) (m : Move) → x ≡ found.Steel v u → l ≡ live v → k ≡ live u
+  pub moves_steel : (v u : Winding) (l k : Bool) (m : Move) → x ≡ Some (found.Steel v u) → l ≡ live v → k ≡ live u
       → m ≡ steel_move d l k → m ≡ move_by live d (told_windings x)
-  moves_steel v u l k m is on also moves = moves ∙ rw (on, also) refl ∙ told_by (found.Steel v u) is
+  moves_steel v u l k m is on also moves = moves ∙ rw (on, also) refl ∙ told_by (Some (found.Steel v u)) is
 
 -- ---- a relay that draws was dropped, and one that drops was drawn
 

@@ -6,28 +6,26 @@ use mathlib.Core.Path.{◌≡◌, refl, sym, ap, ◌∙◌}
 use mathlib.Core.Bool.{Bool, true, false}
 use lib.Dec.{ltb}
 use borrow.Author.Tests.{le-ltb, ltb-true, ltb-false}
-use Rattle.refusals.specs.declared.Refusal.{Refusal}
-use Rattle.refusals.specs.declared.Against.{Against}
-use Rattle.refusals.specs.declared.Against.TheVariants as stands
+use Rattle.refusals.specs.declared.No.{No}
+use Rattle.refusals.specs.declared.No.TheVariants.{NoSuchWinding, StateBeyondBoard, BrokenBoard, ForeignSets}
 use Rattle.refusals.specs.Outcomes.{Outcome, given, refused, ◌>>◌, unless}
-use Rattle.refusals.specs.Refusals.{no_such_winding}
-use Rattle.refusals.specs.Order.{told_against}
+use Rattle.refusals.specs.Refusals.{number_of, no_such_winding}
 use Rattle.refusals.proofs.OutcomeLaws.{refused_never, both_given, asked}
-use Rattle.refusals.proofs.OrderLaws.{asks_first, asks_then}
-use Rattle.refusals.proofs.Told.{Told, answer_of, given_or_refused, beside-told}
+use Rattle.refusals.proofs.OrderLaws.{asks_first}
+use Rattle.refusals.proofs.Told.{Told}
+use Rattle.refusals.proofs.Tabled.{Tabled, gives, refuses, tabled_given, TabledLines, tabled_lines}
+use Rattle.refusals.proofs.Tabled.{Tells, result-tells_as, beside-tells}
 use Rattle.board.specs.declared.Board.{Board}
 use Rattle.board.specs.Rules.{board_fine}
 use Rattle.state.specs.States.{state_fine}
 use Rattle.kept.specs.declared.Kept.{Kept}
-use Rattle.kept.specs.Kept.{kept_at, usable_lines, usable, left}
+use Rattle.kept.specs.Kept.{kept_at, usable, left}
 use Rattle.kept.proofs.KeptLaws.{kept_sets, usable_given, usable_lines_lem, usable_next}
 use Rattle.moves.specs.declared.Move as code-move
 use Rattle.moves.specs.declared.Move.TheVariants.{Drew, Dropped, Rests, Conflict}
-use Rattle.moves.specs.declared.MoveAnswer.{MoveAnswer}
-use Rattle.moves.specs.declared.MoveAnswer.TheVariants.{Says, Refused}
 use Rattle.moves.specs.Steps.{Move, drew, dropped, rests, conflict, step_by, step_of, made, kept_made}
 use Rattle.moves.specs.Steps.{told_move}
-use Rattle.moves.specs.Moving.{movable, moving, told_move_answer, told_moved}
+use Rattle.moves.specs.Moving.{move_lines, movable, moving, told_move_answer, told_moved}
 use Rattle.moves.proofs.StepLaws.{step_by_lem, kept_made_lem}
 
 module _ (b : Board) (h : Kept) (r : ℕ) where
@@ -37,8 +35,17 @@ module _ (b : Board) (h : Kept) (r : ℕ) where
   movable_next =
       usable_lines_lem b h _ ∙ ap (λ (o : Outcome (Unit {0})). usable b h >> o) (asks_first _ no_such_winding)
 
+  pub movable_unusable : {k p : ℕ} → usable b h ≡ refused k p → movable b h r ≡ refused k p
+  movable_unusable off = movable_next ∙ rw off refl
+
+  pub movable_there : usable b h ≡ given tt → ltb r b.counts.relays ≡ true → movable b h r ≡ given tt
+  movable_there fine below = movable_next ∙ rw (fine, below) refl
+
+  pub movable_past : usable b h ≡ given tt → ltb r b.counts.relays ≡ false → movable b h r ≡ refused no_such_winding 0
+  movable_past fine past = movable_next ∙ rw (fine, past) refl
+
   pub movable_lacking : usable b h ≡ given tt → b.counts.relays ≤ r → movable b h r ≡ refused no_such_winding 0
-  movable_lacking fine past = movable_next ∙ rw (fine, le-ltb r b.counts.relays past) refl
+  movable_lacking fine past = movable_past fine (le-ltb r b.counts.relays past)
 
   -- where a relay is moved, the board breaks no rule, the state fits it, the sets belong to both and the relay is there
   pub movable_given : movable b h r ≡ given tt → (usable b h ≡ given tt) × (r < b.counts.relays)
@@ -84,19 +91,6 @@ module _ (b : Board) (h : Kept) (r : ℕ) where
       ap (λ (k : Kept). (k, given m)) (leaves ∙ kept_made_lem b h r m own)
       ∙ moving_given m e (step_by_lem b h.state r h.sets m (kept_sets b h own) is)
 
--- what the code has asked, a, by the test t after o: its lines are those of the definition
-module _ (b : Board) (h : Kept) (r : ℕ) {t : Bool} {o : Outcome (Unit {0})} {a : Against} (first : o ≡ usable b h)
-    (there : t ≡ ltb r b.counts.relays) (next : told_against a ≡ (o >> unless t no_such_winding 0)) where
-  movable_asked : (x : Against) → a ≡ x → movable b h r ≡ told_against x
-  unfolding movable usable
-  movable_asked x is = sym (asks_then (usable_lines b h) no_such_winding first there next) ∙ ap told_against is
-
-  pub movable_nothing : a ≡ stands.Nothing → movable b h r ≡ given tt
-  movable_nothing is = movable_asked stands.Nothing is
-
-  pub movable_refused : (x : Refusal) → a ≡ stands.Refused x → movable b h r ≡ refused x.number x.place
-  movable_refused x is = movable_asked (stands.Refused x) is
-
 -- ---- answers and what they tell
 
 pub move-told : Told told_move
@@ -120,16 +114,28 @@ move-told = record { untold = untold; back = back; onto = onto }
     onto rests = refl
     onto conflict = refl
 
-move_answer_told : Told told_move_answer
-move_answer_told =
-    given_or_refused told_move_answer (λ m. Says (move-told.untold m)) Refused (λ m. ap given (move-told.onto m))
-    (λ n p. refl) back
-  where
-    back : (x : MoveAnswer) → answer_of (λ m. Says (move-told.untold m)) Refused (told_move_answer x) ≡ x
-    back (Says m) = ap Says (move-told.back m)
-    back (Refused r) = refl
-
-pub moved_told : Told told_moved
-moved_told =
-    beside-told told_move_answer move_answer_told (λ h a. record { kept = h; answer = a })
+pub moved-tells : Tells {B = Kept × Outcome Move} (λ y. Tabled y.1) told_moved
+moved-tells =
+    beside-tells told_move_answer (result-tells_as told_move move-told) (λ h a. record { kept = h; answer = a })
     (λ x. x.kept) (λ x. x.answer) (λ x. refl) (λ s a. refl)
+
+-- what a move can be refused by stands in the table
+movable-tabled : (b : Board) (h : Kept) (r : ℕ) → Tabled (movable b h r)
+unfolding movable TabledLines
+movable-tabled b h r =
+    tabled_lines (move_lines b h r)
+    ((BrokenBoard, refl), ((StateBeyondBoard, refl), ((ForeignSets, refl), ((NoSuchWinding, refl), tt))))
+
+pub moving-tabled : (b : Board) (h : Kept) (r : ℕ) → Tabled (moving b h r).1
+unfolding moving left
+moving-tabled b h r = by (movable b h r) (movable-tabled b h r)
+  where
+    table_number : (k p : ℕ) (n : No) (q : ℕ) → ◌≡◌ {A = Outcome (Unit {0})} (refused k p) (refused (number_of n) q)
+        → ◌≡◌ {A = Outcome Move} (refused k p) (refused (number_of n) q)
+    table_number k p n q is = ap (λ (o : Outcome (Unit {0})). o >> given drew) is
+
+    by : (o : Outcome (Unit {0})) → Tabled o
+        → Tabled (left h (λ m. kept_at b (made h.state r m)) (o >> given (step_of b h.state r))).1
+    by (given u) tabled = tabled_given _
+    by (refused k p) (gives u is) = absurd (refused_never k p u is)
+    by (refused k p) (refuses n q is) = refuses n q (table_number k p n q is)

@@ -7,15 +7,15 @@
 --                                  with the sets of the board in that state
 --     told_move_answer, told_moved the answer's cases in the rule book's words and numbers
 --     Moves b h r a                promise: `move_relay` of relay r of board b from h answers a
-use Rattle.std.specs.Prelude.{ℕ, ◌≡◌, [], ◌∷◌, ◌++◌, ltb}
-use Rattle.refusals.specs.Outcomes.{Outcome, given, refused, ◌>>◌}
+use Rattle.std.specs.Prelude.{ℕ, ◌≡◌, Result, [], ◌∷◌, ◌++◌, ltb}
+use Rattle.refusals.specs.declared.Refusal.{Refusal}
+use Rattle.refusals.specs.Outcomes.{Outcome, given, ◌>>◌, told_as}
 use Rattle.refusals.specs.Refusals.{no_such_winding}
 use Rattle.refusals.specs.Order.{Order, first_no}
 use Rattle.board.specs.declared.Board.{Board}
 use Rattle.kept.specs.declared.Kept.{Kept}
 use Rattle.kept.specs.Kept.{kept_at, usable_lines, left}
-use Rattle.moves.specs.declared.MoveAnswer.{MoveAnswer}
-use Rattle.moves.specs.declared.MoveAnswer.TheVariants.{Says, Refused}
+use Rattle.moves.specs.declared.Move as code-move
 use Rattle.moves.specs.declared.Moved.{Moved}
 use Rattle.moves.specs.Steps.{Move, step_of, made, told_move}
 
@@ -29,9 +29,8 @@ unfoldable pub moving : Board → Kept → ℕ → Kept × Outcome Move
 moving b h r =
     left h (λ m. kept_at b (made h.state r m)) (movable b h r >> given (step_of b h.state r))
 
-abbrev pub told_move_answer : MoveAnswer → Outcome Move
-told_move_answer (Says m) = given (told_move m)
-told_move_answer (Refused r) = refused r.number r.place
+abbrev pub told_move_answer : Result code-move.Move Refusal → Outcome Move
+told_move_answer a = told_as told_move a
 
 abbrev pub told_moved : Moved → Kept × Outcome Move
 told_moved r = (r.kept, told_move_answer r.answer)

@@ -19,7 +19,7 @@
 --                               and the linked ones l, answers m
 --     AfterMove b h r m t       promise: `after` relay r of board b came to m from h answers t
 -- `moves_means` shows that a winding is taken for live exactly if the judge of `divide` says that it is.
-use Rattle.std.specs.Prelude.{ℕ, ◌≡◌, Bool, not, cond, ◌&&◌, List}
+use Rattle.std.specs.Prelude.{ℕ, ◌≡◌, Bool, not, cond, ◌&&◌, List, Option}
 use Rattle.board.specs.declared.Board.{Board}
 use Rattle.board.specs.Parts.{parts_of}
 use Rattle.state.specs.declared.State.{State}
@@ -77,7 +77,7 @@ told_move said.Dropped = dropped
 told_move said.Rests = rests
 told_move said.Conflict = conflict
 
-abbrev pub StepsRelay : ℕ → List ℕ → Windings → Bool → code-move.Move → Type 0
+abbrev pub StepsRelay : ℕ → List ℕ → Option Windings → Bool → code-move.Move → Type 0
 StepsRelay n l x d m = told_move m ≡ move_by (live_by n l) d (told_windings x)
 
 abbrev pub AfterMove : Board → Kept → ℕ → code-move.Move → Kept → Type 0

@@ -1,38 +1,28 @@
--- Laws of one row of sets that is changed in place: one for each way out of the functions of `row` and of
--- `bridge_both`, and for the loops of `row::clear` and `gather`.
+-- Laws of one row of sets that is changed in place: one for each way out of the functions of `row`, and for the loops
+-- of `row::clear` and `gather`.
 use Prim.Native.Nat.{ℕ, ◌+◌, ◌-◌, ◌≤◌, ◌<◌}
 use native.Mathlib.Omega.{arith}
 use mathlib.Core.Path.{◌≡◌, refl, sym, ap, subst, ◌∙◌}
-use mathlib.Core.Logic.{◌⊎◌}
-use mathlib.Core.Bool.{Bool, true, false}
-use mathlib.Core.List.{List, [], ◌∷◌}
+use mathlib.Core.Bool.{Bool, true, false, ◌&&◌}
+use mathlib.Core.List.{List, [], ◌∷◌, ◌++◌}
+use Rattle.std.specs.Prelude.{Option, Some, None}
 use lib.Dec.{eqb}
-use lib.ListN.{length, get_or, set, take, drop, length-set}
+use lib.ListN.{length, get_or, set, length-set}
 use lib.Seq.{get_or-set_same, get_or-set_other, ext_get_or}
 use borrow.Author.Tests.{eqb-true, eqb-false}
-use Rattle.bits.specs.Sets.{member, including, remaining, room, lowest_from}
+use Rattle.bits.specs.Sets.{member, including, remaining, room, lowest_from, member_from}
 use Rattle.bits.proofs.BoolLaws.{by_test, by_less}
-use Rattle.bits.proofs.LowestLaws.{lowest-found, lowest_after, lowest_between}
-use Rattle.lists.proofs.FirstLaws.{DownFrom, down_starts, down_on, down_ends}
+use Rattle.bits.proofs.LowestLaws.{lowest-found, lowest_after, lowest_between, member_from_found, member_from_lacks}
 use Rattle.kinds.specs.declared.Kind.{Kind}
 use Rattle.board.specs.declared.Part.{Part}
-use Rattle.board.specs.Parts.{blank, most_parts}
 use Rattle.board.specs.Rules.{most_terminals}
 use Rattle.lists.proofs.TableLaws.{table-length, table_at}
 use Rattle.neighbours.specs.Neighbours.{with_other, with_part, set_from}
 use Rattle.neighbours.specs.Rows.{EachSet, only_at, without, among, among_by, gathered}
 use Rattle.neighbours.proofs.SetAtLaws.{with_other_here, with_other_else, with_part_joining, with_part_open}
-use Rattle.neighbours.proofs.SetAtLaws.{from_none, from_next}
+use Rattle.neighbours.proofs.SetAtLaws.{from_none}
 
--- ---- one law for each way out of `is_among`, `join`, `bridge` and `bridge_both`
-
--- the ends of part p, by the numbers w and z that are made of them
-module _ (at : ℕ) (p : Part) (w : ℕ) {t : Bool} (same : w ≡ p.a) (is : t ≡ member at w) where
-  pub among_second : (z : ℕ) {r : Bool} → t ≡ true → z ≡ p.b → r ≡ member at z → r ≡ among at p
-  among_second z on also so = so ∙ rw (← same, ← is, on, also) refl
-
-  pub among_not : t ≡ false → false ≡ among at p
-  among_not off = rw (← same, ← is, off) refl
+-- ---- one law for each way out of `join` and `bridge`
 
 pub each_same : (near : List ℕ) (f : ℕ → ℕ → ℕ)
     → ((x : ℕ) → x < most_terminals → f x (get_or near x 0) ≡ get_or near x 0)
@@ -75,19 +65,14 @@ bridge_joining t p near mid next on first second =
           ∙ sym (with_part_joining t p x (get_or near x 0) on);
     }
 
+-- a part joins by a test that its kind passes
+pub each_by : (at : ℕ) (f : Kind → Bool) (p : Part) (near next : List ℕ) (t : Bool) → t ≡ f p.kind
+    → EachSet near next (with_part (among at p && t) p) → EachSet near next (with_part (among_by at f p) p)
+each_by at f p near next t by each =
+    subst (λ (u : Bool). EachSet near next (with_part (among at p && u) p)) by each
+
 pub bridge_open : (t : Bool) (p : Part) (near : List ℕ) → t ≡ false → EachSet near near (with_part t p)
 bridge_open t p near off = each_same near (with_part t p) (λ x below. with_part_open t p x (get_or near x 0) off)
-
--- a part with both ends among the terminals goes by the test u, any other joins nothing
-module _ (at : ℕ) (f : Kind → Bool) (p : Part) (near : List ℕ) {t : Bool} (is : t ≡ among at p) where
-  pub bridge-among : (next : List ℕ) {u : Bool} → t ≡ true → u ≡ f p.kind → EachSet near next (with_part u p)
-      → EachSet near next (with_part (among_by at f p) p)
-  bridge-among next {u} on by each =
-      let known : u ≡ among_by at f p = by ∙ rw (← is, on) refl in
-      subst (λ (v : Bool). EachSet near next (with_part v p)) known each
-
-  pub bridge_apart : t ≡ false → EachSet near near (with_part (among_by at f p) p)
-  bridge_apart off = bridge_open (among_by at f p) p near (rw (← is, off) refl)
 
 -- ---- on the way up along the terminals of a set, in `clear`: those below x are done, the others are as they were
 
@@ -104,59 +89,103 @@ pub record ClearedBelow (at : ℕ) (start : List ℕ) (x : ℕ) (near : List ℕ
   pub left : (y : ℕ) → y < most_terminals → x ≤ y → get_or near y 0 ≡ get_or start y 0
   pub here : x < room → member at x ≡ true
 
--- the lowest member from some number up is a member, where there is one
-lowest_here : (at n x : ℕ) → x ≡ lowest_from at n → x < room → member at x ≡ true
-lowest_here at n x lowest below = ap (member at) lowest ∙ lowest-found at n (omega (arith, lowest, below))
+-- the terminal that is next, or where there is none the room of a word
+abbrev pub next_or_room : Option ℕ → ℕ
+next_or_room None = room
+next_or_room (Some x) = x
+
+pub record ClearedTo (at : ℕ) (start : List ℕ) (next : Option ℕ) (near : List ℕ) : Type 0 where
+  pub cleared : ClearedBelow at start (next_or_room next) near
+  pub within : (x : ℕ) → next ≡ Some x → x < room
+
+-- the lowest member from n up: no member lies before it, and it is one, where there is one
+record NextFrom (at n : ℕ) (x : ℕ) : Type 0 where
+  after : n ≤ x
+  before : x ≤ lowest_from at n
+  here : x < room → member at x ≡ true
+
+next_from : (at n : ℕ) (next : Option ℕ) → n ≤ room → next ≡ member_from at n → NextFrom at n (next_or_room next)
+next_from at n None start lowest =
+    record { after = start; before = member_from_lacks at n lowest; here = λ below. absurd (omega (arith, below)) }
+next_from at n (Some x) start lowest =
+    let found = member_from_found at n x lowest in
+    record {
+      after = omega (arith, found.1, lowest_after at n);
+      before = omega (arith, found.1);
+      here = λ below. ap (member at) found.1 ∙ lowest-found at n (omega (arith, found.1, below));
+    }
+
+next-within : (at n : ℕ) (next : Option ℕ) → next ≡ member_from at n → (x : ℕ) → next ≡ Some x → x < room
+next-within at n next lowest x is = (member_from_found at n x (sym is ∙ lowest)).0
 
 -- the next is later
-pub clear_after : (at x next : ℕ) → next ≡ lowest_from at (x + 1) → x < next
-clear_after at x next lowest = omega (arith, lowest, lowest_after at (x + 1))
+pub clear_after : (at x : ℕ) (this next : Option ℕ) → this ≡ Some x → x < room → next ≡ member_from at (x + 1)
+    → room - next_or_room next < room - next_or_room this
+clear_after at x this next is below lowest =
+    let from = next_from at (x + 1) next (omega (arith, below)) lowest in
+    subst (λ (o : Option ℕ). room - next_or_room next < room - next_or_room o) (sym is)
+    (omega (arith, below, from.after))
 
 module _ (at : ℕ) (start : List ℕ) where
   -- no terminal of the set lies before its lowest one
-  pub clear_starts : (x : ℕ) → x ≡ lowest_from at 0 → ClearedBelow at start x start
-  clear_starts x lowest =
+  pub clear_starts : (next : Option ℕ) → next ≡ member_from at 0 → ClearedTo at start next start
+  clear_starts next lowest =
+      let from = next_from at 0 next (omega arith) lowest in
       record {
-        many = refl;
-        done = λ y below before. sym (only_else at y _ (without at)
-            (lowest_between at 0 y (omega arith) (omega (arith, before, lowest))));
-        left = λ y below from. refl;
-        here = lowest_here at 0 x lowest;
+        cleared = record {
+          many = refl;
+          done = λ y below before. sym (only_else at y _ (without at)
+              (lowest_between at 0 y (omega arith) (omega (arith, before, from.before))));
+          left = λ y below from. refl;
+          here = from.here;
+        };
+        within = next-within at 0 next lowest;
       }
 
-  pub clear_on : (x next w : ℕ) (near : List ℕ) → length start ≡ most_terminals → ClearedBelow at start x near
-      → x < room → w ≡ remaining (get_or near x 0) at → next ≡ lowest_from at (x + 1)
-      → ClearedBelow at start next (set near x w)
-  clear_on x next w near long so below new lowest =
+  module _ (x w : ℕ) (near : List ℕ) (long : length start ≡ most_terminals) (so : ClearedBelow at start x near)
+      (below : x < room) (new : w ≡ remaining (get_or near x 0) at) where
+    at_x : (y : ℕ) → y ≡ x → get_or (set near x w) y 0 ≡ only_at at (without at) y (get_or start y 0)
+    at_x y same =
+        ap (λ (z : ℕ). get_or (set near x w) z 0) same
+        ∙ get_or-set_same near x w 0 (omega (arith, so.many, long, below))
+        ∙ new ∙ ap (λ (k : ℕ). remaining k at) (so.left x below (omega arith))
+        ∙ ap (λ (z : ℕ). remaining (get_or start z 0) at) (sym same)
+        ∙ sym (only_here at y _ (without at) (ap (member at) same ∙ so.here below))
+
+    cleared_on : (next : ℕ) → NextFrom at (x + 1) next → ClearedBelow at start next (set near x w)
+    cleared_on next is =
+        record {
+          many = length-set near x w ∙ so.many;
+          done = λ y inside before. by_less y x
+              (λ earlier. get_or-set_other near x y w 0 (λ e. omega (arith, e, earlier)) ∙ so.done y inside earlier)
+              (λ from. by_test (eqb y x)
+              (λ same. at_x y (eqb-true y x same))
+              (λ differ. let later : x + 1 ≤ y = omega (arith, from, eqb-false y x differ) in
+              get_or-set_other near x y w 0 (eqb-false y x differ) ∙ so.left y inside from
+              ∙ sym (only_else at y _ (without at)
+              (lowest_between at (x + 1) y later (omega (arith, before, is.before))))));
+          left = λ y inside from. get_or-set_other near x y w 0 (λ e. omega (arith, e, from, is.after))
+              ∙ so.left y inside (omega (arith, from, is.after));
+          here = is.here;
+        }
+
+  pub clear_on : (x w : ℕ) (this next : Option ℕ) (near : List ℕ) → length start ≡ most_terminals
+      → ClearedTo at start this near → this ≡ Some x → w ≡ remaining (get_or near x 0) at
+      → next ≡ member_from at (x + 1) → ClearedTo at start next (set near x w)
+  clear_on x w this next near long so is new lowest =
+      let below = so.within x is in
+      let was = subst (λ (o : Option ℕ). ClearedBelow at start (next_or_room o) near) is so.cleared in
       record {
-        many = length-set near x w ∙ so.many;
-        done = λ y inside before. by_less y x
-            (λ earlier. get_or-set_other near x y w 0 (λ e. omega (arith, e, earlier)) ∙ so.done y inside earlier)
-            (λ from. by_test (eqb y x)
-            (λ same. at_x y (eqb-true y x same))
-            (λ differ. let later : x + 1 ≤ y = omega (arith, from, eqb-false y x differ) in
-            get_or-set_other near x y w 0 (eqb-false y x differ) ∙ so.left y inside from
-            ∙ sym (only_else at y _ (without at) (lowest_between at (x + 1) y later (omega (arith, before, lowest))))));
-        left = λ y inside from. get_or-set_other near x y w 0 (λ e. omega (arith, e, from, after)) ∙ so.left y inside
-            (omega (arith, from, after));
-        here = lowest_here at (x + 1) next lowest;
+        cleared = cleared_on x w near long was below new (next_or_room next)
+            (next_from at (x + 1) next (omega (arith, below)) lowest);
+        within = next-within at (x + 1) next lowest;
       }
-    where
-      after : x < next
-      after = clear_after at x next lowest
 
-      at_x : (y : ℕ) → y ≡ x → get_or (set near x w) y 0 ≡ only_at at (without at) y (get_or start y 0)
-      at_x y same =
-          ap (λ (z : ℕ). get_or (set near x w) z 0) same
-          ∙ get_or-set_same near x w 0 (omega (arith, so.many, long, below))
-          ∙ new ∙ ap (λ (k : ℕ). remaining k at) (so.left x below (omega arith))
-          ∙ ap (λ (z : ℕ). remaining (get_or start z 0) at) (sym same)
-          ∙ sym (only_here at y _ (without at) (ap (member at) same ∙ so.here below))
-
-  pub clear-ends : (x : ℕ) (near : List ℕ) → ClearedBelow at start x near → room ≤ x
+  pub clear-ends : (this : Option ℕ) (near : List ℕ) → ClearedTo at start this near → this ≡ None
       → EachSet start near (only_at at (without at))
-  clear-ends x near so past =
-      record { many = so.many; each = λ y below. so.done y below (omega (arith, below, past)) }
+  clear-ends this near so is =
+      let all = subst (λ (o : Option ℕ). ClearedBelow at start (next_or_room o) near) is so.cleared in
+      record { many = all.many; each = λ y below. all.done y below below }
 
 -- ---- part by part, in `gather`
 
@@ -178,36 +207,20 @@ module _ (g : Part → Bool) (ps : List Part) (near : List ℕ) where
       let below : x < most_terminals = omega (arith, long, inside) in
       each x below ∙ sym (gathered_at x below))
 
-gathered_none : (g : Part → Bool) (start : List ℕ) → length start ≡ most_terminals → start ≡ gathered g [] start
-gathered_none g start long = gathered_each g [] start start long (λ x below. sym (from_none g x (get_or start x 0)))
+-- the last of the parts first: what it joins, and then the others
+from_last : (g : Part → Bool) (x k : ℕ) (ps : List Part) (p : Part)
+    → set_from g x k (ps ++ (p ∷ [])) ≡ set_from g x (with_part (g p) p x k) ps
+unfolding set_from
+from_last g x k [] p = refl
+from_last g x k (q ∷ ps) p = ap (with_part (g q) q x) (from_last g x k ps p)
 
-gathered_next : (g : Part → Bool) (p : Part) (ps : List Part) (start near next : List ℕ) → near ≡ gathered g ps start
-    → EachSet near next (with_part (g p) p) → next ≡ gathered g (p ∷ ps) start
-gathered_next g p ps start near next is more =
-    gathered_each g (p ∷ ps) start next (more.many ∙ ap length is ∙ gathered-length g ps start)
-    (λ x below. more.each x below
-    ∙ ap (λ (k : List ℕ). with_part (g p) p x (get_or k x 0)) is
-    ∙ ap (with_part (g p) p x) (gathered_at g ps start x below) ∙ sym (from_next g x (get_or start x 0) p ps))
+pub gathered_last : (g : Part → Bool) (ps : List Part) (p : Part) (near next : List ℕ)
+    → EachSet near next (with_part (g p) p) → gathered g (ps ++ (p ∷ [])) near ≡ gathered g ps next
+gathered_last g ps p near next more =
+    gathered_each g ps next (gathered g (ps ++ (p ∷ [])) near) (gathered-length g (ps ++ (p ∷ [])) near)
+    (λ x below. gathered_at g (ps ++ (p ∷ [])) near x below
+    ∙ from_last g x (get_or near x 0) ps p
+    ∙ ap (λ (k : ℕ). set_from g x k ps) (sym (more.each x below)))
 
--- the sets with those besides that the parts from a place on join
-abbrev pub RowFrom : (Part → Bool) → List Part → ℕ → List ℕ → ℕ → List ℕ → Type 0
-RowFrom g l n start i near = DownFrom (λ (ps : List Part). gathered g ps start) l n most_parts i near
-
-module _ (g : Part → Bool) (l : List Part) (n : ℕ) (start : List ℕ) (i : ℕ) where
-  pub row_starts : length l ≡ most_parts → ((most_parts < n) × (i ≡ most_parts)) ⊎ ((n ≤ most_parts) × (i ≡ n))
-      → length start ≡ most_terminals → RowFrom g l n start i start
-  row_starts long from many = down_starts blank _ l n most_parts i start long from (gathered_none g start many)
-
-  -- one part more
-  pub row_on : (near next : List ℕ) → RowFrom g l n start i near → 0 < i
-      → EachSet near next (with_part (g (get_or l (i - 1) blank)) (get_or l (i - 1) blank))
-      → RowFrom g l n start (i - 1) next
-  row_on near next so more each =
-      down_on blank _ l n most_parts i near next so more
-      (λ ps is. gathered_next g (get_or l (i - 1) blank) ps start near next is each)
-
-  pub row_long : (near : List ℕ) → RowFrom g l n start i near → length near ≡ most_terminals
-  row_long near so = ap length so.here ∙ gathered-length g (drop i (take n l)) start
-
-  pub row_ends : (near : List ℕ) → RowFrom g l n start i near → i ≤ 0 → near ≡ gathered g (take n l) start
-  row_ends near so end = down_ends blank (λ (ps : List Part). gathered g ps start) l n most_parts i near so end
+pub gathered_none : (g : Part → Bool) (near : List ℕ) → length near ≡ most_terminals → gathered g [] near ≡ near
+gathered_none g near long = sym (gathered_each g [] near near long (λ x below. sym (from_none g x (get_or near x 0))))

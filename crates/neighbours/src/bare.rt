@@ -1,28 +1,24 @@
 // Which parts conduct and are no windings: those by which a winding is shunted (request A4).
-ghost use Rattle.std.specs.Prelude.{◌≡◌, not, ◌&&◌};
-ghost use Rattle.neighbours.specs.Conduction.{winds};
+ghost use Rattle.std.specs.Prelude.{◌≡◌};
+ghost use Rattle.neighbours.specs.Conduction.{winds, conducts_bare};
 
+use crate::conducts;
 use kinds::Kind;
+use state::State;
 
 // Whether a part of this kind is a winding.
 fn winds(kind: Kind) -> bool
     ensures { result ≡ winds kind }
 {
-    match kind {
-        Kind::Wire => false,
-        Kind::Upper(_) => false,
-        Kind::Lower(_) => false,
-        Kind::Button(_) => false,
-        Kind::Regular(_) => true,
-        Kind::Drawing(_) => true,
-        Kind::Dropping(_) => true,
-        Kind::Mark(_) => false,
-    }
+    matches!(
+        kind,
+        Kind::Regular(_) | Kind::Drawing(_) | Kind::Dropping(_)
+    )
 }
 
-// Whether a part of this kind is no winding and conducts; whether it conducts is handed in.
-pub fn is_bare(kind: Kind, conducting: bool) -> bool
-    ensures { result ≡ not (winds kind) && conducting }
+// Whether a part of this kind conducts in this state and is no winding.
+pub fn conducts_bare(kind: Kind, state: State) -> bool
+    ensures { result ≡ conducts_bare state kind }
 {
-    if winds(kind) { false } else { conducting }
+    !winds(kind) && conducts(kind, state)
 }

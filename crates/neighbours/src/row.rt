@@ -1,10 +1,9 @@
 // One row of sets, a set for each of 64 terminals, changed in place.
-ghost use Rattle.std.specs.Prelude.{◌≡◌, length};
+ghost use Rattle.std.specs.Prelude.{◌≡◌, ◌&&◌, length};
 ghost use Rattle.board.specs.Rules.{most_terminals};
 ghost use Rattle.neighbours.specs.Neighbours.{with_other, with_part};
-ghost use Rattle.neighbours.specs.Rows.{EachSet, only_at, without};
+ghost use Rattle.neighbours.specs.Rows.{EachSet, among, only_at, without};
 
-use bits::ROOM;
 use board::{MOST_TERMINALS, Part};
 
 // Parts these terminals from each other: the set of each of them loses those of them that it has.
@@ -12,11 +11,11 @@ pub fn clear(near: &mut [u64; 64], at: u64)
     requires { length near.old ≡ most_terminals }
     ensures { EachSet near.old near.new (only_at at (without at)) }
 {
-    let mut x = bits::lowest_from(at, 0);
-    while x < ROOM {
+    let mut next = bits::lowest_from(at, 0);
+    while let Some(x) = next {
         let place = x as usize;
         near[place] = bits::remaining(near[place], at);
-        x = bits::lowest_from(at, x + 1);
+        next = bits::lowest_from(at, x + 1);
     }
 }
 
@@ -26,17 +25,24 @@ fn join(near: &mut [u64; 64], x: u8, y: u8)
     ensures { EachSet near.old near.new (with_other x y) }
 {
     if x < MOST_TERMINALS {
-        let place = x as usize;
-        near[place] = bits::with(near[place], bits::wide(y));
+        let place = usize::from(x);
+        near[place] = bits::with(near[place], u32::from(y));
     }
 }
 
-// Joins the ends of a part besides, in both directions, if it is one that joins.
-pub fn bridge(near: &mut [u64; 64], part: Part, joins: bool)
-    requires { length near.old ≡ most_terminals }
-    ensures { EachSet near.old near.new (with_part joins part) }
+// Whether both ends of a part are among these terminals.
+fn is_among(part: &Part, at: u64) -> bool
+    ensures { result ≡ among at part.now }
 {
-    if joins {
+    bits::has(at, u32::from(part.a)) && bits::has(at, u32::from(part.b))
+}
+
+// Joins the ends of a part besides, in both directions, if both are among these terminals and it is one that joins.
+pub fn bridge(near: &mut [u64; 64], at: u64, part: &Part, joins: bool)
+    requires { length near.old ≡ most_terminals }
+    ensures { EachSet near.old near.new (with_part (among at part.now && joins) part.now) }
+{
+    if is_among(part, at) && joins {
         join(near, part.a, part.b);
         join(near, part.b, part.a);
     }

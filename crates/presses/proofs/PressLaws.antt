@@ -1,18 +1,17 @@
 -- Laws of the calls that push and release a button: that an answer is known by what it tells, when 12 alone can stand
--- against it, and what the proofs of `pressable`, `leave`, `push` and `release` need.
+-- against it, and what the proofs of `pressable`, `set`, `push` and `release` need.
 use Prim.Native.Nat.{ℕ}
 use mathlib.Core.Path.{◌≡◌, refl, ap, ◌∙◌}
-use mathlib.Core.Bool.{Bool, true}
-use mathlib.Core.List.{[], ◌∷◌, ◌++◌}
+use mathlib.Core.Bool.{Bool, true, false}
+use Rattle.std.specs.Prelude.{Result, Ok, Err}
 use lib.Dec.{ltb}
 use Rattle.refusals.specs.declared.Refusal.{Refusal}
-use Rattle.refusals.specs.declared.Against.{Against}
-use Rattle.refusals.specs.declared.Against.TheVariants as stands
-use Rattle.refusals.specs.Outcomes.{Outcome, given, refused, unless, ◌>>◌}
+use Rattle.refusals.specs.declared.No.TheVariants.{NoSuchName, AlreadySo, StateBeyondBoard, BrokenBoard, ForeignSets}
+use Rattle.refusals.specs.Outcomes.{Outcome, given, refused, unless, told}
 use Rattle.refusals.specs.Refusals.{no_such_name, already_so}
-use Rattle.refusals.specs.Order.{first_no, told_against}
-use Rattle.refusals.proofs.OrderLaws.{asks_first, asks_then, first_holds, all_hold}
-use Rattle.refusals.proofs.Told.{Told, answer_of, given_or_refused, beside-told}
+use Rattle.refusals.specs.Order.{first_no}
+use Rattle.refusals.proofs.OrderLaws.{asks_first, first_holds, all_hold}
+use Rattle.refusals.proofs.Tabled.{Tabled, TabledLines, tabled_lines, Tells, result-tells, beside-tells}
 use Rattle.board.specs.declared.Board.{Board}
 use Rattle.state.specs.declared.State.{State}
 use Rattle.state.specs.States.{is_drawn, is_pushed, with_pushed, with_released}
@@ -23,33 +22,44 @@ use Rattle.kept.specs.Kept.{kept_at, usable_lines, usable, left}
 use Rattle.kept.specs.Upkeep.{changed_to}
 use Rattle.kept.proofs.KeptLaws.{usable_given, usable_lines_lem}
 use Rattle.kept.proofs.UpkeepLaws.{button-kept}
-use Rattle.presses.specs.declared.Press.{Press}
-use Rattle.presses.specs.declared.Press.TheVariants.{Done, Refused}
-use Rattle.presses.specs.Presses.{press_lines, told_press, told_pressed}
+use Rattle.presses.specs.Presses.{press_lines, push_lines, release_lines, pushing, releasing, told_pressed}
 
--- ---- the answer's cases are told apart
+-- ---- an answer is known by what it tells, and what it can be refused by stands in the table
 
-press-told : Told told_press
-press-told = given_or_refused told_press (λ u. Done) Refused (λ a. refl) (λ n p. refl) back
-  where
-    back : (x : Press) → answer_of (λ u. Done) Refused (told_press x) ≡ x
-    back Done = refl
-    back (Refused r) = refl
-
-pub pressed-told : Told told_pressed
-pressed-told =
-    beside-told told_press press-told (λ h a. record { kept = h; answer = a })
+pub pressed-tells : Tells {B = Kept × Outcome (Unit {0})} (λ y. Tabled y.1) told_pressed
+pressed-tells =
+    beside-tells told result-tells (λ h a. record { kept = h; answer = a })
     (λ x. x.kept) (λ x. x.answer) (λ x. refl) (λ s a. refl)
 
--- ---- the lines of `pressable` after 15, 14 and 18
+press-tabled : (b : Board) (h : Kept) (n : ℕ) (settable : Bool) → Tabled (first_no (press_lines b h n settable))
+unfolding TabledLines
+press-tabled b h n settable =
+    tabled_lines (press_lines b h n settable)
+    ((BrokenBoard, refl), ((StateBeyondBoard, refl), ((ForeignSets, refl), ((NoSuchName, refl), ((AlreadySo, refl), tt)))))
 
-pub pressable_asked : (b : Board) (h : Kept) (n : ℕ) (settable : Bool) {t : Bool} {o p q : Outcome (Unit {0})}
-    → o ≡ usable b h → t ≡ ltb n b.counts.buttons → p ≡ (o >> unless t no_such_name 0)
-    → q ≡ (p >> unless settable already_so 0) → q ≡ first_no (press_lines b h n settable)
-unfolding usable
-pressable_asked b h n settable first there second third =
-    asks_then (usable_lines b h ++ ((ltb n b.counts.buttons, no_such_name) ∷ [])) already_so
-    (asks_then (usable_lines b h) no_such_name first there second) refl third
+left-tabled : (h k : Kept) (o : Outcome (Unit {0})) → Tabled o → Tabled (left h (λ u. k) o).1
+unfolding left
+left-tabled h k (given u) tabled = tabled
+left-tabled h k (refused n p) tabled = tabled
+
+pub pushing-tabled : (b : Board) (h : Kept) (n : ℕ) → Tabled (pushing b h n).1
+unfolding pushing
+pushing-tabled b h n = left-tabled h _ (first_no (push_lines b h n)) (press-tabled b h n _)
+
+pub releasing-tabled : (b : Board) (h : Kept) (n : ℕ) → Tabled (releasing b h n).1
+unfolding releasing
+releasing-tabled b h n = left-tabled h _ (first_no (release_lines b h n)) (press-tabled b h n _)
+
+-- ---- the lines of `pressable`: 15, 14 and 18, then 7
+
+pub press_unusable : (b : Board) (h : Kept) (n : ℕ) (settable : Bool) {k p : ℕ} → usable b h ≡ refused k p
+    → first_no (press_lines b h n settable) ≡ refused k p
+press_unusable b h n settable off = usable_lines_lem b h _ ∙ rw off refl
+
+pub press_lacking : (b : Board) (h : Kept) (n : ℕ) (settable : Bool) → usable b h ≡ given tt
+    → ltb n b.counts.buttons ≡ false → first_no (press_lines b h n settable) ≡ refused no_such_name 0
+unfolding first_no
+press_lacking b h n settable fine past = rw (usable_lines_lem b h _, fine, past) refl
 
 -- ---- what a call can use, with a button that is there: nothing stands against it but 12; and where nothing stands
 -- against it at all, the sets belong to the board and the state
@@ -66,19 +76,19 @@ press-usable b h n settable taken =
     let both = all_hold (usable_lines b h) _ taken in
     (both.0, (first_holds (ltb n b.counts.buttons) no_such_name _ both.1).0)
 
--- ---- one law for each way out of `leave`, and one for `push` and `release`
+-- ---- one law for each way out of `set`, and one for `push` and `release`
 
--- what stands against it, a, with what it leaves: the next, k, if nothing does, else h as given
-module _ (h k : Kept) (a : Against) where
-  pub leave_done : a ≡ stands.Nothing
-      → told_pressed (record { kept = k; answer = Done }) ≡ left h (λ u. k) (told_against a)
+-- what stands against it, o, by the answer a; it leaves the next, k, if nothing does, else h as given
+module _ (h k : Kept) (a : Result Unit Refusal) (o : Outcome (Unit {0})) (asked : told a ≡ o) where
+  pub set_done : (u : Unit {0}) (x : Kept) → a ≡ Ok u → x ≡ k
+      → told_pressed (record { kept = x; answer = a }) ≡ left h (λ v. k) o
   unfolding left
-  leave_done done = rw done
+  set_done u x done next = rw (← asked, done, next) refl
 
-  pub leave_refused : (r : Refusal) → a ≡ stands.Refused r
-      → told_pressed (record { kept = h; answer = Refused r }) ≡ left h (λ u. k) (told_against a)
+  pub set_refused : (r : Refusal) → a ≡ Err r
+      → told_pressed (record { kept = h; answer = a }) ≡ left h (λ v. k) o
   unfolding left
-  leave_refused r is = rw is
+  set_refused r refuses = rw (← asked, refuses) refl
 
 -- what is left by an outcome goes by what is left where nothing stands against it
 left-same : (h k l : Kept) (o : Outcome (Unit {0})) → (o ≡ given tt → k ≡ l) → left h (λ u. k) o ≡ left h (λ u. l) o

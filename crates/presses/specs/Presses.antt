@@ -5,19 +5,17 @@
 --     push_lines, release_lines   those of a push and of a release
 --     pushing, releasing b h n    the two calls: one that is not refused leaves the state with that button set, and the
 --                                 sets of the board in that state
---     told_press, told_pressed    the answer's cases in the rule book's numbers
+--     told_pressed                the answer's cases in the rule book's numbers
 --     Pushes b h n r              promise: `push` of button n of board b from h answers r
 --     Releases b h n r            promise: `release`, likewise
 use Rattle.std.specs.Prelude.{ℕ, ◌≡◌, Bool, not, [], ◌∷◌, ◌++◌, ltb}
-use Rattle.refusals.specs.Outcomes.{Outcome, given, refused}
+use Rattle.refusals.specs.Outcomes.{Outcome, told}
 use Rattle.refusals.specs.Refusals.{no_such_name, already_so}
 use Rattle.refusals.specs.Order.{Order, first_no}
 use Rattle.board.specs.declared.Board.{Board}
 use Rattle.state.specs.States.{is_pushed, with_pushed, with_released}
 use Rattle.kept.specs.declared.Kept.{Kept}
 use Rattle.kept.specs.Kept.{kept_at, usable_lines, left}
-use Rattle.presses.specs.declared.Press.{Press}
-use Rattle.presses.specs.declared.Press.TheVariants.{Done, Refused}
 use Rattle.presses.specs.declared.Pressed.{Pressed}
 
 abbrev pub press_lines : Board → Kept → ℕ → Bool → Order
@@ -35,12 +33,8 @@ pushing b h n = left h (λ u. kept_at b (with_pushed h.state n)) (first_no (push
 unfoldable pub releasing : Board → Kept → ℕ → Kept × Outcome (Unit {0})
 releasing b h n = left h (λ u. kept_at b (with_released h.state n)) (first_no (release_lines b h n))
 
-abbrev pub told_press : Press → Outcome (Unit {0})
-told_press Done = given tt
-told_press (Refused r) = refused r.number r.place
-
 abbrev pub told_pressed : Pressed → Kept × Outcome (Unit {0})
-told_pressed r = (r.kept, told_press r.answer)
+told_pressed r = (r.kept, told r.answer)
 
 abbrev pub Pushes : Board → Kept → ℕ → Pressed → Type 0
 Pushes b h n r = told_pressed r ≡ pushing b h n

@@ -4,20 +4,20 @@ use Prim.Native.Nat.{ℕ, suc, ◌-◌, ◌^◌, ◌≤◌}
 use native.Mathlib.Omega.{arith}
 use native.Mathlib.Nat.{pow-le-pow_right}
 use mathlib.Core.Path.{◌≡◌, refl, sym, ap, ◌∙◌}
-use mathlib.Core.Bool.{Bool}
+use mathlib.Core.Bool.{true, false}
+use Rattle.std.specs.Prelude.{Result, Ok, Err}
 use mathlib.Core.List.{List, [], ◌∷◌}
 use lib.Dec.{leb}
 use lib.ListN.{length, take}
 use lib.Seq.{length-take-le}
 use borrow.Author.Tests.{leb-true}
 use Rattle.refusals.specs.declared.Refusal.{Refusal}
-use Rattle.refusals.specs.declared.Against.{Against}
-use Rattle.refusals.specs.declared.Against.TheVariants.{Nothing, Refused}
-use Rattle.refusals.specs.Outcomes.{Outcome, given, refused, ◌>>◌, unless}
-use Rattle.refusals.specs.Refusals.{broken_board, log_too_long, too_many_buttons}
-use Rattle.refusals.specs.Order.{first_no, answering, told_against}
-use Rattle.refusals.proofs.OrderLaws.{asks_then, first_holds, StandsAgainst, answering-stands, against-told}
-use Rattle.refusals.proofs.Told.{Told, beside-told}
+use Rattle.refusals.specs.declared.No.TheVariants.{LogTooLong, BrokenBoard, TooManyButtons}
+use Rattle.refusals.specs.Outcomes.{Outcome, given, refused, told}
+use Rattle.refusals.specs.Refusals.{number_of, broken_board, log_too_long, too_many_buttons}
+use Rattle.refusals.specs.Order.{first_no, answering}
+use Rattle.refusals.proofs.OrderLaws.{first_holds, StandsAgainst, answering-stands}
+use Rattle.refusals.proofs.Tabled.{Tabled, tabled_given, TabledLines, tabled_lines, Tells, result-tells, beside-tells}
 use Rattle.lists.specs.Members.{All}
 use Rattle.board.specs.declared.Board.{Board}
 use Rattle.board.specs.Rules.{board_fine}
@@ -41,15 +41,23 @@ use Rattle.report.proofs.SettingLaws.{both_ways-length, both_ways_all, all_runs-
 
 module _ (b : Board) (n : ℕ) where
   -- its lines one after the other
-  pub reportable_asked : {t u v : Bool} {o p q : Outcome (Unit {0})} → t ≡ board_fine b → u ≡ leb n longest_log
-      → v ≡ leb b.counts.buttons most_reported → o ≡ unless t broken_board 0 → p ≡ (o >> unless u log_too_long 0)
-      → q ≡ (p >> unless v too_many_buttons 0) → q ≡ reportable b n
+  pub reportable_broken : board_fine b ≡ false → reportable b n ≡ refused broken_board 0
   unfolding reportable first_no
-  reportable_asked board long many first second third =
-      asks_then ((board_fine b, broken_board) ∷ (leb n longest_log, log_too_long) ∷ []) too_many_buttons
-      (asks_then ((board_fine b, broken_board) ∷ []) log_too_long (asks_then [] broken_board refl board first) long
-      second)
-      many third
+  reportable_broken broken = rw broken refl
+
+  module _ (sound : board_fine b ≡ true) where
+    pub reportable_long : leb n longest_log ≡ false → reportable b n ≡ refused log_too_long 0
+    unfolding reportable first_no
+    reportable_long long = rw (sound, long) refl
+
+    module _ (short : leb n longest_log ≡ true) where
+      pub reportable_many : leb b.counts.buttons most_reported ≡ false → reportable b n ≡ refused too_many_buttons 0
+      unfolding reportable first_no
+      reportable_many many = rw (sound, short, many) refl
+
+      pub reportable_all : leb b.counts.buttons most_reported ≡ true → reportable b n ≡ given tt
+      unfolding reportable first_no
+      reportable_all few = rw (sound, short, few) refl
 
   -- where nothing stands against it, all settings can be made
   pub reportable_can : reportable b n ≡ given tt → CanSet b (fresh_state b) b.counts.buttons n
@@ -85,16 +93,16 @@ module _ (b : Board) (n : ℕ) where
       (within, length-take-le n log within)
 
   -- for the proof of `report`
-  module _ (x : Figures) (a : Against) (asked : told_against a ≡ reportable b n) where
-    pub reported_all : a ≡ Nothing → x ≡ figures_of (all_runs b n)
-        → told_reported (record { figures = x; against = a }) ≡ reporting b n
-    reported_all nothing is =
-        rw (is, nothing) (reporting_by (given tt) (sym asked ∙ ap told_against nothing))
+  module _ (x : Figures) (a : Result Unit Refusal) (asked : told a ≡ reportable b n) where
+    pub reported_all : (u : Unit {0}) → a ≡ Ok u → x ≡ figures_of (all_runs b n)
+        → told_reported (record { figures = x; answer = a }) ≡ reporting b n
+    reported_all u nothing is =
+        rw (is, nothing) (reporting_by (given tt) (sym asked ∙ ap told nothing))
 
-    pub reported_none : (q : Refusal) → a ≡ Refused q → x ≡ no_figures
-        → told_reported (record { figures = x; against = a }) ≡ reporting b n
-    reported_none q refuses is =
-        rw (is, refuses) (reporting_by (refused q.number q.place) (sym asked ∙ ap told_against refuses))
+    pub reported_none : (q : Refusal) → a ≡ Err q → x ≡ no_figures
+        → told_reported (record { figures = x; answer = a }) ≡ reporting b n
+    reported_none q off is =
+        rw (is, off) (reporting_by (refused (number_of q.no) q.place) (sym asked ∙ ap told off))
 
   -- both ways of every button, from the start state, are all settings
   pub all_reported : reportable b n ≡ given tt → (s : State) (m : ℕ) (x : Figures) → s ≡ fresh_state b → m ≡ n
@@ -173,7 +181,20 @@ module _ (b : Board) (s : State) (k n : ℕ) where
 
 -- ---- answers and what they tell
 
-pub reported-told : Told told_reported
-reported-told =
-    beside-told told_against against-told (λ (f : Figures) a. record { figures = f; against = a })
-    (λ r. r.figures) (λ r. r.against) (λ r. refl) (λ f a. refl)
+pub reported-tells : Tells {B = Figures × Outcome (Unit {0})} (λ y. Tabled y.1) told_reported
+reported-tells =
+    beside-tells told result-tells (λ (f : Figures) a. record { figures = f; answer = a })
+    (λ r. r.figures) (λ r. r.answer) (λ r. refl) (λ f a. refl)
+
+-- what a report can be refused by stands in the table
+pub reporting-tabled : (b : Board) (n : ℕ) → Tabled (reporting b n).1
+unfolding reportable reporting TabledLines
+reporting-tabled b n =
+    by (first_no (report_lines b n))
+    (tabled_lines (report_lines b n) ((BrokenBoard, refl), ((LogTooLong, refl), ((TooManyButtons, refl), tt))))
+  where
+    by : (o : Outcome (Unit {0})) → Tabled o
+        → Tabled (answering {A = Figures × Outcome (Unit {0})} o (λ k p. (no_figures, refused k p))
+        (λ u. (figures_of (all_runs b n), given tt))).1
+    by (given u) tabled = tabled_given tt
+    by (refused k p) tabled = tabled

@@ -7,9 +7,9 @@
 --     told_reported       the answer's cases in the rule book's numbers
 --     Reports b n r       promise: `report` of board b and the length n answers r
 use Rattle.std.specs.Prelude.{ℕ, ◌≡◌, [], ◌∷◌, leb}
-use Rattle.refusals.specs.Outcomes.{Outcome, given, refused}
+use Rattle.refusals.specs.Outcomes.{Outcome, given, refused, told}
 use Rattle.refusals.specs.Refusals.{broken_board, log_too_long, too_many_buttons}
-use Rattle.refusals.specs.Order.{Order, first_no, answering, told_against}
+use Rattle.refusals.specs.Order.{Order, first_no, answering}
 use Rattle.board.specs.declared.Board.{Board}
 use Rattle.board.specs.Rules.{board_fine}
 use Rattle.runs.specs.Running.{longest_log}
@@ -33,7 +33,7 @@ reporting b n =
     answering (reportable b n) (λ k p. (no_figures, refused k p)) (λ u. (figures_of (all_runs b n), given tt))
 
 abbrev pub told_reported : Reported → Figures × Outcome (Unit {0})
-told_reported r = (r.figures, told_against r.against)
+told_reported r = (r.figures, told r.answer)
 
 abbrev pub Reports : Board → ℕ → Reported → Type 0
 Reports b n r = told_reported r ≡ reporting b n

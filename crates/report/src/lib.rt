@@ -3,15 +3,14 @@
 #![tactic(auto)]
 
 ghost use Rattle.std.specs.Prelude.{◌≡◌, ◌≤◌, length};
-ghost use Rattle.refusals.specs.Outcomes.{given};
-ghost use Rattle.refusals.specs.Order.{told_against};
+ghost use Rattle.refusals.specs.Outcomes.{given, told};
 ghost use Rattle.runs.specs.Running.{longest_log};
 ghost use Rattle.report.specs.Settings.{all_runs};
 ghost use Rattle.report.specs.Figures.{figures_of};
 ghost use Rattle.report.specs.Reporting.{reportable, Reports};
 
 use board::Board;
-use refusals::{Against, BROKEN_BOARD, LOG_TOO_LONG, TOO_MANY_BUTTONS};
+use refusals::{No, Refusal, unless};
 use runs::LONGEST_LOG;
 use state::State;
 
@@ -23,7 +22,7 @@ pub const MOST_REPORTED: u8 = 12;
 
 // The figures of a report: the settings, how many ended with each word, the moves of all, the most moves, and the first
 // setting that has so many.
-#[derive(Clone, Copy)]
+#[derive(Clone, Copy, Debug, PartialEq, Eq, Default)]
 pub struct Figures {
     pub settings: usize,
     pub idle: usize,
@@ -35,24 +34,24 @@ pub struct Figures {
     pub first: usize,
 }
 
-// A report: its figures, all zeros where something stands against it, and what does.
+// A report: its figures, all zeros where it is refused, and what refuses it.
 #[derive(Clone, Copy)]
 pub struct Reported {
     pub figures: Figures,
-    pub against: Against,
+    pub answer: Result<(), Refusal>,
 }
 
 // What stands against a report: 15, 13 or 20, or nothing.
-fn can_report(board: Board, room: usize) -> Against
-    ensures { told_against result ≡ reportable board room }
+fn can_report(board: Board, room: usize) -> Result<(), Refusal>
+    ensures { told result ≡ reportable board room }
 {
     let sound = board::check(board);
     let short = room <= LONGEST_LOG;
     let few = board.counts.buttons <= MOST_REPORTED;
-    Against::Nothing
-        .unless(sound, BROKEN_BOARD)
-        .unless(short, LOG_TOO_LONG)
-        .unless(few, TOO_MANY_BUTTONS)
+    unless(sound, No::BrokenBoard)?;
+    unless(short, No::LogTooLong)?;
+    unless(few, No::TooManyButtons)?;
+    Ok(())
 }
 
 // The figures of all settings, each run with room for so many moves, over a lent log that is long enough.
@@ -78,10 +77,10 @@ fn report_all(board: Board, room: usize) -> Figures
 pub fn report(board: Board, room: usize) -> Reported
     ensures { Reports board room result }
 {
-    let against = can_report(board, room);
-    let figures = match against {
-        Against::Nothing => report_all(board, room),
-        Against::Refused(_) => tally::none(),
+    let answer = can_report(board, room);
+    let figures = match answer {
+        Ok(()) => report_all(board, room),
+        Err(_) => Figures::default(),
     };
-    Reported { figures, against }
+    Reported { figures, answer }
 }

@@ -4,7 +4,7 @@ ghost use Rattle.runs.specs.Running.{run_on};
 ghost use Rattle.report.specs.Figures.{figures_of};
 ghost use Rattle.report.specs.BothWays.{both_ways, CanSet};
 
-use crate::{Figures, tally};
+use crate::Figures;
 use board::Board;
 use kept::Kept;
 use state::State;
@@ -15,8 +15,7 @@ fn report_one(board: Board, state: State, log: &mut [u8]) -> Figures
     ensures { result ≡ figures_of (run_on board (length log.old) state ∷ []) }
 {
     let ran = runs::run(board, Kept::of(board, state), log);
-    let word = ran.word;
-    tally::one_run(word, ran.moves)
+    Figures::one_run(ran.word, ran.moves)
 }
 
 // The figures of all settings of the lowest buttons, so many of them, with all else as in this state: those with the
@@ -30,6 +29,6 @@ pub fn report_from(board: Board, state: State, left: u8, log: &mut [u8]) -> Figu
     }
     let button = left - 1;
     let off = report_from(board, state, button, log);
-    let on = report_from(board, state.push(bits::wide(button)), button, log);
-    tally::followed(off, on)
+    let on = report_from(board, state.push(u32::from(button)), button, log);
+    off.followed(on)
 }

@@ -11,9 +11,9 @@ use borrow.Author.Tests.{leb-true, leb-false, le-leb, lt-leb}
 use Rattle.bits.proofs.SetLaws.{member_below, below-member}
 use Rattle.bits.proofs.SumLaws.{set_is_sum}
 use Rattle.lists.proofs.TableLaws.{table-length, table_at}
-use Rattle.refusals.specs.Outcomes.{given, refused}
+use Rattle.refusals.specs.Outcomes.{given, refused, told}
 use Rattle.refusals.specs.Refusals.{broken_board, log_too_long, too_many_buttons}
-use Rattle.refusals.specs.Order.{first_no, against, told_against}
+use Rattle.refusals.specs.Order.{first_no, against}
 use Rattle.refusals.proofs.OutcomeLaws.{refused_never}
 use Rattle.refusals.proofs.OrderLaws.{against_itself}
 use Rattle.board.specs.declared.Board.{Board}
@@ -49,9 +49,9 @@ refused_zeros b n r k p told is =
     (λ i. (told i).0) ∙ (report-stands b n).left k p ((λ i. (sym told i).1) ∙ is)
 
 pub stands-against : (b : Board) (n : ℕ) (r : Reported) → Reports b n r
-    → told_against r.against ≡ first_no (report_lines b n)
-stands-against b n r told =
-    sym (against_itself (told_against r.against)) ∙ (λ i. against (told i).1) ∙ (report-stands b n).first
+    → told r.answer ≡ first_no (report_lines b n)
+stands-against b n r reports =
+    sym (against_itself (told r.answer)) ∙ (λ i. against (reports i).1) ∙ (report-stands b n).first
 
 module _ (b : Board) (n : ℕ) where
   -- 20 holds, and no line before it

@@ -23,9 +23,8 @@
 --     LargerLog               so it is of two reports on one board, the second with no shorter a log
 use Rattle.std.specs.Prelude.{ℕ, ◌+◌, ◌^◌, ◌<◌, ◌≤◌, ◌≡◌, ◌↔◌, true, List, length}
 use Rattle.bits.specs.Sets.{sum_below}
-use Rattle.refusals.specs.Outcomes.{given, refused}
+use Rattle.refusals.specs.Outcomes.{given, refused, told}
 use Rattle.refusals.specs.Refusals.{too_many_buttons}
-use Rattle.refusals.specs.Order.{told_against}
 use Rattle.board.specs.declared.Board.{Board}
 use Rattle.board.specs.Rules.{board_fine}
 use Rattle.state.specs.States.{is_pushed}
@@ -62,14 +61,14 @@ abbrev pub TwentyExactly : Type 0
 TwentyExactly =
     (b : Board) (n : ℕ) (r : Reported)
     → Reports b n r
-    → told_against r.against ≡ refused too_many_buttons 0
+    → told r.answer ≡ refused too_many_buttons 0
     ↔ (board_fine b ≡ true) × (n ≤ longest_log) × (most_reported < b.counts.buttons)
 
 abbrev pub RefusedZeros : Type 0
 RefusedZeros =
     (b : Board) (n : ℕ) (r : Reported) (k p : ℕ)
     → Reports b n r
-    → told_against r.against ≡ refused k p
+    → told r.answer ≡ refused k p
     → r.figures ≡ no_figures
 
 pub record Settings (b : Board) (f : Figures) : Type 0 where

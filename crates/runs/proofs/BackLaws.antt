@@ -5,6 +5,7 @@ use native.Mathlib.Omega.{arith}
 use mathlib.Core.Path.{◌≡◌, refl, sym, ap, ◌∙◌}
 use mathlib.Core.Bool.{Bool, true, false, cond, ◌&&◌}
 use mathlib.Core.List.{List, [], ◌∷◌}
+use Rattle.std.specs.Prelude.{Some, None}
 use lib.Dec.{eqb}
 use lib.ListN.{length, get_or, set}
 use lib.Seq.{get_or-set_same, get_or-set_other}
@@ -17,7 +18,7 @@ use Rattle.moves.specs.Steps as step
 use Rattle.moves.proofs.MoveLaws.{Turns}
 use Rattle.runs.specs.Looks.{draw_mark, byte_of}
 use Rattle.runs.specs.Runs.{same_state, met_from, met_ago}
-use Rattle.runs.specs.LookingBack.{relay_of, back_from}
+use Rattle.runs.specs.LookingBack.{relay_of, back_from, ago_of}
 
 -- a relay draws or drops
 abbrev pub Moving : step.Move → Type 0
@@ -106,7 +107,7 @@ back_met log m s ss trail =
     one = omega arith
 
 -- it is no longer ago than there were moves
-pub back-within : (log : List ℕ) (m d i w : ℕ) → back_from log m d i w ≤ m
+back-within : (log : List ℕ) (m d i w : ℕ) → back_from log m d i w ≤ m
 unfolding back_from
 back-within log m d zero w = omega arith
 back-within log m d (suc i) w =
@@ -115,6 +116,34 @@ back-within log m d (suc i) w =
     by : (met : Bool) (n : ℕ) → n ≤ m → cond met (m - i) n ≤ m
     by true n most = omega arith
     by false n most = most
+
+-- ---- what looking back says, and what it says as an option
+
+ago_some : (k : ℕ) {d n : ℕ} → suc k ≡ d → n ≡ d → Some d ≡ ago_of n
+ago_some k is same = rw (same, ← is) refl
+
+-- it says that the state was met
+pub ago_met : (n : ℕ) {d : ℕ} → ago_of n ≡ Some d → (d ≡ n) × (n ≡ 0 → ⊥)
+ago_met zero e = absurd (none_never e)
+  where
+    none_never : {d : ℕ} → None ≡ Some d → ⊥
+    none_never h = let z : ◌≡◌ {A = ℕ} 0 1 = cc in omega arith
+ago_met (suc n) {d} e = (some_is e, λ none. omega arith)
+  where
+    some_is : {k : ℕ} → Some k ≡ Some d → d ≡ k
+    some_is h = cc
+
+-- or that it was not
+pub ago_none : (n : ℕ) → ago_of n ≡ None → n ≡ 0
+ago_none zero e = refl
+ago_none (suc n) e = absurd (some_never e)
+  where
+    some_never : {k : ℕ} → Some k ≡ None → ⊥
+    some_never h = let z : ◌≡◌ {A = ℕ} 0 1 = cc in omega arith
+
+-- it was met within the moves made
+pub met_within : (log : List ℕ) (m d i w : ℕ) {k : ℕ} → Some k ≡ ago_of (back_from log m d i w) → k ≤ m
+met_within log m d i w found = omega (arith, (ago_met _ (sym found)).0, back-within log m d i w)
 
 -- ---- for the proof of `met_ago`
 
@@ -130,14 +159,16 @@ module _ {log : List ℕ} {m d i j w c was : ℕ} (here : Looking log m d i w) (
   unfolding back_from
   looked = here.same ∙ rw (← less, back, byte) refl
 
-  pub looking_met : was ≡ d → m - j ≡ back_from log m d m d
-  looking_met met = sym (looked ∙ rw (eq-eqb was d met) refl)
+  pub looking_met : was ≡ d → Some (m - j) ≡ ago_of (back_from log m d m d)
+  looking_met met =
+      let some : m - j ≡ suc (m - suc j) = omega (arith, here.within, less) in
+      ago_some (m - suc j) (sym some) (looked ∙ rw (eq-eqb was d met) refl)
 
   pub looking_on : (was ≡ d → ⊥) → Looking log m d j was
   looking_on other =
       record { within = omega (arith, here.within, less); same = looked ∙ rw (ne_eqb was d other) refl }
 
-pub looking_none : {log : List ℕ} {m d i w : ℕ} → Looking log m d i w → i ≤ 0 → 0 ≡ back_from log m d m d
+pub looking_none : {log : List ℕ} {m d i w : ℕ} → Looking log m d i w → i ≤ 0 → None ≡ ago_of (back_from log m d m d)
 unfolding back_from
-looking_none {i = zero} here none = sym here.same
+looking_none {i = zero} here none = ap ago_of (sym here.same)
 looking_none {i = suc i} here none = absurd (omega arith)

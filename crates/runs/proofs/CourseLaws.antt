@@ -6,6 +6,7 @@ use native.Mathlib.Omega.{arith}
 use mathlib.Core.Path.{◌≡◌, refl, sym, ap, subst, ◌∙◌}
 use mathlib.Core.Bool.{Bool}
 use mathlib.Core.List.{List, [], ◌∷◌, ◌++◌}
+use Rattle.std.specs.Prelude.{Some, None}
 use lib.ListN.{length, drop, set, length-set}
 use lib.Seq.{sets, sets-eq}
 use Rattle.bits.specs.Sets as sets_of
@@ -17,12 +18,12 @@ use Rattle.moves.specs.Steps as step
 use Rattle.moves.proofs.MoveLaws.{Turns}
 use Rattle.runs.specs.Looks.{Stepper, Look, makes, decides, byte_of, look_from}
 use Rattle.runs.specs.Runs.{Ending, idle, spent, conflict, buzz, no_relay, Run, met_ago, logged, run_from, run_of}
-use Rattle.runs.specs.LookingBack.{back_from, with_notch}
+use Rattle.runs.specs.LookingBack.{back_from, ago_of, with_notch}
 use Rattle.runs.specs.Running.{Ran, ran}
 use Rattle.runs.proofs.LookLaws.{look_quiet, look-decides}
 use Rattle.runs.proofs.RunLaws.{met, rested, halted, filled, RunGoes, stops, moved, run_goes, goes_run}
 use Rattle.runs.proofs.RunLaws.{goes-room}
-use Rattle.runs.proofs.BackLaws.{Moving, Trail, begun, trail-length, trail-moves, back_met}
+use Rattle.runs.proofs.BackLaws.{Moving, Trail, begun, trail-length, trail-moves, back_met, ago_met, ago_none}
 use Rattle.runs.proofs.NotchLaws.{notching-length, Covered, covered_on}
 
 -- what is told of a run that logged its first m moves and goes on as x, with the sets that `keep` has for its state
@@ -101,7 +102,7 @@ course_starts f keep k log notches h own =
     }
 
 pub scan_starts : (f : Stepper) (g : ℕ → Bool → step.Move) (k : ℕ) (log : List ℕ) (m : ℕ) (h : Kept)
-    → back_from log m h.state.drawn m h.state.drawn ≡ 0
+    → None ≡ ago_of (back_from log m h.state.drawn m h.state.drawn)
     → ((q : ℕ) → q < k → g q (is_drawn h.state q) ≡ f h.state q) → ScanSoFar f g k log m h log m h 0
 scan_starts f g k log m h unmet seen =
     let whole : k ≡ k - 0 = omega arith in
@@ -109,7 +110,7 @@ scan_starts f g k log m h unmet seen =
       same_log = refl;
       same_moves = refl;
       same_kept = refl;
-      unmet = unmet;
+      unmet = ago_none _ (sym unmet);
       seen = seen;
       look = ap (λ (n : ℕ). look_from f h.state n 0) whole;
     }
@@ -150,10 +151,13 @@ course-ends {keep = keep} {m = m} {log = log} {h = h} {w = w} {i = i} {d = d} {q
 -- looking back met the state d moves ago
 pub course_buzz : {f : Stepper} {keep : State → Kept} {k : ℕ} {all : Ran} {room words m : ℕ} {log notches : List ℕ}
     {h : Kept} {d : ℕ} → Course f keep k all room words log notches m h
-    → d ≡ back_from log m h.state.drawn m h.state.drawn → (d ≡ 0 → ⊥)
+    → Some d ≡ ago_of (back_from log m h.state.drawn m h.state.drawn)
     → stopped buzz (m - d) d m h no_relay log ≡ all
-course_buzz {d = zero} here was some = absurd (some refl)
-course_buzz {f = f} {k = k} {room = room} {m = m} {log = log} {h = h} {d = suc d} here was some =
+course_buzz {d = zero} here found =
+    let met_it = ago_met _ (sym found) in
+    absurd (met_it.1 (sym met_it.0))
+course_buzz {f = f} {k = k} {room = room} {m = m} {log = log} {h = h} {d = suc d} here found =
+    let was = (ago_met _ (sym found)).0 in
     course-ends here
     (subst (λ (n : ℕ). RunGoes f k here.came (room - m) h.state (buzzing n)) (trail-length here.trail)
     (stops (met d (sym (was ∙ back_met log m h.state here.came here.trail)))))
@@ -164,29 +168,29 @@ course_buzz {f = f} {k = k} {room = room} {m = m} {log = log} {h = h} {d = suc d
 
 module _ {f : Stepper} {g : ℕ → Bool → step.Move} {k : ℕ} {log₀ log : List ℕ} {m₀ m : ℕ} {h₀ h : Kept} {r : ℕ}
     (scan : ScanSoFar f g k log₀ m₀ h₀ log m h r) where
-  -- the relay that is looked at, as number q, drawn if d, is seen to come to mv
-  stepped : {mv : step.Move} {q : ℕ} {d : Bool} → r < k → q ≡ r → d ≡ is_drawn h₀.state q → mv ≡ g r d
+  -- the relay that is looked at, as number q and at place p, drawn if d, is seen to come to mv
+  stepped : {mv : step.Move} {q p : ℕ} {d : Bool} → r < k → q ≡ r → p ≡ r → d ≡ is_drawn h₀.state q → mv ≡ g p d
       → mv ≡ f h.state r
-  stepped below number drawn is =
-      is ∙ ap (g r) (drawn ∙ ap (is_drawn h₀.state) number) ∙ scan.seen r below
+  stepped {d = d} below number place drawn is =
+      is ∙ ap (λ (n : ℕ). g n d) place ∙ ap (g r) (drawn ∙ ap (is_drawn h₀.state) number) ∙ scan.seen r below
       ∙ ap (λ (j : Kept). f j.state r) scan.same_kept
 
   -- and it decides
-  decided : {mv : step.Move} {q : ℕ} {d : Bool} → r < k → q ≡ r → d ≡ is_drawn h₀.state q → mv ≡ g r d
+  decided : {mv : step.Move} {q p : ℕ} {d : Bool} → r < k → q ≡ r → p ≡ r → d ≡ is_drawn h₀.state q → mv ≡ g p d
       → look_from f h.state k 0 ≡ decides mv r (look_from f h.state (k - (r + 1)) (r + 1))
-  decided below number drawn is =
-      scan.look ∙ look-decides f h.state k r _ below (stepped below number drawn is)
+  decided below number place drawn is =
+      scan.look ∙ look-decides f h.state k r _ below (stepped below number place drawn is)
 
-  pub scan_rests : {mv : step.Move} {q : ℕ} {d : Bool} → r < k → q ≡ r → d ≡ is_drawn h₀.state q → mv ≡ g r d
-      → mv ≡ step.rests → ScanSoFar f g k log₀ m₀ h₀ log m h (r + 1)
-  scan_rests below number drawn is rests =
+  pub scan_rests : {mv : step.Move} {q p : ℕ} {d : Bool} → r < k → q ≡ r → p ≡ r → d ≡ is_drawn h₀.state q
+      → mv ≡ g p d → mv ≡ step.rests → ScanSoFar f g k log₀ m₀ h₀ log m h (r + 1)
+  scan_rests below number place drawn is rests =
       record {
         same_log = scan.same_log;
         same_moves = scan.same_moves;
         same_kept = scan.same_kept;
         unmet = scan.unmet;
         seen = scan.seen;
-        look = decided below number drawn (sym rests ∙ is);
+        look = decided below number place drawn (sym rests ∙ is);
       }
 
   module _ {keep : State → Kept} {all : Ran} {room words : ℕ} {notches : List ℕ}
@@ -206,13 +210,13 @@ module _ {f : Stepper} {g : ℕ → Bool → step.Move} {k : ℕ} {log₀ log : 
     pub course_idle : k ≤ r → stopped idle 0 0 m h no_relay log ≡ all
     course_idle past = course-ends here (stops (rested new (scan.look ∙ look_quiet f h.state k r past)))
 
-    module _ {mv : step.Move} {q : ℕ} {d : Bool} (below : r < k) (number : q ≡ r) (drawn : d ≡ is_drawn h₀.state q)
-        (is : mv ≡ g r d) where
+    module _ {mv : step.Move} {q p : ℕ} {d : Bool} (below : r < k) (number : q ≡ r) (place : p ≡ r)
+        (drawn : d ≡ is_drawn h₀.state q) (is : mv ≡ g p d) where
       pub course_conflict : mv ≡ step.conflict → stopped conflict 0 0 m h r log ≡ all
-      course_conflict e = course-ends here (stops (halted new (decided below number drawn (sym e ∙ is))))
+      course_conflict e = course-ends here (stops (halted new (decided below number place drawn (sym e ∙ is))))
 
       moves_here : Moving mv → look_from f h.state k 0 ≡ makes mv r
-      moves_here move = decided below number drawn is ∙ moving_makes mv r _ move
+      moves_here move = decided below number place drawn is ∙ moving_makes mv r _ move
 
       pub course_spent : Moving mv → length log ≤ m → stopped spent 0 0 m h r log ≡ all
       course_spent move full =
@@ -221,10 +225,10 @@ module _ {f : Stepper} {g : ℕ → Bool → step.Move} {k : ℕ} {log₀ log : 
 
       -- the move is made and logged, and leaves t kept
       module _ (keeps : (s : State) → (keep s).state ≡ s) (fits : r < sets_of.room)
-          (turns : (s : State) → Turns (is_drawn s r) (f s r)) {t : Kept} {p : ℕ} (same : p ≡ r)
-          (leaves : h ≡ keep h.state → t ≡ keep (step.made h.state p mv)) where
+          (turns : (s : State) → Turns (is_drawn s r) (f s r)) {t : Kept} {n : ℕ} (same : n ≡ r)
+          (leaves : h ≡ keep h.state → t ≡ keep (step.made h.state n mv)) where
         left-kept : t ≡ keep (step.made h.state r mv)
-        left-kept = leaves here.own ∙ ap (λ (n : ℕ). keep (step.made h.state n mv)) same
+        left-kept = leaves here.own ∙ ap (λ (x : ℕ). keep (step.made h.state x mv)) same
 
         left_state : t.state ≡ step.made h.state r mv
         left_state = ap (λ (j : Kept). j.state) left-kept ∙ keeps (step.made h.state r mv)
@@ -238,7 +242,7 @@ module _ {f : Stepper} {g : ℕ → Bool → step.Move} {k : ℕ} {log₀ log : 
             let more : room - m ≡ suc (room - (m + 1)) = omega arith in
             let next : suc m ≡ m + 1 = omega arith in
             let turned =
-            subst (Turns (is_drawn h.state r)) (sym (stepped below number drawn is)) (turns h.state) in
+            subst (Turns (is_drawn h.state r)) (sym (stepped below number place drawn is)) (turns h.state) in
             let trail = trail-moves r mv c fits turned move byte free here.trail in
             record {
               long = length-set log m c ∙ here.long;

@@ -5,6 +5,7 @@ use native.Mathlib.Omega.{arith}
 use mathlib.Core.Path.{◌≡◌, refl, sym, ap, subst}
 use mathlib.Core.Bool.{Bool}
 use mathlib.Core.List.{List}
+use Rattle.std.specs.Prelude.{Option, None}
 use lib.ListN.{get_or}
 use mathlib.Core.Logic.{◌⊎◌, inl, inr}
 use Rattle.board.specs.declared.Board.{Board}
@@ -16,7 +17,6 @@ use Rattle.kept.proofs.KeptLaws.{kept_sets}
 use Rattle.feed.specs.declared.Feed.{Feed}
 use Rattle.feed.specs.Feeds.{feed_of, live_by}
 use Rattle.judge.specs.declared.Windings.{Windings}
-use Rattle.judge.specs.declared.Windings.TheVariants.{Regular}
 use Rattle.judge.specs.RelayWindings.{told_windings, FindsAllWindings}
 use Rattle.judge.proofs.AllLaws.{windings-place}
 use Rattle.moves.specs.declared.Move as code-move
@@ -27,15 +27,15 @@ use Rattle.moves.proofs.StepLaws.{step_by_lem, step_worked}
 use Rattle.runs.proofs.BackLaws.{Moving}
 
 -- what the prover has for a place beyond an array of windings
-abbrev beyond : Windings
-beyond = Regular (record { a = 0; b = 0 })
+abbrev beyond : Option Windings
+beyond = None
 
 -- what is seen of relay q, drawn if d, by what was found for the run and worked out for the look
-abbrev pub seeing : Feed → List Windings → ℕ → Bool → step.Move
+abbrev pub seeing : Feed → List (Option Windings) → ℕ → Bool → step.Move
 seeing f all q d = move_by (live_by f.served f.linked) d (told_windings (get_or all q beyond))
 
 -- it is the relay's step, where the sets belong to the state
-pub step_seen : (b : Board) (h : Kept) (f : Feed) (all : List Windings) → h ≡ kept_at b h.state
+pub step_seen : (b : Board) (h : Kept) (f : Feed) (all : List (Option Windings)) → h ≡ kept_at b h.state
     → f ≡ feed_of h.sets b.counts.terminals → FindsAllWindings b all → b.counts.relays ≤ most_relays
     → (q : ℕ) → q < b.counts.relays → seeing f all q (is_drawn h.state q) ≡ step_of b h.state q
 step_seen b h f all own worked found most q below =

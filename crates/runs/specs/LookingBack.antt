@@ -4,6 +4,7 @@
 --     relay_of c               the relay of the log byte c
 --     back_from log m d i w    where w were drawn after i of the m moves in the log: how many moves ago, from the end
 --                              of the m, just the relays d were drawn, looking back from there; 0 if never
+--     ago_of n                 the same as the code says it: none for 0
 --     most_words               12,500, the most words of notches
 --     notch_place n d          the place of the drawn relays d among the notches that n words have room for, the last
 --                              left out
@@ -11,6 +12,7 @@
 --     with_notch ns d          the words ns with a notch there
 --     Spares ns log m d        if the words ns have no notch there, looking back over m moves from d meets nothing
 use Rattle.std.specs.Prelude.{ℕ, zero, suc, ◌-◌, ◌*◌, ◌/◌, ◌%◌, ◌≡◌, Bool, false, cond, List, eqb, length, get_or, set}
+use Rattle.std.specs.Prelude.{Option, Some, None}
 use Rattle.bits.specs.Sets.{room, member, including, flipped}
 use Rattle.runs.specs.Looks.{draw_mark}
 
@@ -22,6 +24,10 @@ back_from log m d zero w = 0
 back_from log m d (suc i) w =
     let was = flipped w (relay_of (get_or log i 0)) in
     cond (eqb was d) (m - i) (back_from log m d i was)
+
+abbrev pub ago_of : ℕ → Option ℕ
+ago_of zero = None
+ago_of (suc n) = Some (suc n)
 
 abbrev pub most_words : ℕ
 most_words = 12_500

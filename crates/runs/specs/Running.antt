@@ -13,10 +13,12 @@
 --     run_on b n s           the run of the board's relays from state s, with room for n moves
 --     ran_over b h log       what a run that is not refused tells
 --     running b h log        the call
+--     told_word              a word that a run ends with, in the rule book's
 --     told_ending, told_ran  the answer's cases in the rule book's words and numbers
 --     Runs b h log a l       promise: `run` of board b from h over the lent log answers a and leaves the log as l
-use Rattle.std.specs.Prelude.{ℕ, ◌≡◌, List, [], ◌∷◌, ◌++◌, leb, length, drop}
-use Rattle.refusals.specs.Outcomes.{Outcome, given, refused}
+use Rattle.std.specs.Prelude.{ℕ, ◌≡◌, Result, List, [], ◌∷◌, ◌++◌, leb, length, drop}
+use Rattle.refusals.specs.declared.Refusal.{Refusal}
+use Rattle.refusals.specs.Outcomes.{Outcome, given, refused, told_as}
 use Rattle.refusals.specs.Refusals.{log_too_long}
 use Rattle.refusals.specs.Order.{Order, first_no, answering}
 use Rattle.board.specs.declared.Board.{Board}
@@ -72,12 +74,14 @@ ran_over b h log = ran (kept_at b) (run_on b (length log) h.state) log
 unfoldable pub running : Board → Kept → List ℕ → Ran
 running b h log = answering (runnable b h log) (λ n p. unrun n p h log) (λ u. ran_over b h log)
 
-abbrev pub told_ending : code-ending.Ending → Outcome Ending
-told_ending said.Idle = given idle
-told_ending said.Spent = given spent
-told_ending said.Conflict = given conflict
-told_ending said.Buzz = given buzz
-told_ending (said.Refused r) = refused r.number r.place
+abbrev pub told_word : code-ending.Ending → Ending
+told_word said.Idle = idle
+told_word said.Spent = spent
+told_word said.Conflict = conflict
+told_word said.Buzz = buzz
+
+abbrev pub told_ending : Result code-ending.Ending Refusal → Outcome Ending
+told_ending w = told_as told_word w
 
 -- the answer r, with the log l afterwards
 abbrev pub told_ran : code-ran.Ran → List ℕ → Ran

@@ -2,72 +2,79 @@
 // that a long run need not look back after every move, each state that it comes through cuts a notch; where there is no
 // notch at the place of the drawn relays, they were not drawn before.
 ghost use Rattle.std.specs.Prelude.{◌≡◌, ◌≤◌, ◌<◌, length};
-ghost use Rattle.runs.specs.LookingBack.{back_from, most_words, notch_place, has_notch, with_notch, Spares};
+ghost use Rattle.runs.specs.LookingBack.{back_from, ago_of, most_words, notch_place, has_notch, with_notch, Spares};
 
 use crate::DRAW_MARK;
 
 // How many notches a word has room for.
 const NOTCHES_IN_WORD: usize = 64;
 
-// The place of drawn relays among the notches that so many words have room for, the last left out.
-fn place(drawn: u64, words: usize) -> usize
-    requires some_words { 0 < words }
-    requires words_few { words ≤ most_words }
-    ensures { result ≡ notch_place words drawn }
-{
-    drawn as usize % (NOTCHES_IN_WORD * words - 1)
+// Notches in some words, and no more than the most.
+#[derive(Drop)]
+pub struct Notches<const WORDS: usize> {
+    pub words: [u64; WORDS],
+    pub ghost some: { 0 < length words },
+    pub ghost few: { length words ≤ most_words },
 }
 
-// Whether there is a notch at the place of drawn relays.
-fn is_notched(notches: &[u64], drawn: u64) -> bool
-    requires some_notches { 0 < length notches.now }
-    requires notches_few { length notches.now ≤ most_words }
-    ensures { result ≡ has_notch notches.now drawn }
-{
-    let at = place(drawn, notches.len());
-    bits::has(notches[at / NOTCHES_IN_WORD], (at % NOTCHES_IN_WORD) as u32)
-}
+impl<const WORDS: usize> Notches<WORDS> {
+    // The place of drawn relays among the notches that the words have room for, the last left out.
+    #[tactic(auto, unfolding(crate::specs::LookingBack::notch_place))]
+    fn place(&self, drawn: u64) -> usize
+        ensures { result ≡ notch_place (length self.now.words) drawn }
+    {
+        drawn as usize % (NOTCHES_IN_WORD * self.words.len() - 1)
+    }
 
-// Cuts a notch at the place of drawn relays.
-fn notch(notches: &mut [u64], drawn: u64)
-    requires some_notches { 0 < length notches.old }
-    requires notches_few { length notches.old ≤ most_words }
-    ensures { notches.new ≡ with_notch notches.old drawn }
-{
-    let at = place(drawn, notches.len());
-    notches[at / NOTCHES_IN_WORD] = bits::with(
-        notches[at / NOTCHES_IN_WORD],
-        (at % NOTCHES_IN_WORD) as u32,
-    );
-}
+    // Whether there is a notch at the place of drawn relays.
+    fn has(&self, drawn: u64) -> bool
+        ensures { result ≡ has_notch self.now.words drawn }
+    {
+        let at = self.place(drawn);
+        bits::has(
+            self.words[at / NOTCHES_IN_WORD],
+            (at % NOTCHES_IN_WORD) as u32,
+        )
+    }
 
-// How many moves ago these relays were drawn, and no others; 0 if they were not before.
-fn met_ago(log: &[u8], moves: usize, drawn: u64) -> usize
-    requires { moves ≤ length log.now }
-    ensures { result ≡ back_from log.now moves drawn moves drawn }
-{
-    let mut was = drawn;
-    let mut i = moves;
-    while 0 < i {
-        i -= 1;
-        was = bits::flip(was, bits::wide(log[i] % DRAW_MARK));
-        if was == drawn {
-            return moves - i;
+    // Cuts a notch at the place of drawn relays.
+    fn cut(&mut self, drawn: u64)
+        ensures { self.new.words ≡ with_notch self.old.words drawn }
+    {
+        let at = self.place(drawn);
+        let word = at / NOTCHES_IN_WORD;
+        self.words[word] = bits::with(self.words[word], (at % NOTCHES_IN_WORD) as u32);
+    }
+
+    // How many moves ago these relays were drawn, and no others, if they were before: it looks back only where there
+    // is a notch; and cuts one.
+    pub fn look_back(&mut self, log: &[u8], moves: usize, drawn: u64) -> Option<usize>
+        requires moves_logged { moves ≤ length log.now }
+        requires spares { Spares self.old.words log.now moves drawn }
+        ensures looked_back { result ≡ ago_of (back_from log.now moves drawn moves drawn) }
+        ensures notched { self.new.words ≡ with_notch self.old.words drawn }
+    {
+        let known = self.has(drawn);
+        self.cut(drawn);
+        if known {
+            met_ago(log, moves, drawn)
+        } else {
+            None
         }
     }
-    0
 }
 
-// The same, looking back only where there is a notch; and cuts one.
-pub fn look_back(notches: &mut [u64], log: &[u8], moves: usize, drawn: u64) -> usize
-    requires some_notches { 0 < length notches.old }
-    requires notches_few { length notches.old ≤ most_words }
-    requires moves_logged { moves ≤ length log.now }
-    requires spares { Spares notches.old log.now moves drawn }
-    ensures looked_back { result ≡ back_from log.now moves drawn moves drawn }
-    ensures notched { notches.new ≡ with_notch notches.old drawn }
+// How many moves ago these relays were drawn, and no others, if they were before.
+fn met_ago(log: &[u8], moves: usize, drawn: u64) -> Option<usize>
+    requires { moves ≤ length log.now }
+    ensures { result ≡ ago_of (back_from log.now moves drawn moves drawn) }
 {
-    let known = is_notched(notches, drawn);
-    notch(notches, drawn);
-    if known { met_ago(log, moves, drawn) } else { 0 }
+    let mut was = drawn;
+    for i in (0..moves).rev() {
+        was = bits::flip(was, u32::from(log[i] % DRAW_MARK));
+        if was == drawn {
+            return Some(moves - i);
+        }
+    }
+    None
 }

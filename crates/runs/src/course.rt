@@ -4,18 +4,13 @@ ghost use Rattle.board.specs.Rules.{most_relays};
 ghost use Rattle.kept.specs.Kept.{kept_at};
 ghost use Rattle.moves.specs.Steps.{told_move};
 ghost use Rattle.runs.specs.Looks.{draw_mark, byte_of};
-ghost use Rattle.runs.specs.LookingBack.{most_words};
 ghost use Rattle.runs.specs.Running.{ran_over, told_ran};
 
-use crate::{DRAW_MARK, Ending, NO_RELAY, Ran, back};
+use crate::back::Notches;
+use crate::{DRAW_MARK, Ending, NO_RELAY, Ran};
 use board::Board;
 use kept::Kept;
 use moves::Move;
-
-// Why a run stopped: the word, the relay that stopped it, and, where it met its state, the moves up to then and
-// between.
-#[derive(Clone, Copy)]
-struct Stop(Ending, u8, usize, usize);
 
 // The log byte of a move: the relay number, plus 128 for a draw.
 fn byte(relay: u8, motion: Move) -> u8
@@ -24,9 +19,7 @@ fn byte(relay: u8, motion: Move) -> u8
 {
     match motion {
         Move::Drew => relay + DRAW_MARK,
-        Move::Dropped => relay,
-        Move::Rests => relay,
-        Move::Conflict => relay,
+        Move::Dropped | Move::Rests | Move::Conflict => relay,
     }
 }
 
@@ -34,51 +27,52 @@ fn byte(relay: u8, motion: Move) -> u8
 // made and logged and it looks again, and anything else stops the run. The sets belong to the board and the state, and
 // are kept so. Where the windings lie is found once for the run, and which terminals are served and linked once for a
 // look.
-pub fn follow(board: Board, start: Kept, log: &mut [u8], notches: &mut [u64]) -> Ran
+pub fn follow<const WORDS: usize>(
+    board: Board,
+    start: Kept,
+    log: &mut [u8],
+    notches: &mut Notches<WORDS>,
+) -> Ran
     requires relays_few { board.counts.relays ≤ most_relays }
     requires start_kept { start ≡ kept_at board start.state }
-    requires some_notches { 0 < length notches.old }
-    requires notches_few { length notches.old ≤ most_words }
     ensures { told_ran result log.new ≡ ran_over board start log.old }
 {
     let relays = board.counts.relays;
     let windings = judge::find_all_windings(board);
     let mut kept = start;
     let mut moves = 0;
-    let stop = 'run: loop {
+    let (word, relay, earlier, between) = 'run: loop {
         let state = kept.state;
-        let ago = back::look_back(notches, log, moves, state.drawn);
-        if ago != 0 {
-            let earlier = moves - ago;
-            break 'run Stop(Ending::Buzz, NO_RELAY, earlier, ago);
+        if let Some(ago) = notches.look_back(log, moves, state.drawn) {
+            break 'run (Ending::Buzz, NO_RELAY, moves - ago, ago);
         }
-        let sets = kept.sets;
-        let feed = feed::feed_by(sets, board.counts.terminals);
-        let mut relay = 0;
-        'scan: loop {
-            if relays <= relay {
-                break 'run Stop(Ending::Idle, NO_RELAY, 0, 0);
-            }
-            let drawn = state.is_drawn(bits::wide(relay));
-            let motion = moves::step(feed.served, &feed.linked, windings[relay as usize], drawn);
+        let feed = feed::feed_by(kept.sets, board.counts.terminals);
+        'scan: for relay in 0..relays {
+            let drawn = state.is_drawn(u32::from(relay));
+            let motion = moves::step(
+                feed.served,
+                &feed.linked,
+                windings[usize::from(relay)],
+                drawn,
+            );
             match motion {
-                Move::Rests => relay += 1,
-                Move::Conflict => break 'run Stop(Ending::Conflict, relay, 0, 0),
+                Move::Rests => {}
+                Move::Conflict => break 'run (Ending::Conflict, relay, 0, 0),
                 Move::Drew | Move::Dropped => {
                     if log.len() <= moves {
-                        break 'run Stop(Ending::Spent, relay, 0, 0);
+                        break 'run (Ending::Spent, relay, 0, 0);
                     }
                     log[moves] = byte(relay, motion);
-                    kept = moves::after(board, kept, bits::wide(relay), motion);
+                    kept = moves::after(board, kept, u32::from(relay), motion);
                     moves += 1;
-                    break 'scan;
+                    continue 'run;
                 }
             }
         }
+        break 'run (Ending::Idle, NO_RELAY, 0, 0);
     };
-    let Stop(word, relay, earlier, between) = stop;
     Ran {
-        word,
+        word: Ok(word),
         moves,
         kept,
         relay,

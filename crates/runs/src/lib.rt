@@ -3,11 +3,14 @@
 #![tactic(auto)]
 
 ghost use Rattle.std.specs.Prelude.{◌≡◌, []};
-ghost use Rattle.runs.specs.Running.{unrun, told_ran, Runs};
+ghost use Rattle.refusals.specs.Refusals.{number_of};
+ghost use Rattle.refusals.specs.Outcomes.{told};
+ghost use Rattle.runs.specs.Running.{runnable, unrun, told_ran, Runs};
 
+use crate::back::Notches;
 use board::Board;
 use kept::Kept;
-use refusals::{Against, LOG_TOO_LONG, Refusal};
+use refusals::{No, Refusal, unless};
 
 mod back;
 mod course;
@@ -32,20 +35,19 @@ const FEW_WORDS: usize = 408;
 const MANY_WORDS: usize = 12_500;
 
 // How a run ends.
-#[derive(Clone, Copy)]
+#[derive(Clone, Copy, Debug, PartialEq, Eq)]
 pub enum Ending {
     Idle,
     Spent,
     Conflict,
     Buzz,
-    Refused(Refusal),
 }
 
-// The answer to a run: the word, the moves made, the state with the kept sets, the relay that stopped it, and, where it
-// buzzes, the moves made up to the earlier state and the moves between.
+// The answer to a run: its word or the refusal, the moves made, the state with the kept sets, the relay that stopped it,
+// and, where it buzzes, the moves made up to the earlier state and the moves between.
 #[derive(Clone, Copy)]
 pub struct Ran {
-    pub word: Ending,
+    pub word: Result<Ending, Refusal>,
     pub moves: usize,
     pub kept: Kept,
     pub relay: u8,
@@ -53,12 +55,21 @@ pub struct Ran {
     pub between: usize,
 }
 
+// What stands against a run over this log: 15, 14, 18 or 13, or nothing.
+fn runnable(board: Board, kept: Kept, log: &[u8]) -> Result<(), Refusal>
+    ensures { told result ≡ runnable board kept log.now }
+{
+    kept::usable(board, kept)?;
+    unless(log.len() <= LONGEST_LOG, No::LogTooLong)?;
+    Ok(())
+}
+
 // A refused run: the state and the sets as given, no moves, no relay, no meeting.
 fn refuse(kept: Kept, refusal: Refusal) -> Ran
-    ensures { told_ran result [] ≡ unrun refusal.number refusal.place kept [] }
+    ensures { told_ran result [] ≡ unrun (number_of refusal.no) refusal.place kept [] }
 {
     Ran {
-        word: Ending::Refused(refusal),
+        word: Err(refusal),
         moves: 0,
         kept,
         relay: NO_RELAY,
@@ -71,17 +82,19 @@ fn refuse(kept: Kept, refusal: Refusal) -> Ran
 pub fn run(board: Board, kept: Kept, log: &mut [u8]) -> Ran
     ensures { Runs board kept log.old result log.new }
 {
-    let usable = kept::usable(board, kept);
-    let against = usable.unless(log.len() <= LONGEST_LOG, LOG_TOO_LONG);
-    match against {
-        Against::Nothing => {
-            if log.len() <= SHORT_LOG {
-                let mut notches = [0u64; FEW_WORDS];
-                return course::follow(board, kept, log, &mut notches);
-            }
-            let mut notches = [0u64; MANY_WORDS];
+    match runnable(board, kept, log) {
+        Err(refusal) => refuse(kept, refusal),
+        Ok(()) if log.len() <= SHORT_LOG => {
+            let mut notches = Notches {
+                words: [0; FEW_WORDS],
+            };
             course::follow(board, kept, log, &mut notches)
         }
-        Against::Refused(refusal) => refuse(kept, refusal),
+        Ok(()) => {
+            let mut notches = Notches {
+                words: [0; MANY_WORDS],
+            };
+            course::follow(board, kept, log, &mut notches)
+        }
     }
 }

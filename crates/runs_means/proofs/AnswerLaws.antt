@@ -12,8 +12,8 @@ use Rattle.kept.specs.Kept.{kept_at}
 use Rattle.runs.specs.declared.Ran.{Ran}
 use Rattle.runs.specs.Runs.{Run}
 use Rattle.runs.specs.Running.{ran, run_on, told_ending, told_ran, Runs}
-use Rattle.refusals.proofs.Told.{told-lent_injective}
-use Rattle.runs.proofs.RunningLaws.{running_by, ran-told}
+use Rattle.refusals.proofs.Tabled.{tells_injective}
+use Rattle.runs.proofs.RunningLaws.{running_by, ran-tells}
 use Rattle.runs_means.specs.LongerRuns.{AcceptedRun, moves_of}
 
 -- a call that is not refused tells of the run
@@ -61,7 +61,8 @@ module _ (keep : State → Kept) (a : Ran) (l : List ℕ) (x : Run) (log : List 
 pub answer_unique : (keep : State → Kept) (a c : Ran) (l k : List ℕ) (x : Run) (log long : List ℕ)
     → told_ran a l ≡ ran keep x log → told_ran c k ≡ ran keep x long → a ≡ c
 answer_unique keep a c l k x log long told also =
-    (told-lent_injective told_ran ran-told a c [] [] (λ i. record {
+    ap (λ (p : Ran × List ℕ). p.0)
+    (tells_injective (λ (p : Ran × List ℕ). told_ran p.0 p.1) ran-tells (a, []) (c, []) (λ i. record {
       word = (answer_word keep a l x log told ∙ sym (answer_word keep c k x long also)) i;
       moves = (answer-moves keep a l x log told ∙ sym (answer-moves keep c k x long also)) i;
       kept = (answer-kept keep a l x log told ∙ sym (answer-kept keep c k x long also)) i;
@@ -69,4 +70,4 @@ answer_unique keep a c l k x log long told also =
       earlier = (answer_earlier keep a l x log told ∙ sym (answer_earlier keep c k x long also)) i;
       between = (answer_between keep a l x log told ∙ sym (answer_between keep c k x long also)) i;
       log = [];
-    })).0
+    }))

@@ -5,7 +5,6 @@ use mathlib.Core.Path.{◌≡◌, refl, sym, ap, subst, ◌∙◌}
 use mathlib.Core.Logic.{inl, inr, ⊎_elim}
 use mathlib.Core.Bool.{Bool, true, not}
 use borrow.Author.Tests.{lt-ltb}
-use Rattle.refusals.specs.declared.Against.TheVariants as stands
 use Rattle.refusals.specs.Outcomes.{Outcome, given, refused}
 use Rattle.refusals.proofs.OutcomeLaws.{refused_never, given_injective}
 use Rattle.board.specs.declared.Board.{Board}
@@ -19,7 +18,7 @@ use Rattle.moves.specs.Steps as step
 use Rattle.moves.specs.Steps.{step_of, made}
 use Rattle.moves.specs.Moving.{movable, moving, told_moved}
 use Rattle.moves.proofs.StepLaws.{made_fits}
-use Rattle.moves.proofs.MovingLaws.{movable_nothing, movable_fine, moving_given, moving_refused, moved_told}
+use Rattle.moves.proofs.MovingLaws.{movable_there, movable_fine, moving_given, moving_refused, moved-tells, moving-tabled}
 use Rattle.moves_means.specs.OneRelay.{ElseAsBefore, Changes}
 use Rattle.moves_means.proofs.SingleMoves.{call_moved}
 use Rattle.moves_means.proofs.OneRelay.{changes_one_relay}
@@ -58,13 +57,13 @@ module _ (b : Board) (s : State) (r : ℕ) where
 
   pub stepped_answers : {m : step.Move} {t : State} → Stepped b s r m t → Answers b s r m t
   stepped_answers {m} {t} x =
-      let taken = movable_nothing b h r {a = stands.Nothing} (sym (usable_fine b s x.fine x.fits))
-      (sym (lt-ltb r b.counts.relays x.below)) refl refl in
-      let told : told_moved (moved_told.untold (moving b h r)) ≡ (kept_at b (made s r m), given m) =
-      moved_told.onto (moving b h r) ∙ sym (moving_given b h r m taken (sym x.steps)) in
+      let taken = movable_there b h r (usable_fine b s x.fine x.fits) (lt-ltb r b.counts.relays x.below) in
+      let call = moved-tells.onto (moving b h r) (moving-tabled b h r) in
+      let told : told_moved (moved-tells.untold (moving b h r)) ≡ (kept_at b (made s r m), given m) =
+      call ∙ sym (moving_given b h r m taken (sym x.steps)) in
       record {
-        answer = moved_told.untold (moving b h r);
-        call = moved_told.onto (moving b h r);
+        answer = moved-tells.untold (moving b h r);
+        call = call;
         says = λ i. (told i).1;
         leaves = (λ i. (told i).0.state) ∙ x.leads;
       }

@@ -11,7 +11,7 @@
 --                            left l, and is the same run where that one stands
 --     LongerRun              the theorem: no shorter log. Of one state only its own sets are not refused, so "from one
 --                            board and state" is from one h
-use Rattle.std.specs.Prelude.{ℕ, ◌≤◌, ◌≡◌, ◌⊎◌, List, ◌++◌, length, take}
+use Rattle.std.specs.Prelude.{ℕ, ◌≤◌, ◌≡◌, ◌⊎◌, Ok, List, ◌++◌, length, take}
 use Rattle.refusals.specs.Outcomes.{given}
 use Rattle.board.specs.declared.Board.{Board}
 use Rattle.kept.specs.declared.Kept.{Kept}
@@ -30,7 +30,7 @@ pub record IsStart (xs ys : List ℕ) : Type 0 where
   pub whole : ys ≡ xs ++ rest
 
 abbrev pub Stands : Ran → Type 0
-Stands a = (a.word ≡ Idle) ⊎ ((a.word ≡ Conflict) ⊎ (a.word ≡ Buzz))
+Stands a = (a.word ≡ Ok Idle) ⊎ ((a.word ≡ Ok Conflict) ⊎ (a.word ≡ Ok Buzz))
 
 pub record Extends (a : Ran) (l : List ℕ) (c : Ran) (k : List ℕ) : Type 0 where
   pub starts : IsStart (moves_of a l) (moves_of c k)

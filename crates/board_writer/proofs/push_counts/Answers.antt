@@ -1,5 +1,4 @@
 use Rattle.std.proofs.Common.{arith, length-append, append_assoc}
-use Rattle.std.proofs.lemmas.Grind.{common_steps}
 use Rattle.board_writer.proofs.LengthLaws.{counts_bytes_sum, counts_bytes_are}
 use Rattle.board_writer.proofs.push_counts.Goals as goal
 

@@ -3,8 +3,8 @@ use borrow.Author.Rules.{rules}
 use Rattle.divide.proofs.AtOnceLaws.{judging-told, judging_refused}
 use Rattle.divide.proofs.judge.Goals as goal
 
-pub returns-in-Given : goal.returns-in-Given
-returns-in-Given c = search (rules, judging-told)
+pub returns-in_err-winding : goal.returns-in_err-winding
+returns-in_err-winding c = search (rules, judging_refused)
 
-pub returns-in-Refused : goal.returns-in-Refused
-returns-in-Refused c = search (rules, judging_refused)
+pub returns : goal.returns
+returns c = search (rules, judging-told)

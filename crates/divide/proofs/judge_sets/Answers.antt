@@ -6,8 +6,8 @@ use Rattle.divide.proofs.judge_sets.Goals as goal
 pub returns-then-is_shunted : goal.returns-then-is_shunted
 returns-then-is_shunted c = search (rules, told-shunted)
 
-pub returns-then-x-terminals : goal.returns-then-x-terminals
-returns-then-x-terminals c = search (rules, told_dead)
+pub returns-in-Some : goal.returns-in-Some
+returns-in-Some c = search (rules, told_dead)
 
-pub returns-else-x-terminals : goal.returns-else-x-terminals
-returns-else-x-terminals c = search (rules, told_live)
+pub returns-in-None : goal.returns-in-None
+returns-in-None c = search (rules, told_live)

@@ -1,16 +1,19 @@
--- `divide::lowest_dividing` meets its contract. The invariant: none below x divides.
+-- `divide::lowest_dividing` meets its contract: the first terminal that is found to divide is the lowest that does.
 use borrow.Author.Rules.{rules}
-use Rattle.divide.proofs.AtOnceLaws.{none_starts, none_found, none_on, none-ends}
+use mathlib.Core.Path.{◌≡◌, refl}
+use mathlib.Core.Bool.{true, false}
+use Prim.Native.Nat.{ℕ}
+use Rattle.std.proofs.lemmas.Iterator.{first_from_Range}
+use Rattle.divide.specs.AtOnce.{divides}
+use Rattle.divide.proofs.AtOnceLaws.{lowest_found}
 use Rattle.divide.proofs.lowest_dividing.Goals as goal
 
-pub loop-x-init : goal.loop-x-init
-loop-x-init c = none_starts _ _ _
-
-pub returns-then-divides : goal.returns-then-divides
-returns-then-divides c = search (rules, none_found)
-
-pub loop-x-preserved : goal.loop-x-preserved
-loop-x-preserved c = search (rules, none_on)
-
 pub returns : goal.returns
-returns c = none-ends _ _ _ _ c.loop-x.invariant c.loop-x-test.false
+returns c =
+    lowest_found _ _ _ _
+    (first_from_Range _ _ _ _
+    (λ (x : ℕ). divides c.args.near.now c.args.winding x ≡ true)
+    (λ (x : ℕ). divides c.args.near.now c.args.winding x ≡ false)
+    c.find.ensures.ran
+    (λ x q k. search rules)
+    (λ x q k. (search rules, search rules)))

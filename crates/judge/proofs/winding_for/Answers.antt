@@ -4,8 +4,8 @@ use borrow.Author.Rules.{rules}
 use Rattle.judge.proofs.JudgeLaws.{asked-usable, asked_unusable}
 use Rattle.judge.proofs.winding_for.Goals as goal
 
-pub returns-in-Nothing : goal.returns-in-Nothing
-returns-in-Nothing c = search (rules, asked-usable)
+pub returns-in_err-usable : goal.returns-in_err-usable
+returns-in_err-usable c = search (rules, asked_unusable)
 
-pub returns-in-Refused : goal.returns-in-Refused
-returns-in-Refused c = search (rules, asked_unusable)
+pub returns : goal.returns
+returns c = search (rules, asked-usable)

@@ -1,16 +1,12 @@
--- `moves::move_relay` meets its contract: its lines are those of the definition, in that order, and where nothing
--- stands against it, the relay's step is made.
-use borrow.Author.Rules.{rules}
-use mathlib.Core.Path.{ap}
-use lib.Dec.{ltb}
-use Rattle.moves.proofs.MovingLaws.{movable_nothing, movable_refused, moving_refused, moving_moved}
+-- `moves::move_relay` meets its contract: where nothing stands against it, the relay's step is made.
+use mathlib.Core.Path.{sym, ap, ◌∙◌}
+use Rattle.refusals.specs.Outcomes.{told}
+use Rattle.moves.proofs.MovingLaws.{moving_refused, moving_moved}
 use Rattle.moves.proofs.move_relay.Goals as goal
 
-pub returns-in-Nothing : goal.returns-in-Nothing
-returns-in-Nothing c = search (rules, movable_nothing, moving_moved)
+pub returns-in-Ok : goal.returns-in-Ok
+returns-in-Ok c =
+    moving_moved _ _ _ _ _ (sym c.movable.ensures ∙ ap told c.in-Ok.is) c.step_by-motion.ensures c.after.ensures
 
-pub returns-in-Refused : goal.returns-in-Refused
-returns-in-Refused c =
-    moving_refused _ _ _ _ _
-    (movable_refused _ _ _ c.usable-usable.ensures
-    (ap (ltb _) c.wide.ensures.0) c.unless-against.ensures _ c.in-Refused.is)
+pub returns-in-Err : goal.returns-in-Err
+returns-in-Err c = moving_refused _ _ _ _ _ (sym c.movable.ensures ∙ ap told c.in-Err.is)

@@ -1,15 +1,43 @@
--- `neighbours::gather` meets its contract. The invariant: both rows, by all parts that conduct and by those of them
--- that are no winding, have besides what the parts from i on join between the terminals.
-use lib.ListN.{length-map}
-use Rattle.neighbours.proofs.RowLaws.{row_starts, row_on, row_long}
-use Rattle.std.proofs.Common.{rules}
+-- `neighbours::gather` meets its contract. The invariant: what all the parts join comes to what the parts that are left
+-- join to the sets so far.
+use mathlib.Core.Path.{◌≡◌, sym, ap, ◌∙◌, refl}
+use mathlib.Core.List.{List, [], ◌∷◌}
+use lib.ListN.{length}
+use native.Mathlib.Omega.{arith}
+use Rattle.board.specs.declared.Part.{Part}
+use Rattle.neighbours.specs.Rows.{among_by, gathered}
+use Rattle.neighbours.proofs.RowLaws.{gathered_last, gathered_none, each_by}
 use Rattle.neighbours.proofs.gather.Goals as goal
 
-pub loop-i-init : goal.loop-i-init
-loop-i-init c = search (rules, length-map, row_starts)
+no_items : (ps : List Part) → length ps ≡ 0 → ps ≡ []
+no_items [] none = refl
+no_items (p ∷ ps) none = absurd (omega arith)
 
-pub bridge_both-requires : goal.bridge_both-requires
-bridge_both-requires c = search (rules, row_long)
+pub loop-part-init : goal.loop-part-init
+loop-part-init g c = record {
+  long = c.requires.whole;
+  left = λ f tests.
+      ap (λ (ps : List Part). gathered (among_by c.args.at f) ps c.args.near.now)
+      (sym (ap (λ it. it.iter.rest.now) c.into_iter-part-iterator.ensures.into_iter_gives
+      ∙ ap (λ it. it.rest.now) c.rev-part-items.ensures.source ∙ c.iter.ensures.rest));
+}
 
-pub loop-i-preserved : goal.loop-i-preserved
-loop-i-preserved c = search (rules, row_on)
+pub bridge-requires : goal.bridge-requires
+bridge-requires g c = c.loop-part.invariant.long
+
+pub loop-part-preserved : goal.loop-part-preserved
+loop-part-preserved g c = record {
+  long = c.bridge.array_long;
+  left = λ f tests.
+      c.loop-part.invariant.left f tests
+      ∙ ap (λ (ps : List Part). gathered (among_by c.args.at f) ps c.loop-part.near) c.in-Some.ensures.steps
+      ∙ gathered_last (among_by c.args.at f) c.next.new.self.iter.rest.now c.in-Some.part.now c.loop-part.near
+      c.bridge.new.near (each_by c.args.at f c.in-Some.part.now _ _ _ (tests _ _ c.joins.ensures) c.bridge.ensures);
+}
+
+pub returns : goal.returns
+returns g c f tests =
+    sym (c.loop-part.invariant.left f tests
+    ∙ ap (λ (ps : List Part). gathered (among_by c.args.at f) ps c.loop-part.near)
+    (no_items _ c.in-None.ensures.steps.0)
+    ∙ gathered_none (among_by c.args.at f) c.loop-part.near c.loop-part.invariant.long)

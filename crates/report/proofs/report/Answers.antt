@@ -3,8 +3,8 @@ use borrow.Author.Rules.{rules}
 use Rattle.report.proofs.ReportLaws.{reported_all, reported_none}
 use Rattle.report.proofs.report.Goals as goal
 
-pub returns-in-Nothing : goal.returns-in-Nothing
-returns-in-Nothing c = search (rules, reported_all)
+pub returns-in-Ok : goal.returns-in-Ok
+returns-in-Ok c = search (rules, reported_all)
 
-pub returns-in-Refused : goal.returns-in-Refused
-returns-in-Refused c = search (rules, reported_none)
+pub returns-in-Err : goal.returns-in-Err
+returns-in-Err c = search (rules, reported_none)

@@ -1,14 +1,19 @@
--- `neighbours::row::clear` meets its contract. The invariant: the sets of the terminals below x are done, and the
--- others are as they were.
-use borrow.Author.Rules.{rules}
-use Rattle.neighbours.proofs.RowLaws.{clear_starts, clear_after, clear_on}
+-- `neighbours::row::clear` meets its contract. The invariant: the sets of the terminals before the next are done, and
+-- the others are as they were.
+use Rattle.neighbours.proofs.RowLaws.{clear_starts, clear_after, clear_on, clear-ends}
 use Rattle.neighbours.proofs.row.clear.Goals as goal
 
-pub loop-x-init : goal.loop-x-init
-loop-x-init c = clear_starts _ _ _ c.lowest_from-x.ensures
+pub loop-next-init : goal.loop-next-init
+loop-next-init c = clear_starts _ _ _ c.lowest_from-next.ensures
 
-pub loop-x-smaller : goal.loop-x-smaller
-loop-x-smaller c = search (rules, clear_after)
+pub loop-next-smaller : goal.loop-next-smaller
+loop-next-smaller c =
+    clear_after _ _ _ _ c.in-Some.is (c.loop-next.invariant.within _ c.in-Some.is) c.lowest_from-next-in-Some.ensures
 
-pub loop-x-preserved : goal.loop-x-preserved
-loop-x-preserved c = search (rules, clear_on)
+pub loop-next-preserved : goal.loop-next-preserved
+loop-next-preserved c =
+    clear_on _ _ _ _ _ _ _ c.requires c.loop-next.invariant c.in-Some.is c.remaining.ensures
+    c.lowest_from-next-in-Some.ensures
+
+pub returns : goal.returns
+returns c = clear-ends _ _ _ _ c.loop-next.invariant c.in_default.is

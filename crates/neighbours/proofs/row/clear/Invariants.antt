@@ -1,14 +1,12 @@
--- `neighbours::row::clear` meets its contract. The invariant: the sets of the terminals below x are done, and the
--- others are as they were.
+-- `neighbours::row::clear` meets its contract. The invariant: the sets of the terminals before the next are done, and
+-- the others are as they were.
 use Prim.Native.Nat.{◌-◌}
 use Rattle.bits.specs.Sets.{room}
-use Rattle.neighbours.proofs.RowLaws.{ClearedBelow}
+use Rattle.neighbours.proofs.RowLaws.{ClearedTo, next_or_room}
 use Rattle.neighbours.proofs.row.clear.Given as goal
 
-abbrev pub invariant-loop-x : goal.invariant-loop-x
-invariant-loop-x l =
-    ClearedBelow l.at l.initial.near l.x l.near
+abbrev pub invariant-loop-next : goal.invariant-loop-next
+invariant-loop-next l = ClearedTo l.at l.fn.near l.next l.near
 
-abbrev pub decreases-loop-x : goal.decreases-loop-x
-decreases-loop-x l =
-    room - l.x
+abbrev pub decreases-loop-next : goal.decreases-loop-next
+decreases-loop-next l = room - next_or_room l.next

@@ -18,7 +18,7 @@ followed-requires t c =
       some_within = both_ways-within _ _ _ _ ((can_set_fewer _ _ _ _ c.requires _ (omega arith))) _
           c.report_from-off.ensures;
       others_within =
-          both_ways-within _ _ _ _ ((can_set_on _ _ _ _ c.requires c.if-left-eq0.false _ _ _ c.wide.ensures.0
+          both_ways-within _ _ _ _ ((can_set_on _ _ _ _ c.requires c.if-left-eq0.false _ _ _ c.from.ensures
           c.push.ensures c.report_from-off.auto.log)) _
           c.report_from-on.ensures;
     }

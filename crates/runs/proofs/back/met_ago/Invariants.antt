@@ -5,7 +5,3 @@ use Rattle.runs.proofs.back.met_ago.Given as goal
 abbrev pub invariant-loop-i : goal.invariant-loop-i
 invariant-loop-i l =
     Looking l.log l.moves l.drawn l.i l.was
-
-abbrev pub decreases-loop-i : goal.decreases-loop-i
-decreases-loop-i l =
-    l.i

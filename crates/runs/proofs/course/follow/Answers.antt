@@ -3,56 +3,58 @@
 -- relay.
 use borrow.Author.Rules.{rules}
 use native.Mathlib.Omega.{arith}
-use mathlib.Core.Path.{refl, ap, ◌∙◌}
+use mathlib.Core.Path.{refl, sym, ap, ◌∙◌}
 use Rattle.moves.specs.Steps.{told_move}
 use Rattle.moves.proofs.StepLaws.{step_turns, kept_made_lem}
 use Rattle.runs.proofs.SeenLaws.{step_seen, told-moving}
 use Rattle.runs.proofs.CourseLaws.{course_starts, scan_starts, scan_rests}
 use Rattle.runs.proofs.CourseLaws.{course_buzz, course_idle, course_conflict, course_spent, course-moves}
-use Rattle.runs.proofs.BackLaws.{back-within}
+use Rattle.runs.proofs.BackLaws.{met_within}
 use Rattle.runs.proofs.NotchLaws.{covered-spares}
 use Rattle.runs.proofs.course.follow.Goals as goal
 
 pub run-init : goal.run-init
-run-init c = course_starts _ _ _ _ _ _ c.requires.start_kept
+run-init g c = course_starts _ _ _ _ _ _ c.requires.start_kept
 
-pub look_back-ago-requires : goal.look_back-ago-requires
-look_back-ago-requires c = search (rules, covered-spares)
+pub look_back-requires : goal.look_back-requires
+look_back-requires g c = search (rules, covered-spares)
 
-pub overflow_sub-earlier : goal.overflow_sub-earlier
-overflow_sub-earlier c = search (rules, back-within)
+pub overflow_sub-word : goal.overflow_sub-word
+overflow_sub-word g c = search (rules, met_within)
 
 pub scan-init : goal.scan-init
-scan-init c = search (rules, step_seen, scan_starts)
+scan-init g c = search (rules, step_seen, scan_starts)
 
 pub scan-preserved : goal.scan-preserved
-scan-preserved c =
-    scan_rests c.scan.invariant c.if-relays-relay.false c.wide.ensures.0
+scan-preserved g c =
+    scan_rests c.scan.invariant c.scan-test.true c.from.ensures c.from-in-scan.ensures
     c.is_drawn-drawn.ensures c.step-motion.ensures (ap told_move c.in-Rests.is)
 
 pub run-preserved : goal.run-preserved
-run-preserved c =
-    course-moves c.scan.invariant c.run.invariant c.if-relays-relay.false
-    c.wide.ensures.0 c.is_drawn-drawn.ensures c.step-motion.ensures (λ s. refl)
-    (omega (arith, c.if-relays-relay.false, c.requires.relays_few)) (λ s. step_turns _ s _)
-    c.wide-in-Drew.ensures.0
+run-preserved g c =
+    course-moves c.scan.invariant c.run.invariant c.scan-test.true c.from.ensures c.from-in-scan.ensures
+    c.is_drawn-drawn.ensures c.step-motion.ensures (λ s. refl)
+    (omega (arith, c.scan-test.true, c.requires.relays_few)) (λ s. step_turns _ s _)
+    c.from-in-Drew.ensures
     (λ own. c.after-kept.ensures
-    ∙ kept_made_lem _ c.scan.kept c.wide-in-Drew.result (told_move c.step-motion.result) own)
+    ∙ kept_made_lem _ c.scan.kept c.from-in-Drew.result (told_move c.step-motion.result) own)
     (told-moving c.step-motion.result c.in-Drew.is)
-    c.if-log-moves.false c.byte.ensures c.requires.some_notches
-    c.look_back-ago.ensures.notched
+    c.if-log-moves.false c.byte.ensures c.args.notches.now.some
+    c.look_back.ensures.notched
 
-pub returns-then-ago-ne0 : goal.returns-then-ago-ne0
-returns-then-ago-ne0 c = search (rules, course_buzz)
+pub returns-in-Some : goal.returns-in-Some
+returns-in-Some g c = course_buzz c.run.invariant (sym c.in-Some.is ∙ c.look_back.ensures.looked_back)
 
-pub returns-then-relays-relay : goal.returns-then-relays-relay
-returns-then-relays-relay c = search (rules, course_idle)
+pub returns-after-scan : goal.returns-after-scan
+returns-after-scan g c = course_idle c.scan.invariant c.run.invariant c.scan-test.false
 
 pub returns-in-Conflict : goal.returns-in-Conflict
-returns-in-Conflict c =
-    course_conflict c.scan.invariant c.run.invariant c.if-relays-relay.false
-    c.wide.ensures.0 c.is_drawn-drawn.ensures c.step-motion.ensures
+returns-in-Conflict g c =
+    course_conflict c.scan.invariant c.run.invariant c.scan-test.true c.from.ensures c.from-in-scan.ensures
+    c.is_drawn-drawn.ensures c.step-motion.ensures
     (ap told_move c.in-Conflict.is)
 
 pub returns-then-log-moves : goal.returns-then-log-moves
-returns-then-log-moves c = search (rules, told-moving, course_spent)
+returns-then-log-moves g c =
+    course_spent c.scan.invariant c.run.invariant c.scan-test.true c.from.ensures c.from-in-scan.ensures
+    c.is_drawn-drawn.ensures c.step-motion.ensures (told-moving c.step-motion.result c.in-Drew.is) c.if-log-moves.true

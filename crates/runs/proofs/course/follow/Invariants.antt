@@ -12,21 +12,17 @@ use Rattle.runs.proofs.CourseLaws.{Course, ScanSoFar}
 use Rattle.runs.proofs.course.follow.Given as goal
 
 abbrev pub invariant-scan : goal.invariant-scan
-invariant-scan l =
+invariant-scan g l =
     ScanSoFar (step_of l.board) (seeing l.feed l.windings) l.relays l.initial.log l.initial.moves l.initial.kept l.log
     l.moves l.kept l.relay
 
-abbrev pub decreases-scan : goal.decreases-scan
-decreases-scan l =
-    l.relays - l.relay
-
 abbrev pub invariant-run : goal.invariant-run
-invariant-run l =
+invariant-run g l =
     Course (step_of l.board) (kept_at l.board) l.relays
     (ran (kept_at l.board) (run_of (step_of l.board) l.relays (length l.initial.log) l.initial.kept.state)
-    l.initial.log) (length l.initial.log) (length l.initial.notches)
-    l.log l.notches l.moves l.kept
+    l.initial.log) (length l.initial.log) (length l.initial.notches.words)
+    l.log l.notches.words l.moves l.kept
 
 abbrev pub decreases-run : goal.decreases-run
-decreases-run l =
+decreases-run g l =
     length l.initial.log - l.moves

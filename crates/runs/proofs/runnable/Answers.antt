@@ -1,0 +1,22 @@
+-- `runs::runnable` meets its contract: its lines are those of the definition, in that order.
+use mathlib.Core.Path.{sym, ap, ◌∙◌}
+use Rattle.refusals.specs.Outcomes.{told}
+use Rattle.refusals.proofs.LineLaws.{ends_with, line_holds, line_refuses}
+use Rattle.runs.proofs.RunningLaws.{runnable_unusable, runnable_long, runnable_short}
+use Rattle.runs.proofs.runnable.Goals as goal
+
+pub returns-in_err-usable : goal.returns-in_err-usable
+returns-in_err-usable c =
+    ap told (ends_with _ _ c.from_residual.ensures)
+    ∙ sym (runnable_unusable _ _ _ (sym c.usable.ensures ∙ ap told c.in_err-usable.was))
+
+pub returns-in_err-unless : goal.returns-in_err-unless
+returns-in_err-unless c =
+    let stop = line_refuses _ _ _ _ (sym c.in_err-unless.was ∙ c.unless.ensures)
+    c.from_residual-in_err-unless.ensures in
+    stop.1 ∙ sym (runnable_long _ _ _ (sym c.usable.ensures ∙ ap told c.in_ok-usable.was) stop.0)
+
+pub returns : goal.returns
+returns c =
+    sym (runnable_short _ _ _ (sym c.usable.ensures ∙ ap told c.in_ok-usable.was)
+    (line_holds _ _ _ (sym c.in_ok-unless.was ∙ c.unless.ensures)))
