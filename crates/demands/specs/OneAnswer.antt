@@ -5,7 +5,7 @@
 --     OneLent P    P allows an answer with what it leaves in a lent log or buffer, and any two that it allows are one
 --                  answer, and leave the same
 --     OneAnswer    the list; the argument of `bits_wide` is a byte: its promise is kept by std's `u32::from` today
-use Rattle.std.specs.Prelude.{ℕ, ◌<◌, ◌≡◌, Bool, List}
+use Rattle.std.specs.Prelude.{ℕ, ◌<◌, ◌≡◌, Bool, List, Option}
 use Rattle.bits.specs.Sets.{SetHas, SetWith, SetWithout, SetFlipped, SetRemaining, SetTogether, SetLowestFrom}
 use Rattle.bits.specs.Sets.{SetAllBelow, WideByte}
 use Rattle.refusals.specs.Order.{AsksLine}
@@ -126,7 +126,7 @@ pub record OneAnswer : Type 0 where
   pub divide_check : (b : Board) (h : Kept) (r : ℕ) (k : Which) (x : ℕ) → One (ChecksTerminal b h r k x)
   pub presses_push : (b : Board) (h : Kept) (n : ℕ) → One (Pushes b h n)
   pub presses_release : (b : Board) (h : Kept) (n : ℕ) → One (Releases b h n)
-  pub moves_step : (n : ℕ) (l : List ℕ) (x : Windings) (d : Bool) → One (StepsRelay n l x d)
+  pub moves_step : (n : ℕ) (l : List ℕ) (x : Option Windings) (d : Bool) → One (StepsRelay n l x d)
   pub moves_after : (b : Board) (h : Kept) (r : ℕ) (m : Move) → One (AfterMove b h r m)
   pub moves_move_relay : (b : Board) (h : Kept) (r : ℕ) → One (Moves b h r)
   pub runs_run : (b : Board) (h : Kept) (log : List ℕ) → OneLent (Runs b h log)
