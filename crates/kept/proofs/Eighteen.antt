@@ -97,5 +97,5 @@ module _ (b : Board) (h : Kept) where
           (refl, refl, λ join. foreign_not b h z (join_kept b (fine_fits b x) h join))
 
 pub eighteen_exactly : EighteenExactly
-eighteen_exactly b h a told =
-    (λ is. given_foreign b h (sym told ∙ is), λ (fine, state, apart). told ∙ foreign_given b h fine state apart)
+eighteen_exactly b h a tells =
+    (λ is. given_foreign b h (sym tells ∙ is), λ (fine, state, apart). tells ∙ foreign_given b h fine state apart)

@@ -1,20 +1,19 @@
 -- Laws of kept sets: when they belong to a board and a state, and when a call can use them. The crates above cite
--- these, and nothing of the definitions' text. The last two sections are for the proofs of `same_row`, `belong` and
--- `usable`.
-use Prim.Native.Nat.{ℕ, ◌+◌, ◌<◌, ◌≤◌}
-use native.Mathlib.Numerals.{add-one}
+-- these, and nothing of the definitions' text. The last two sections are for the proofs of `belong` and `usable`.
+use Prim.Native.Nat.{ℕ}
 use mathlib.Core.Path.{◌≡◌, refl, sym, ap, ap₂, ◌∙◌}
 use mathlib.Core.Bool.{Bool, true, false, ◌&&◌, false≢true}
 use mathlib.Core.List.{List, [], ◌∷◌, ◌++◌}
+use Rattle.std.specs.Cmp.Lexicographic.{pointwise}
 use lib.Dec.{eqb}
-use lib.ListN.{length, get_or, drop, drop_of_length-le}
-use lib.Seq.{drop-cons}
-use borrow.Author.Tests.{eqb-true, eq-eqb, ne_eqb}
+use borrow.Author.Tests.{eqb-true, eq-eqb}
 use Rattle.bits.proofs.BoolLaws.{both_true, true_both}
-use Rattle.refusals.specs.Outcomes.{Outcome, given, refused, ◌>>◌, unless}
+use Rattle.refusals.specs.Outcomes.{Outcome, given, refused, ◌>>◌}
 use Rattle.refusals.specs.Refusals.{broken_board, state_beyond_board, foreign_sets}
 use Rattle.refusals.specs.Order.{Order, first_no}
-use Rattle.refusals.proofs.OrderLaws.{asks_append, asks_then, first_holds}
+use Rattle.refusals.proofs.OrderLaws.{asks_append, first_holds}
+use Rattle.refusals.proofs.Tabled.{Tabled, TabledLines, tabled_lines}
+use Rattle.refusals.specs.declared.No.TheVariants as No
 use Rattle.board.specs.declared.Board.{Board}
 use Rattle.board.specs.Rules.{board_fine}
 use Rattle.state.specs.declared.State.{State}
@@ -114,51 +113,41 @@ unfolding left
 left_either P h f (given a) here there = there a refl
 left_either P h f (refused n p) here there = here
 
--- ---- row by row, for the proofs of `same_row` and `belong`
+-- ---- the rows by `==`, for the proof of `belong`
 
-module _ (xs ys : List ℕ) (i : ℕ) (so : same_row xs ys ≡ same_row (drop i xs) (drop i ys)) where
-  -- one place more
-  rows_next : i < length xs → i < length ys
-      → same_row xs ys ≡ (eqb (get_or xs i 0) (get_or ys i 0) && same_row (drop (i + 1) xs) (drop (i + 1) ys))
-  unfolding same_row
-  rows_next inside also = so ∙ rw (drop-cons xs i 0 inside, drop-cons ys i 0 also, add-one i) refl
+pub rows_pointwise : (xs ys : List ℕ) → pointwise eqb xs ys ≡ same_row xs ys
+unfolding same_row
+rows_pointwise [] [] = refl
+rows_pointwise [] (y ∷ ys) = refl
+rows_pointwise (x ∷ xs) [] = refl
+rows_pointwise (x ∷ xs) (y ∷ ys) = ap (λ (t : Bool). eqb x y && t) (rows_pointwise xs ys)
 
-  pub rows_same : i < length xs → i < length ys → get_or xs i 0 ≡ get_or ys i 0
-      → same_row xs ys ≡ same_row (drop (i + 1) xs) (drop (i + 1) ys)
-  rows_same inside also same = rows_next inside also ∙ rw (eq-eqb _ _ same) refl
-
-  pub rows_differ : i < length xs → i < length ys → ¬ (get_or xs i 0 ≡ get_or ys i 0) → false ≡ same_row xs ys
-  rows_differ inside also differ = sym (rows_next inside also ∙ rw (ne_eqb _ _ differ) refl)
-
-  pub rows_end : length xs ≤ i → length ys ≤ i → true ≡ same_row xs ys
-  unfolding same_row
-  rows_end past also =
-      sym (so ∙ rw (drop_of_length-le xs {i = i} past, drop_of_length-le ys {i = i} also) refl)
-
--- what is asked of the rows of k, by the tests t and u, is asked of the board's own
-module _ (b : Board) (h : Kept) (k : Sets) (own : k ≡ sets_of b h.state) {t : Bool}
-    (first : t ≡ same_row h.sets.near k.near) where
-  near_asked : t ≡ same_row h.sets.near (neighbours b h.state)
-  near_asked = first ∙ ap (λ (l : Sets). same_row h.sets.near l.near) own
-
-  pub belongs_second : {u : Bool} → t ≡ true → u ≡ same_row h.sets.bare k.bare → u ≡ belongs b h
-  unfolding belongs
-  belongs_second on second =
-      second ∙ ap (λ (l : Sets). same_row h.sets.bare l.bare) own
-      ∙ ap (λ (v : Bool). v && same_row h.sets.bare (bare_neighbours b h.state)) (sym on ∙ near_asked)
-
-  pub belongs_not : t ≡ false → false ≡ belongs b h
-  unfolding belongs
-  belongs_not off =
-      ap (λ (v : Bool). v && same_row h.sets.bare (bare_neighbours b h.state)) (sym off ∙ near_asked)
+pub belongs_by : (b : Board) (h : Kept) (own : Sets) → own ≡ sets_of b h.state
+    → (pointwise eqb h.sets.near own.near && pointwise eqb h.sets.bare own.bare) ≡ belongs b h
+unfolding belongs
+belongs_by b h own is =
+    ap (λ (k : Sets). pointwise eqb h.sets.near k.near && pointwise eqb h.sets.bare k.bare) is
+    ∙ ap₂ (λ (t u : Bool). t && u) (rows_pointwise h.sets.near (neighbours b h.state))
+    (rows_pointwise h.sets.bare (bare_neighbours b h.state))
 
 -- ---- the three lines one after the other, for the proof of `usable`
 
-pub usable_asked : (b : Board) (h : Kept) {t u v : Bool} {o p q : Outcome (Unit {0})} → t ≡ board_fine b
-    → u ≡ state_fine b.counts h.state → v ≡ belongs b h → o ≡ unless t broken_board 0
-    → p ≡ (o >> unless u state_beyond_board 0) → q ≡ (p >> unless v foreign_sets 0) → q ≡ usable b h
-unfolding usable first_no
-usable_asked b h board state own first second third =
-    asks_then ((board_fine b, broken_board) ∷ (state_fine b.counts h.state, state_beyond_board) ∷ []) foreign_sets
-    (asks_then ((board_fine b, broken_board) ∷ []) state_beyond_board
-    (asks_then [] broken_board refl board first) state second) own third
+module _ (b : Board) (h : Kept) where
+  pub usable_broken : board_fine b ≡ false → refused broken_board 0 ≡ usable b h
+  unfolding usable first_no
+  usable_broken broken = rw broken refl
+
+  pub usable_beyond : board_fine b ≡ true → state_fine b.counts h.state ≡ false → refused state_beyond_board 0 ≡ usable b h
+  unfolding usable first_no
+  usable_beyond fine beyond = rw (fine, beyond) refl
+
+  pub usable_foreign : board_fine b ≡ true → state_fine b.counts h.state ≡ true → belongs b h ≡ false
+      → refused foreign_sets 0 ≡ usable b h
+  unfolding usable first_no
+  usable_foreign fine fits foreign = rw (fine, fits, foreign) refl
+
+pub usable_tabled : (b : Board) (h : Kept) → Tabled (usable b h)
+unfolding usable TabledLines
+usable_tabled b h =
+    tabled_lines (usable_lines b h)
+    ((No.BrokenBoard, refl), ((No.StateBeyondBoard, refl), ((No.ForeignSets, refl), tt)))

@@ -5,7 +5,7 @@ use Prim.Native.Nat.{ℕ, ◌<◌}
 use mathlib.Core.Path.{◌≡◌, refl, sym, ap, ap₂, subst, ◌∙◌}
 use mathlib.Core.Logic.{◌⊎◌, inl, inr, ⊎_elim}
 use mathlib.Core.Bool.{Bool, true, false, not, ◌&&◌, false≢true}
-use mathlib.Core.List.{List, [], ◌∷◌}
+use mathlib.Core.List.{List, [], ◌∷◌, ◌++◌}
 use lib.Dec.{eqb}
 use borrow.Author.Tests.{eqb-true, eqb-false}
 use Rattle.lists.specs.Members.{◌∈◌}
@@ -79,6 +79,26 @@ pub changed_ends_next : (c : Change) (p : Part) (ps : List Part)
     → changed_ends c (p ∷ ps) ≡ with_ends c p (changed_ends c ps)
 unfolding changed_ends
 changed_ends_next c p ps = refl
+
+-- the ends of the parts with those of k besides, part by part from the last
+pub ends_from : Change → List Part → ℕ → ℕ
+ends_from c [] k = k
+ends_from c (p ∷ ps) k = with_ends c p (ends_from c ps k)
+
+pub ends_from_none : (c : Change) (k : ℕ) → ends_from c [] k ≡ k
+unfolding ends_from
+ends_from_none c k = refl
+
+pub ends_from_last : (c : Change) (ps : List Part) (p : Part) (k : ℕ)
+    → ends_from c (ps ++ (p ∷ [])) k ≡ ends_from c ps (with_ends c p k)
+unfolding ends_from
+ends_from_last c [] p k = refl
+ends_from_last c (q ∷ ps) p k = ap (with_ends c q) (ends_from_last c ps p k)
+
+pub changed_ends_from : (c : Change) (ps : List Part) → changed_ends c ps ≡ ends_from c ps 0
+unfolding changed_ends ends_from
+changed_ends_from c [] = refl
+changed_ends_from c (p ∷ ps) = ap (with_ends c p) (changed_ends_from c ps)
 
 -- either end of a part is one of its two
 end_first : (p : Part) (x y : ℕ) → EndsAt p x y → (x ≡ p.a) ⊎ (x ≡ p.b)

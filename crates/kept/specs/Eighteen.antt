@@ -3,11 +3,10 @@
 -- them, and in its set without windings exactly where one does that is no winding.
 --     KeptJoin b h       so it is of the sets of h, on board b in its state; there are 64 sets of each sort
 --     EighteenExactly    what `usable` answers is 18 exactly if neither 15 nor 14 holds and the sets are not so
-use Rattle.std.specs.Prelude.{ℕ, ◌≡◌, ◌↔◌, true, length}
-use Rattle.refusals.specs.declared.Against.{Against}
-use Rattle.refusals.specs.Outcomes.{refused}
+use Rattle.std.specs.Prelude.{ℕ, Result, ◌≡◌, ◌↔◌, true, length}
+use Rattle.refusals.specs.declared.Refusal.{Refusal}
+use Rattle.refusals.specs.Outcomes.{refused, told}
 use Rattle.refusals.specs.Refusals.{foreign_sets}
-use Rattle.refusals.specs.Order.{told_against}
 use Rattle.board.specs.declared.Board.{Board}
 use Rattle.board.specs.Rules.{most_terminals, board_fine}
 use Rattle.state.specs.States.{state_fine}
@@ -22,7 +21,7 @@ pub record KeptJoin (b : Board) (h : Kept) : Type 0 where
 
 abbrev pub EighteenExactly : Type 0
 EighteenExactly =
-    (b : Board) (h : Kept) (a : Against)
+    (b : Board) (h : Kept) (a : Result (Unit {0}) Refusal)
     → Usable b h a
-    → told_against a ≡ refused foreign_sets 0
+    → told a ≡ refused foreign_sets 0
     ↔ (board_fine b ≡ true) × (state_fine b.counts h.state ≡ true) × ¬ (KeptJoin b h)

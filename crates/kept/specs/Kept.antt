@@ -15,11 +15,11 @@
 --     KeptOf b s r           promise: `of` board b and state s answers r
 --     KeptFresh b r          promise: `fresh` of board b answers r
 --     Usable b h r           promise: `usable` of board b and h answers r
-use Rattle.std.specs.Prelude.{ℕ, ◌≡◌, Bool, true, false, ◌&&◌, List, [], ◌∷◌, eqb}
-use Rattle.refusals.specs.declared.Against.{Against}
-use Rattle.refusals.specs.Outcomes.{Outcome, given, refused}
+use Rattle.std.specs.Prelude.{ℕ, ◌≡◌, Result, Bool, true, false, ◌&&◌, List, [], ◌∷◌, eqb}
+use Rattle.refusals.specs.declared.Refusal.{Refusal}
+use Rattle.refusals.specs.Outcomes.{Outcome, given, refused, told}
 use Rattle.refusals.specs.Refusals.{broken_board, state_beyond_board, foreign_sets}
-use Rattle.refusals.specs.Order.{Order, first_no, told_against}
+use Rattle.refusals.specs.Order.{Order, first_no}
 use Rattle.board.specs.declared.Board.{Board}
 use Rattle.board.specs.Rules.{board_fine}
 use Rattle.state.specs.declared.State.{State}
@@ -63,5 +63,5 @@ KeptOf b s r = r ≡ kept_at b s
 abbrev pub KeptFresh : Board → Kept → Type 0
 KeptFresh b r = r ≡ kept_fresh b
 
-abbrev pub Usable : Board → Kept → Against → Type 0
-Usable b h r = told_against r ≡ usable b h
+abbrev pub Usable : Board → Kept → Result (Unit {0}) Refusal → Type 0
+Usable b h r = told r ≡ usable b h

@@ -1,18 +1,33 @@
--- `kept::changed_ends` meets its contract. The invariant: the ends so far are those of the parts from i on.
+-- `kept::changed_ends` meets its contract. The invariant: the ends of all the parts are those so far with those of the
+-- parts that are left besides.
+use mathlib.Core.Path.{◌≡◌, sym, ap, ◌∙◌, refl}
+use mathlib.Core.List.{List, [], ◌∷◌}
+use lib.ListN.{length}
 use native.Mathlib.Omega.{arith}
-use mathlib.Core.Path.{sym, ap, ◌∙◌}
-use lib.ListN.{length-map}
-use Rattle.lists.proofs.FirstLaws.{down_starts, down_on}
-use Rattle.board.specs.Parts.{blank}
-use Rattle.kept.specs.Upkeep.{with_ends}
-use Rattle.kept.proofs.UpkeepLaws.{changed_ends_none, changed_ends_next}
-use Rattle.std.proofs.lemmas.Grind.{common_steps}
+use Rattle.board.specs.declared.Part.{Part}
+use Rattle.kept.proofs.UpkeepLaws.{ends_from, ends_from_none, ends_from_last, changed_ends_from}
 use Rattle.kept.proofs.changed_ends.Goals as goal
 
-pub loop-i-init : goal.loop-i-init
-loop-i-init c = grind (arith, common_steps, length-map, down_starts, changed_ends_none)
+no_items : (ps : List Part) → length ps ≡ 0 → ps ≡ []
+no_items [] none = refl
+no_items (p ∷ ps) none = absurd (omega arith)
 
-pub loop-i-preserved : goal.loop-i-preserved
-loop-i-preserved c =
-    down_on blank _ _ _ _ _ _ _ c.loop-i.invariant (omega (arith, c.loop-i-test.true))
-    (λ ps is. c.with_ends-ends.ensures ∙ ap (with_ends c.args.change _) is ∙ sym (changed_ends_next c.args.change _ ps))
+pub loop-part-init : goal.loop-part-init
+loop-part-init c =
+    changed_ends_from c.args.change c.args.parts.now
+    ∙ ap (λ (ps : List Part). ends_from c.args.change ps 0)
+    (sym (ap (λ it. it.iter.rest.now) c.into_iter-part-iterator.ensures.into_iter_gives
+    ∙ ap (λ it. it.rest.now) c.rev-part-items.ensures.source ∙ c.iter.ensures.rest))
+
+pub loop-part-preserved : goal.loop-part-preserved
+loop-part-preserved c =
+    c.loop-part.invariant
+    ∙ ap (λ (ps : List Part). ends_from c.args.change ps c.loop-part.ends) c.in-Some.ensures.steps
+    ∙ ends_from_last c.args.change c.next.new.self.iter.rest.now c.in-Some.part.now c.loop-part.ends
+    ∙ ap (ends_from c.args.change c.next.new.self.iter.rest.now) (sym c.with_ends-ends.ensures)
+
+pub returns : goal.returns
+returns c =
+    sym (c.loop-part.invariant
+    ∙ ap (λ (ps : List Part). ends_from c.args.change ps c.loop-part.ends) (no_items _ c.in-None.ensures.steps.0)
+    ∙ ends_from_none c.args.change c.loop-part.ends)
