@@ -8,7 +8,7 @@ import sys
 sys.path.insert(0, os.path.join(os.path.dirname(os.path.abspath(__file__)), "lib"))
 import repository
 
-KIT = {"bytes", "check"}  # the kit's libraries
+KIT = {"arrayvec", "itoa"}  # the kit's libraries
 NO_CODE = "°"
 
 page = repository.text("docs", "HOUSE.md").split("\n")

@@ -1,25 +1,31 @@
 -- Each promise allows exactly one answer: one that is told as it is, by `one_itself`; one that is told by a definition,
--- by `one_told`, because each answer can be had from what it tells; one that leaves something in a lent log or buffer,
--- by `one_lent`, and where what is told stands beside the buffer, by `one_written`.
+-- by `one_told`, because each answer can be had from what it tells, and where it can be refused by `one_tells`, because the
+-- definition refuses by numbers of the table alone; one that leaves something in a lent log or buffer, by `one_lent`, and
+-- where what is told stands beside the buffer, by `one_written`.
 use Prim.Native.Nat.{ℕ}
 use mathlib.Core.Path.{◌≡◌, refl, sym, ap, ◌∙◌}
 use mathlib.Core.List.{List}
-use Rattle.refusals.specs.Outcomes.{Outcome}
-use Rattle.refusals.proofs.Told.{Told, told_injective, list-told, ToldLent, told-lent_injective}
-use Rattle.refusals.proofs.OrderLaws.{against-told}
-use Rattle.number.proofs.NumberLaws.{number-told, number_written_told}
-use Rattle.presses.proofs.PressLaws.{pressed-told}
-use Rattle.board_reader.proofs.ToldLaws.{board_read_told}
-use Rattle.board_writer.proofs.FileLaws.{written-told}
-use Rattle.search.proofs.VerdictLaws.{verdict-told}
-use Rattle.judge.proofs.ScannedLaws.{windings-told, asked-told}
-use Rattle.divide.proofs.AtOnceLaws.{judgement-told, checked-told}
-use Rattle.moves.proofs.MovingLaws.{move-told, moved_told}
-use Rattle.runs.proofs.RunningLaws.{ran-told}
-use Rattle.report.proofs.ReportLaws.{reported-told}
-use Rattle.lines.proofs.ToldLaws.{line_written_told}
+use Rattle.std.specs.Prelude.{Result}
+use Rattle.refusals.specs.Outcomes.{Outcome, told, told_as}
+use Rattle.refusals.specs.declared.Refusal.{Refusal}
+use Rattle.refusals.proofs.Told.{Told, told_injective, list-told}
+use Rattle.refusals.proofs.Tabled.{Tabled, Tells, tells_injective, result-tells, result-tells_as}
+use Rattle.number.proofs.NumberLaws.{number_tabled, number_writing_tabled}
+use Rattle.kept.proofs.KeptLaws.{usable_tabled}
+use Rattle.presses.proofs.PressLaws.{pressed-tells, pushing-tabled, releasing-tabled}
+use Rattle.board_reader.proofs.ToldLaws.{board_read_tells}
+use Rattle.board_reader.proofs.TabledLaws.{reading_tabled}
+use Rattle.board_writer.proofs.FileLaws.{writing_tabled}
+use Rattle.search.proofs.VerdictLaws.{verdict-tells, verdict_by-tabled}
+use Rattle.judge.proofs.ScannedLaws.{windings-told}
+use Rattle.judge.proofs.JudgeLaws.{winding_for-tabled, judging-tabled}
+use Rattle.divide.proofs.AtOnceLaws.{judgement-told, judging_at_once-tabled, checking-tabled}
+use Rattle.moves.proofs.MovingLaws.{move-told, moved-tells, moving-tabled}
+use Rattle.runs.proofs.RunningLaws.{ran-tells, running-tabled}
+use Rattle.report.proofs.ReportLaws.{reported-tells, reporting-tabled}
+use Rattle.lines.proofs.LineLaws.{line_writing_tabled}
 use Rattle.events.proofs.ToldLaws.{shown-told}
-use Rattle.session.proofs.ToldLaws.{session-told, handed-told}
+use Rattle.session.proofs.ToldLaws.{session-told, handed-tells}
 use Rattle.demands.specs.OneAnswer.{One, OneLent, OneAnswer}
 
 one_itself : {A : Type 0} (a : A) → One (λ (x : A). x ≡ a)
@@ -33,25 +39,37 @@ one_told told both a =
       only = λ x y e f. told_injective told both x y (e ∙ sym f);
     }
 
-one_lent : {A R : Type 0} (told : R → List ℕ → A) → ToldLent told → (a : A) → OneLent (λ x k. told x k ≡ a)
-one_lent told both a =
+one_tells : {A R : Type 0} {Good : A → Type 0} (told : R → A) → Tells Good told → (a : A) → Good a
+    → One (λ x. told x ≡ a)
+one_tells told both a good =
+    record {
+      answer = both.untold a;
+      allowed = both.onto a good;
+      only = λ x y e f. tells_injective told both x y (e ∙ sym f);
+    }
+
+one_lent : {A R : Type 0} {Good : A → Type 0} (told : R → List ℕ → A)
+    → Tells Good (λ (x : R × List ℕ). told x.0 x.1) → (a : A) → Good a → OneLent (λ x k. told x k ≡ a)
+one_lent {A} {R} told both a good =
     record {
       answer = (both.untold a).0;
       left = (both.untold a).1;
-      allowed = both.onto a;
-      only = λ x y k l e f. told-lent_injective told both x y k l (e ∙ sym f);
+      allowed = both.onto a good;
+      only = λ x y k l e f.
+          let same : ◌≡◌ {A = R × List ℕ} (x, k) (y, l) = tells_injective _ both (x, k) (y, l) (e ∙ sym f) in
+          (ap (λ (p : R × List ℕ). p.0) same, ap (λ (p : R × List ℕ). p.1) same);
     }
 
--- an answer beside its buffer
-one_written : {R : Type 0} (told : R → Outcome ℕ) → Told told → (a : Outcome ℕ × List ℕ)
-    → OneLent (λ x k. ◌≡◌ {A = Outcome ℕ × List ℕ} (told x, k) a)
-one_written told both (o, out) =
+-- how many bytes are written, beside the buffer
+one_written : (a : Outcome ℕ × List ℕ) → Tabled a.0
+    → OneLent (λ (x : Result ℕ Refusal) k. ◌≡◌ {A = Outcome ℕ × List ℕ} (told x, k) a)
+one_written (o, out) good =
     record {
-      answer = both.untold o;
+      answer = result-tells.untold o;
       left = out;
-      allowed = λ i. (both.onto o i, out);
+      allowed = λ i. (result-tells.onto o good i, out);
       only = λ x y k l e f. (
-        told_injective told both x y (ap (λ (p : Outcome ℕ × List ℕ). p.0) (e ∙ sym f)),
+        tells_injective told result-tells x y (ap (λ (p : Outcome ℕ × List ℕ). p.0) (e ∙ sym f)),
         ap (λ (p : Outcome ℕ × List ℕ). p.1) (e ∙ sym f),
       );
     }
@@ -67,10 +85,10 @@ one_answer = record {
   bits_lowest_from = λ s n. one_itself _;
   bits_all_below = λ s n. one_itself _;
   bits_wide = λ x byte. record { answer = x; allowed = (refl, byte); only = λ p q e f. e.0 ∙ sym f.0 };
-  refusals_unless = λ a t n. one_told _ against-told _;
-  number_read_number = λ s at. one_told _ number-told _;
+  refusals_unless = λ t e. one_itself _;
+  number_read_number = λ s at. one_tells _ result-tells _ (number_tabled _ s at);
   number_number_length = λ v. one_itself _;
-  number_write_number = λ v out at. one_written _ number_written_told _;
+  number_write_number = λ v out at. one_written _ (number_writing_tabled v out at);
   kinds_of = λ k n. one_itself _;
   kinds_number = λ k. one_itself _;
   kinds_name = λ k. one_itself _;
@@ -83,6 +101,7 @@ one_answer = record {
   board_limit = λ c k. one_itself _;
   board_blank = one_itself _;
   board_empty = one_itself _;
+  board_parts = λ b. one_itself _;
   board_check = λ b. one_itself _;
   board_same = λ b c. one_itself _;
   state_fresh = λ b. one_itself _;
@@ -93,38 +112,39 @@ one_answer = record {
   state_is_drawn = λ s r. one_itself _;
   state_is_pushed = λ s n. one_itself _;
   state_fits = λ s c. one_itself _;
-  board_reader_read = λ s. one_told _ board_read_told _;
-  board_writer_write = λ b out. one_written _ written-told _;
+  board_reader_read = λ s. one_tells _ board_read_tells _ (reading_tabled _ s);
+  board_writer_write = λ b out. one_written _ (writing_tabled b out);
   neighbours_conducts = λ k s. one_itself _;
   neighbours_neighbours = λ b s. one_itself _;
   neighbours_renew = λ k at b s. one_itself _;
   kept_of = λ b s. one_itself _;
   kept_fresh = λ b. one_itself _;
   kept_changed = λ h b c t. one_itself _;
-  kept_usable = λ b h. one_told _ against-told _;
+  kept_usable = λ b h. one_tells _ result-tells _ (usable_tabled b h);
   reach_flood = λ near from out. one_itself _;
-  search_search = λ near t v w. one_told _ verdict-told _;
+  search_search = λ near t v w. one_tells _ verdict-tells _ (searching-tabled near t v w);
   feed_reached_without = λ near x. one_itself _;
   feed_feed_by = λ k t. one_itself _;
   feed_is_live = λ s l v. one_itself _;
   judge_find_windings = λ b r. one_told _ windings-told _;
   judge_find_all_windings = λ b. one_told _ (list-told _ windings-told) _;
-  judge_winding_for = λ b h r k. one_told _ asked-told _;
+  judge_winding_for = λ b h r k. one_tells _ result-tells _ (winding_for-tabled b h r k);
   judge_is_shunted = λ k v. one_itself _;
-  judge_judge = λ b h r k w. one_told _ verdict-told _;
-  divide_judge = λ b h r k. one_told _ judgement-told _;
-  divide_check = λ b h r k x. one_told _ checked-told _;
-  presses_push = λ b h n. one_told _ pressed-told _;
-  presses_release = λ b h n. one_told _ pressed-told _;
+  judge_judge = λ b h r k w. one_tells _ verdict-tells _ (judging-tabled b h r k w);
+  divide_judge = λ b h r k.
+      one_tells _ (result-tells_as _ judgement-told) _ (judging_at_once-tabled b h r k);
+  divide_check = λ b h r k x. one_tells _ result-tells _ (checking-tabled b h r k x);
+  presses_push = λ b h n. one_tells _ pressed-tells _ (pushing-tabled b h n);
+  presses_release = λ b h n. one_tells _ pressed-tells _ (releasing-tabled b h n);
   moves_step = λ n l x d. one_told _ move-told _;
   moves_after = λ b h r m. one_itself _;
-  moves_move_relay = λ b h r. one_told _ moved_told _;
-  runs_run = λ b h log. one_lent _ ran-told _;
-  report_report = λ b n. one_told _ reported-told _;
-  lines_write_line = λ l out. one_written _ line_written_told _;
+  moves_move_relay = λ b h r. one_tells _ moved-tells _ (moving-tabled b h r);
+  runs_run = λ b h log. one_lent _ ran-tells _ (running-tabled b h log);
+  report_report = λ b n. one_tells _ reported-tells _ (reporting-tabled b n);
+  lines_write_line = λ l out. one_written _ (line_writing_tabled l out);
   events_run_line = λ b e h. one_told _ shown-told _;
   events_event_line = λ b e h v. one_told _ shown-told _;
   session_begin = λ s. one_told _ session-told _;
-  session_next_line = λ z s out. one_lent _ handed-told _;
-  session_next_lines = λ z s out. one_lent _ handed-told _;
+  session_next_line = λ z s out. one_lent _ handed-tells _ (next_line_tabled z s out);
+  session_next_lines = λ z s out. one_lent _ handed-tells _ (next_lines_tabled z s out);
 }

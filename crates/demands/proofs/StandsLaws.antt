@@ -6,7 +6,9 @@ use mathlib.Core.Bool.{Bool, true, false, cond}
 use mathlib.Core.List.{List, [], ◌∷◌}
 use mathlib.Core.Option.{Option, none, some}
 use lib.Dec.{leb, ltb}
-use Rattle.refusals.specs.Outcomes.{Outcome, given, refused, ◌>>◌, ◌>>=◌}
+use Rattle.std.specs.Prelude.{Result}
+use Rattle.refusals.specs.declared.Refusal.{Refusal}
+use Rattle.refusals.specs.Outcomes.{Outcome, given, refused, ◌>>◌, ◌>>=◌, told}
 use Rattle.refusals.specs.Refusals.{terminal_beyond}
 use Rattle.refusals.specs.Order.{Order, first_no, answering, against}
 use Rattle.refusals.proofs.OutcomeLaws.{refused_never}
@@ -18,9 +20,7 @@ use Rattle.state.specs.States.{with_pushed, with_released}
 use Rattle.kept.specs.declared.Kept.{Kept}
 use Rattle.kept.specs.Kept.{kept_at, left}
 use Rattle.presses.specs.Presses.{push_lines, release_lines, pushing, releasing}
-use Rattle.board_writer.specs.declared.Written.{Written}
-use Rattle.board_writer.specs.declared.Written.TheVariants.{Bytes, Refused}
-use Rattle.board_writer.specs.Writing.{write_lines, writing, told_written, bytes_written}
+use Rattle.board_writer.specs.Writing.{write_lines, writing, bytes_written}
 use Rattle.neighbours.specs.Neighbours.{neighbours, sets_of}
 use Rattle.search.specs.declared.Winding.{Winding}
 use Rattle.search.specs.Verdicts.{Verdict, settled, unsettled, first_shown, effort, weighed, places}
@@ -60,9 +60,9 @@ pub line_writing-stands : (l : Line) (out : List ℕ) → WriteStands out (line_
 unfolding line_writing
 line_writing-stands l out = write-stands out _ _ (line_lines out)
 
-pub nothing_written : (w : Written) (n p : ℕ) → told_written w ≡ refused n p → bytes_written w ≡ 0
-nothing_written (Bytes k) n p e = absurd (refused_never n p k (sym e))
-nothing_written (Refused r) n p e = refl
+pub nothing_written : (w : Result ℕ Refusal) (n p : ℕ) → told w ≡ refused n p → bytes_written w ≡ 0
+nothing_written (Result.Ok k) n p e = absurd (refused_never n p k (sym e))
+nothing_written (Result.Err r) n p e = refl
 
 -- ---- a button, and a single move: what is left beside what the call came to
 

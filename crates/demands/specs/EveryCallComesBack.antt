@@ -29,11 +29,11 @@
 --                                 with the state its kept sets (request A5); of a refused run 0 moves up to an earlier
 --                                 state and 0 between (request A8); and a refused report is all zeros (request A10)
 --     EveryCallComesBack          the demand
-use Rattle.std.specs.Prelude.{ℕ, ◌≡◌, List, []}
-use Rattle.refusals.specs.Outcomes.{Outcome, refused}
-use Rattle.refusals.specs.Order.{first_no, against, told_against}
-use Rattle.number.specs.declared.NumberWritten.{NumberWritten}
-use Rattle.number.specs.Numbers.{number_lines, told_number_written, WritesNumber}
+use Rattle.std.specs.Prelude.{ℕ, ◌≡◌, Bool, List, [], Result}
+use Rattle.refusals.specs.declared.Refusal.{Refusal}
+use Rattle.refusals.specs.Outcomes.{Outcome, refused, told, told_as}
+use Rattle.refusals.specs.Order.{first_no, against}
+use Rattle.number.specs.Numbers.{number_lines, WritesNumber}
 use Rattle.number.specs.FormExactly.{FormExactly}
 use Rattle.board.specs.declared.Board.{Board}
 use Rattle.board.specs.Parts.{empty_board}
@@ -43,19 +43,17 @@ use Rattle.kept.specs.declared.Kept.{Kept}
 use Rattle.kept.specs.Kept.{usable_lines}
 use Rattle.kept.specs.Eighteen.{EighteenExactly}
 use Rattle.presses.specs.declared.Pressed.{Pressed}
-use Rattle.presses.specs.Presses.{push_lines, release_lines, told_press, Pushes, Releases}
+use Rattle.presses.specs.Presses.{push_lines, release_lines, Pushes, Releases}
 use Rattle.board_reader.specs.declared.BoardRead.{BoardRead}
-use Rattle.board_reader.specs.Reading.{told_read_answer, Reads}
-use Rattle.board_writer.specs.declared.Written.{Written}
-use Rattle.board_writer.specs.Writing.{write_lines, told_written, bytes_written, Writes}
+use Rattle.board_reader.specs.Reading.{Reads}
+use Rattle.board_writer.specs.Writing.{write_lines, bytes_written, Writes}
 use Rattle.file_means.specs.FileRefusals.{FileRefused}
 use Rattle.search.specs.declared.Verdict.{Verdict}
 use Rattle.search.specs.Verdicts.{places, told_finding}
 use Rattle.judge.specs.declared.Which.{Which}
 use Rattle.judge.specs.Judging.{judge_lines, Judges}
 use Rattle.divide.specs.declared.Judgement.{Judgement}
-use Rattle.divide.specs.declared.Checked.{Checked}
-use Rattle.divide.specs.AtOnce.{check_lines, told_judgement, told_checked, JudgesAtOnce, ChecksTerminal}
+use Rattle.divide.specs.AtOnce.{check_lines, told_judgement, JudgesAtOnce, ChecksTerminal}
 use Rattle.judge_means.specs.Eleven.{ElevenExactly}
 use Rattle.judge_means.specs.Dividing.{NineteenExactly}
 use Rattle.moves.specs.declared.Moved.{Moved}
@@ -68,9 +66,8 @@ use Rattle.report.specs.declared.Reported.{Reported}
 use Rattle.report.specs.Reporting.{report_lines, Reports}
 use Rattle.report_means.specs.AllSettings.{TwentyExactly, RefusedZeros}
 use Rattle.lines.specs.declared.Line.{Line}
-use Rattle.lines.specs.declared.LineWritten.{LineWritten}
-use Rattle.lines.specs.Lines as told
-use Rattle.lines.specs.Lines.{event, closing, line_lines, told_line, told_line_written, WritesLine}
+use Rattle.lines.specs.Lines as lines
+use Rattle.lines.specs.Lines.{event, closing, line_lines, told_line, WritesLine}
 use Rattle.events.specs.declared.Event.{Event}
 use Rattle.events.specs.declared.Shown.{Shown}
 use Rattle.events.specs.Events.{made_lines, RunLine, EventLine}
@@ -80,7 +77,7 @@ use Rattle.session.specs.HandingOut.{told_hand_out, NextLine}
 use Rattle.session.specs.Filling.{NextLines}
 use Rattle.demands.specs.OneAnswer.{OneAnswer}
 
-abbrev pub word_of : told.Line → Outcome Ending
+abbrev pub word_of : lines.Line → Outcome Ending
 word_of (event e o m d) = o
 word_of (closing n p) = refused n p
 
@@ -94,30 +91,30 @@ pub record InOrder : Type 0 where
   pub eighteen : EighteenExactly
   pub fifteen : FifteenExactly
   pub twenty : TwentyExactly
-  pub writes_number : (v : ℕ) (out out' : List ℕ) (at : ℕ) (x : NumberWritten)
+  pub writes_number : (v : ℕ) (out out' : List ℕ) (at : ℕ) (x : Result ℕ Refusal)
       → WritesNumber v out at x out'
-      → against (told_number_written x) ≡ first_no (number_lines v out at)
-  pub writes_line : (l : Line) (out out' : List ℕ) (x : LineWritten)
+      → against (told x) ≡ first_no (number_lines v out at)
+  pub writes_line : (l : Line) (out out' : List ℕ) (x : Result ℕ Refusal)
       → WritesLine l out x out'
-      → against (told_line_written x) ≡ first_no (line_lines out)
-  pub writes : (b : Board) (out out' : List ℕ) (w : Written)
+      → against (told x) ≡ first_no (line_lines out)
+  pub writes : (b : Board) (out out' : List ℕ) (w : Result ℕ Refusal)
       → Writes b out w out'
-      → against (told_written w) ≡ first_no (write_lines b out)
+      → against (told w) ≡ first_no (write_lines b out)
   pub pushes : (b : Board) (h : Kept) (n : ℕ) (x : Pressed)
       → Pushes b h n x
-      → told_press x.answer ≡ first_no (push_lines b h n)
+      → told x.answer ≡ first_no (push_lines b h n)
   pub releases : (b : Board) (h : Kept) (n : ℕ) (x : Pressed)
       → Releases b h n x
-      → told_press x.answer ≡ first_no (release_lines b h n)
+      → told x.answer ≡ first_no (release_lines b h n)
   pub judges : (b : Board) (h : Kept) (r : ℕ) (k : Which) (w : ℕ) (v : Verdict)
       → Judges b h r k w v
-      → against (told_finding v.finding) ≡ first_no (judge_lines b h r k)
-  pub judges_at_once : (b : Board) (h : Kept) (r : ℕ) (k : Which) (a : Judgement)
+      → against (told_as told_finding v.finding) ≡ first_no (judge_lines b h r k)
+  pub judges_at_once : (b : Board) (h : Kept) (r : ℕ) (k : Which) (a : Result Judgement Refusal)
       → JudgesAtOnce b h r k a
-      → against (told_judgement a) ≡ first_no (judge_lines b h r k)
-  pub checks : (b : Board) (h : Kept) (r : ℕ) (k : Which) (x : ℕ) (a : Checked)
+      → against (told_as told_judgement a) ≡ first_no (judge_lines b h r k)
+  pub checks : (b : Board) (h : Kept) (r : ℕ) (k : Which) (x : ℕ) (a : Result Bool Refusal)
       → ChecksTerminal b h r k x a
-      → against (told_checked a) ≡ first_no (check_lines b h r k x)
+      → against (told a) ≡ first_no (check_lines b h r k x)
   pub moves : (b : Board) (h : Kept) (r : ℕ) (a : Moved)
       → Moves b h r a
       → against (told_move_answer a.answer) ≡ first_no (move_lines b h r)
@@ -126,7 +123,7 @@ pub record InOrder : Type 0 where
       → against (told_ending a.word) ≡ first_no (run_lines b h log)
   pub reports : (b : Board) (n : ℕ) (r : Reported)
       → Reports b n r
-      → told_against r.against ≡ first_no (report_lines b n)
+      → told r.answer ≡ first_no (report_lines b n)
   -- a session's log of 4,096 is never too long (13), and the run after a push or release is never refused
   pub tells_run : (b : Board) (e : ℕ) (h : Kept) (x : Shown)
       → RunLine b e h x
@@ -144,31 +141,31 @@ pub record InOrder : Type 0 where
 pub record AsLent : Type 0 where
   pub reads : (s : List ℕ) (r : BoardRead) (n p : ℕ)
       → Reads s r
-      → told_read_answer r.answer ≡ refused n p
+      → told r.answer ≡ refused n p
       → r.board ≡ empty_board
-  pub writes_number : (v : ℕ) (out out' : List ℕ) (at : ℕ) (x : NumberWritten) (n p : ℕ)
+  pub writes_number : (v : ℕ) (out out' : List ℕ) (at : ℕ) (x : Result ℕ Refusal) (n p : ℕ)
       → WritesNumber v out at x out'
-      → told_number_written x ≡ refused n p
+      → told x ≡ refused n p
       → out' ≡ out
-  pub writes_line : (l : Line) (out out' : List ℕ) (x : LineWritten) (n p : ℕ)
+  pub writes_line : (l : Line) (out out' : List ℕ) (x : Result ℕ Refusal) (n p : ℕ)
       → WritesLine l out x out'
-      → told_line_written x ≡ refused n p
+      → told x ≡ refused n p
       → out' ≡ out
-  pub writes : (b : Board) (out out' : List ℕ) (w : Written) (n p : ℕ)
+  pub writes : (b : Board) (out out' : List ℕ) (w : Result ℕ Refusal) (n p : ℕ)
       → Writes b out w out'
-      → told_written w ≡ refused n p
+      → told w ≡ refused n p
       → (out' ≡ out) × (bytes_written w ≡ 0)
   pub pushes : (b : Board) (h : Kept) (k : ℕ) (x : Pressed) (n p : ℕ)
       → Pushes b h k x
-      → told_press x.answer ≡ refused n p
+      → told x.answer ≡ refused n p
       → x.kept ≡ h
   pub releases : (b : Board) (h : Kept) (k : ℕ) (x : Pressed) (n p : ℕ)
       → Releases b h k x
-      → told_press x.answer ≡ refused n p
+      → told x.answer ≡ refused n p
       → x.kept ≡ h
   pub judges : (b : Board) (h : Kept) (r : ℕ) (k : Which) (w : ℕ) (v : Verdict) (n p : ℕ)
       → Judges b h r k w v
-      → told_finding v.finding ≡ refused n p
+      → told_as told_finding v.finding ≡ refused n p
       → (v.effort ≡ 0) × ((v.length ≡ 0) × (v.terminals ≡ places []))
   pub moves : (b : Board) (h : Kept) (r : ℕ) (a : Moved) (n p : ℕ)
       → Moves b h r a

@@ -4,12 +4,11 @@
 --     One P        the promise P allows an answer, and any two that it allows are one
 --     OneLent P    P allows an answer with what it leaves in a lent log or buffer, and any two that it allows are one
 --                  answer, and leave the same
---     OneAnswer    the list; an argument of `wide` is a byte
-use Rattle.std.specs.Prelude.{ℕ, ◌<◌, ◌≡◌, Bool, List}
+--     OneAnswer    the list; the argument of `bits_wide` is a byte: its promise is kept by std's `u32::from` today
+use Rattle.std.specs.Prelude.{ℕ, ◌<◌, ◌≡◌, Bool, List, Option}
 use Rattle.bits.specs.Sets.{SetHas, SetWith, SetWithout, SetFlipped, SetRemaining, SetTogether, SetLowestFrom}
 use Rattle.bits.specs.Sets.{SetAllBelow, WideByte}
-use Rattle.refusals.specs.declared.Against.{Against}
-use Rattle.refusals.specs.Order.{AsksNext}
+use Rattle.refusals.specs.Order.{AsksLine}
 use Rattle.number.specs.Numbers.{ReadsNumber, NumberLength, WritesNumber}
 use Rattle.kinds.specs.declared.Kind.{Kind}
 use Rattle.kinds.specs.Kinds.{KindOf, KindNumber, KindName, KindFields}
@@ -17,7 +16,7 @@ use Rattle.windings.specs.declared.WoundSoFar.{WoundSoFar}
 use Rattle.windings.specs.Windings.{WoundNone, WoundFree, WoundUnmarked, WoundWith, WoundComplete}
 use Rattle.board.specs.declared.Counts.{Counts}
 use Rattle.board.specs.declared.Board.{Board}
-use Rattle.board.specs.Parts.{BlankPart, EmptyBoard}
+use Rattle.board.specs.Parts.{BlankPart, EmptyBoard, TakesParts}
 use Rattle.board.specs.Rules.{NameLimit, Checks}
 use Rattle.board.specs.Same.{SameBoards}
 use Rattle.state.specs.declared.State.{State}
@@ -77,7 +76,7 @@ pub record OneAnswer : Type 0 where
   pub bits_lowest_from : (s n : ℕ) → One (SetLowestFrom s n)
   pub bits_all_below : (s n : ℕ) → One (SetAllBelow s n)
   pub bits_wide : (x : ℕ) → x < 256 → One (WideByte x)
-  pub refusals_unless : (a : Against) (t : Bool) (n : ℕ) → One (AsksNext a t n)
+  pub refusals_unless : {E : Type 0} (t : Bool) (e : E) → One (AsksLine t e)
   pub number_read_number : (s : List ℕ) (at : ℕ) → One (ReadsNumber s at)
   pub number_number_length : (v : ℕ) → One (NumberLength v)
   pub number_write_number : (v : ℕ) (out : List ℕ) (at : ℕ) → OneLent (WritesNumber v out at)
@@ -93,6 +92,7 @@ pub record OneAnswer : Type 0 where
   pub board_limit : (c : Counts) (k : ℕ) → One (NameLimit c k)
   pub board_blank : One BlankPart
   pub board_empty : One EmptyBoard
+  pub board_parts : (b : Board) → One (TakesParts b)
   pub board_check : (b : Board) → One (Checks b)
   pub board_same : (x y : Board) → One (SameBoards x y)
   pub state_fresh : (b : Board) → One (StateFresh b)
@@ -126,7 +126,7 @@ pub record OneAnswer : Type 0 where
   pub divide_check : (b : Board) (h : Kept) (r : ℕ) (k : Which) (x : ℕ) → One (ChecksTerminal b h r k x)
   pub presses_push : (b : Board) (h : Kept) (n : ℕ) → One (Pushes b h n)
   pub presses_release : (b : Board) (h : Kept) (n : ℕ) → One (Releases b h n)
-  pub moves_step : (n : ℕ) (l : List ℕ) (x : Windings) (d : Bool) → One (StepsRelay n l x d)
+  pub moves_step : (n : ℕ) (l : List ℕ) (x : Option Windings) (d : Bool) → One (StepsRelay n l x d)
   pub moves_after : (b : Board) (h : Kept) (r : ℕ) (m : Move) → One (AfterMove b h r m)
   pub moves_move_relay : (b : Board) (h : Kept) (r : ℕ) → One (Moves b h r)
   pub runs_run : (b : Board) (h : Kept) (log : List ℕ) → OneLent (Runs b h log)

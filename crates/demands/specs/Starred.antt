@@ -72,9 +72,11 @@
 --     all_set                       rows on request A10: reports on all settings
 --     Starred                       every row of the ten holds
 use Rattle.std.specs.Prelude.{ℕ, ◌+◌, ◌-◌, ◌≤◌, ◌≡◌, List, [], ◌∷◌, ◌++◌, Bool, true, false, length, replicate}
+use Rattle.std.specs.Prelude.{Result}
 use Rattle.std.proofs.Math.Option.{none, some}
 use Rattle.lists.specs.Members.{All}
-use Rattle.refusals.specs.Outcomes.{Outcome, given, refused}
+use Rattle.refusals.specs.declared.Refusal.{Refusal}
+use Rattle.refusals.specs.Outcomes.{Outcome, given, refused, told, told_as}
 use Rattle.refusals.specs.Refusals.{input_ends, bad_form, out_of_range, no_such_kind, no_such_name, winding_lacking}
 use Rattle.refusals.specs.Refusals.{no_such_winding, already_so, state_beyond_board, broken_board, marked_twice}
 use Rattle.refusals.specs.Refusals.{foreign_sets}
@@ -102,8 +104,7 @@ use Rattle.judge.specs.declared.Which.{Which}
 use Rattle.judge.specs.declared.Which.TheVariants.{First, Second}
 use Rattle.judge.specs.Judging.{Judges}
 use Rattle.divide.specs.declared.Judgement as code-judgement
-use Rattle.divide.specs.declared.Checked.{Checked}
-use Rattle.divide.specs.AtOnce.{Judgement, live, shunted, dead, told_judgement, told_checked, JudgesAtOnce}
+use Rattle.divide.specs.AtOnce.{Judgement, live, shunted, dead, told_judgement, JudgesAtOnce}
 use Rattle.divide.specs.AtOnce.{ChecksTerminal}
 use Rattle.moves.specs.Steps as step
 use Rattle.moves.specs.declared.Moved.{Moved}
@@ -326,8 +327,9 @@ reports b n f = reported b n f (given tt)
 abbrev pub RowHolds : Row → Type 0
 RowHolds (reads s b o) = (x : BoardRead) → Reads s x → told_board_read x ≡ (b, o)
 RowHolds (judged b h k w j) = (v : code-verdict.Verdict) → Judges b h 0 k w v → told_verdict v ≡ j
-RowHolds (tells b h k j) = (a : code-judgement.Judgement) → JudgesAtOnce b h 0 k a → told_judgement a ≡ j
-RowHolds (checked b h k x o) = (a : Checked) → ChecksTerminal b h 0 k x a → told_checked a ≡ o
+RowHolds (tells b h k j) = (a : Result code-judgement.Judgement Refusal) → JudgesAtOnce b h 0 k a
+    → told_as told_judgement a ≡ j
+RowHolds (checked b h k x o) = (a : Result Bool Refusal) → ChecksTerminal b h 0 k x a → told a ≡ o
 RowHolds (moved b h r t o) = (a : Moved) → Moves b h r a → told_moved a ≡ (t, o)
 RowHolds (ran b h log x) = (a : Ran) (k : List ℕ) → Runs b h log a k → told_ran a k ≡ x
 RowHolds (pressed true b h n t o) = (x : Pressed) → Pushes b h n x → told_pressed x ≡ (t, o)

@@ -77,19 +77,20 @@ module _ (near : List ℕ) (t : ℕ) (v : Winding) where
       rw (← same, lt-ltb i t below) refl
 
   -- by the answer, whether one of the t terminals divides
-  pub lowest_some : (x : ℕ) → DividesLowest near t v (Some x)
-      → cond (ltb (lowest_dividing near t v) t) (dead (lowest_dividing near t v)) live ≡ dead x
+  lowest_some : (x : ℕ) → DividesLowest near t v (Some x) → (x < t) × (x ≡ lowest_dividing near t v)
   lowest_some x is =
       by_test (ltb (lowest_dividing near t v) t)
-      (λ below. let found : Some x ≡ Some (lowest_dividing near t v) = rw below at is in rw below (ap dead (sym cc)))
+      (λ below.
+      let found : Some x ≡ Some (lowest_dividing near t v) = rw below at is in
+      let same : x ≡ lowest_dividing near t v = cc in
+      (omega (arith, same, ltb-true (lowest_dividing near t v) t below), same))
       (λ past. let found : Some x ≡ None = rw past at is in absurd cc)
 
-  pub lowest_lacks : DividesLowest near t v None
-      → cond (ltb (lowest_dividing near t v) t) (dead (lowest_dividing near t v)) live ≡ live
+  lowest_lacks : DividesLowest near t v None → t ≤ lowest_dividing near t v
   lowest_lacks is =
       by_test (ltb (lowest_dividing near t v) t)
       (λ below. let found : None ≡ Some (lowest_dividing near t v) = rw below at is in absurd cc)
-      (λ past. rw past refl)
+      (λ past. ltb-false (lowest_dividing near t v) t past)
 
 -- ---- the judgement by the sets
 
@@ -98,14 +99,24 @@ module _ (k : Sets) (t : ℕ) (v : Winding) where
   unfolding judged_at_once
   told-shunted is = rw is refl
 
-  module _ (off : by-sets.shunted k v ≡ false) where
-    pub told_dead : (x : ℕ) → DividesLowest k.near t v (Some x) → dead x ≡ judged_at_once k t v
+  module _ (x : ℕ) (off : by-sets.shunted k v ≡ false) (lowest : x ≡ lowest_dividing k.near t v) where
+    pub told_dead : x < t → dead x ≡ judged_at_once k t v
     unfolding judged_at_once
-    told_dead x is = sym (rw off (lowest_some k.near t v x is))
+    told_dead below = rw (off, ← lowest, lt-ltb x t below) refl
 
-    pub told_live : DividesLowest k.near t v None → live ≡ judged_at_once k t v
+    pub told_live : t ≤ x → live ≡ judged_at_once k t v
     unfolding judged_at_once
-    told_live is = sym (rw off (lowest_lacks k.near t v is))
+    told_live past = rw (off, ← lowest, le-ltb x t past) refl
+
+  -- so by the terminal that is found, or none
+  module _ (off : by-sets.shunted k v ≡ false) where
+    pub found_dead : (x : ℕ) → DividesLowest k.near t v (Some x) → dead x ≡ judged_at_once k t v
+    found_dead x is =
+        let found = lowest_some k.near t v x is in
+        told_dead x off found.1 found.0
+
+    pub found_none : DividesLowest k.near t v None → live ≡ judged_at_once k t v
+    found_none is = told_live (lowest_dividing k.near t v) off refl (lowest_lacks k.near t v is)
 
 -- ---- the calls
 
@@ -146,16 +157,18 @@ module _ (b : Board) (h : Kept) (r : ℕ) (n : Which) where
         (λ (q : Outcome (Unit {0})). q >> winding_for b h r n >>= λ v. given (divides (neighbours b h.state) v x))
         (sym (asks_append (judge_lines b h r n) ((ltb x b.counts.terminals, terminal_beyond) ∷ [])))
 
-    pub checking_refused : (e : Refusal) (a : Result Bool Refusal)
+    pub checking_refused : (m p : ℕ) → winding_for b h r n ≡ refused m p → refused m p ≡ checking b h r n x
+    checking_refused m p is = checking_by (refused m p) is
+
+    pub checking_left : (e : Refusal) (a : Result Bool Refusal)
         → refused (number_of e.no) e.place ≡ winding_for b h r n → IsErr a × IsErrAnd a (λ (y : Refusal). y ≡ e)
         → told a ≡ checking b h r n x
-    checking_refused e a is ends =
-        ap told (ends_with a e ends) ∙ checking_by (refused (number_of e.no) e.place) (sym is)
+    checking_left e a is ends = ap told (ends_with a e ends) ∙ checking_refused (number_of e.no) e.place (sym is)
 
     module _ (v : Winding) (is : winding_for b h r n ≡ given v) where
-      checking_beyond : b.counts.terminals ≤ x → refused terminal_beyond 0 ≡ checking b h r n x
+      pub checking-beyond : b.counts.terminals ≤ x → refused terminal_beyond 0 ≡ checking b h r n x
       unfolding first_no
-      checking_beyond past =
+      checking-beyond past =
           sym (rw (le-ltb x b.counts.terminals past) refl) ∙ checking_by (given v) is
 
       pub checking_of : x < b.counts.terminals → given (divides (neighbours b h.state) v x) ≡ checking b h r n x
@@ -168,7 +181,7 @@ module _ (b : Board) (h : Kept) (r : ℕ) (n : Which) where
           → IsErr a × IsErrAnd a (λ (z : Refusal). z ≡ record { no = e; place = 0 }) → told a ≡ checking b h r n x
       checking-ends e a asked ended =
           let ends = line_refuses (ltb x y) TerminalBeyond e a asked ended in
-          ends.1 ∙ checking_beyond v (sym is) (omega (arith, at, ltb-false x y ends.0))
+          ends.1 ∙ checking-beyond v (sym is) (omega (arith, at, ltb-false x y ends.0))
 
       pub checking_given : (u : Unit {0}) (t : Bool) → AsksLine (ltb x y) TerminalBeyond (Result.Ok u)
           → t ≡ divides h.sets.near v x → given t ≡ checking b h r n x

@@ -7,7 +7,9 @@ use mathlib.Core.Logic.{⊎_elim}
 use mathlib.Core.Bool.{Bool}
 use mathlib.Core.List.{List}
 use mathlib.Core.Option.{none, some, none-ne-some, some-injective}
-use Rattle.refusals.specs.Outcomes.{Outcome, given, refused}
+use Rattle.refusals.specs.Outcomes.{Outcome, given, refused, told_as}
+use Rattle.refusals.specs.declared.Refusal.{Refusal}
+use Rattle.std.specs.Prelude.{Result, Ok, Err}
 use Rattle.refusals.proofs.OutcomeLaws.{refused_never}
 use Rattle.board.specs.declared.Board.{Board}
 use Rattle.board.specs.BreaksNoRule.{BoardFits}
@@ -37,7 +39,7 @@ use Rattle.judge_means.proofs.Shunts.{found-on_board}
 -- v at one allowance and u at another go by the same chains
 record Turned (x : ℕ) (v u : Verdict) : Type 0 where
   enough : v.effort ≤ x → u ≡ v
-  short : x < v.effort → u.finding ≡ said.Undecided
+  short : x < v.effort → u.finding ≡ Ok said.Undecided
 
 module _ (t : List ℕ → Bool) (cs : List (List ℕ)) (x : ℕ) (u : Verdict)
     (also : FindingBy t cs x u u.finding) where
@@ -50,19 +52,19 @@ module _ (t : List ℕ → Bool) (cs : List (List ℕ)) (x : ℕ) (u : Verdict)
         short = λ few. below u.finding also (omega (arith, same, few));
       }
     where
-      from : (f : Finding) → FindingBy t cs x u f → effort t cs ≤ x → u ≡ v
-      from said.Live (live_by c within first is) most = live c first is
-      from said.Dead (dead_by within first is) most = dead first is
-      from said.Undecided (undecided_by under is) most = absurd (omega (arith, under, most))
-      from (said.Refused _) never most = elim never [ ]
+      from : (f : Result Finding Refusal) → FindingBy t cs x u f → effort t cs ≤ x → u ≡ v
+      from (Ok said.Live) (live_by c within first is) most = live c first is
+      from (Ok said.Dead) (dead_by within first is) most = dead first is
+      from (Ok said.Undecided) (undecided_by under is) most = absurd (omega (arith, under, most))
+      from (Err _) never most = elim never [ ]
 
-      below : (f : Finding) → FindingBy t cs x u f → x < effort t cs → f ≡ said.Undecided
-      below said.Live (live_by c within first is) few = absurd (omega (arith, within, few))
-      below said.Dead (dead_by within first is) few = absurd (omega (arith, within, few))
-      below said.Undecided (undecided_by under is) few = refl
-      below (said.Refused _) never few = elim never [ ]
+      below : (f : Result Finding Refusal) → FindingBy t cs x u f → x < effort t cs → f ≡ Ok said.Undecided
+      below (Ok said.Live) (live_by c within first is) few = absurd (omega (arith, within, few))
+      below (Ok said.Dead) (dead_by within first is) few = absurd (omega (arith, within, few))
+      below (Ok said.Undecided) (undecided_by under is) few = refl
+      below (Err _) never few = elim never [ ]
 
-  live_turns : (w : ℕ) (v : Verdict) → FindingBy t cs w v said.Live → (v.effort ≤ w) × Turned x v u
+  live_turns : (w : ℕ) (v : Verdict) → FindingBy t cs w v (Ok said.Live) → (v.effort ≤ w) × Turned x v u
   live_turns w v (live_by c within first is) =
       let its-effort = sym (ap (λ (q : Verdict). q.effort) is) in (
         omega (arith, within, its-effort),
@@ -71,7 +73,7 @@ module _ (t : List ℕ → Bool) (cs : List (List ℕ)) (x : ℕ) (u : Verdict)
             (λ None-first so. absurd (none-ne-some c (sym None-first ∙ first))),
       )
 
-  dead_turns : (w : ℕ) (v : Verdict) → FindingBy t cs w v said.Dead → (v.effort ≤ w) × Turned x v u
+  dead_turns : (w : ℕ) (v : Verdict) → FindingBy t cs w v (Ok said.Dead) → (v.effort ≤ w) × Turned x v u
   dead_turns w v (dead_by within first is) =
       let its-effort = sym (ap (λ (q : Verdict). q.effort) is) in (
         omega (arith, within, its-effort),
@@ -91,10 +93,10 @@ settled-effort : (t : List ℕ → Bool) (cs : List (List ℕ)) (w : ℕ) (v : V
 settled-effort t cs w v this =
     ⊎_elim (λ h. live-effort (subst (FindingBy t cs w v) h this)) (λ h. dead-effort (subst (FindingBy t cs w v) h this))
   where
-    live-effort : FindingBy t cs w v said.Live → effort t cs ≡ v.effort
+    live-effort : FindingBy t cs w v (Ok said.Live) → effort t cs ≡ v.effort
     live-effort (live_by c within first is) = sym (ap (λ (q : Verdict). q.effort) is)
 
-    dead-effort : FindingBy t cs w v said.Dead → effort t cs ≡ v.effort
+    dead-effort : FindingBy t cs w v (Ok said.Dead) → effort t cs ≡ v.effort
     dead-effort (dead_by within first is) = sym (ap (λ (q : Verdict). q.effort) is)
 
 -- plus alone is a chain
@@ -111,8 +113,8 @@ refused-unsettled : (b : Board) (h : Kept) (r : ℕ) (n : Which) (w : ℕ) (v : 
     → winding_for b h r n ≡ refused k p → Settled v → ⊥
 refused-unsettled b h r n w v k p told off =
     let refusal = ap (λ (j : verdict.Verdict). j.finding) (judging_by b h r n w (refused k p) off ∙ sym told) in
-    ⊎_elim (λ is. refused_never k p verdict.live (refusal ∙ ap verdict.told_finding is))
-    (λ is. refused_never k p verdict.dead (refusal ∙ ap verdict.told_finding is))
+    ⊎_elim (λ is. refused_never k p verdict.live (refusal ∙ ap (told_as verdict.told_finding) is))
+    (λ is. refused_never k p verdict.dead (refusal ∙ ap (told_as verdict.told_finding) is))
 
 call_turns : (b : Board) (h : Kept) (r : ℕ) (n : Which) (w x : ℕ) (v u : Verdict) → Judges b h r n w v
     → Judges b h r n x u → Settled v → (v.effort ≤ w) × Turned x v u

@@ -11,7 +11,9 @@ use borrow.Author.Tests.{not-true}
 use Rattle.bits.specs.Sets.{member}
 use Rattle.bits.proofs.BoolLaws.{by_test, by_less, both_true}
 use Rattle.bits.proofs.SetLaws.{member_none, member-including-same, member-including_other, member_below}
-use Rattle.refusals.specs.Outcomes.{Outcome, given, refused}
+use Rattle.refusals.specs.Outcomes.{Outcome, given, refused, told, told_as}
+use Rattle.refusals.specs.declared.Refusal.{Refusal}
+use Rattle.std.specs.Prelude.{Result}
 use Rattle.refusals.specs.Refusals.{terminal_beyond}
 use Rattle.refusals.proofs.OutcomeLaws.{refused_never, given_injective}
 use Rattle.board.specs.declared.Board.{Board}
@@ -41,7 +43,7 @@ use Rattle.judge.proofs.JudgeLaws.{winding_for_asked, winding_for_both, winding_
 use Rattle.divide.specs.declared.Judgement as code-judgement
 use Rattle.divide.specs.AtOnce.{divides, lowest_dividing, Judgement, live, shunted, dead, judged_at_once}
 use Rattle.divide.specs.AtOnce.{told_judgement}
-use Rattle.divide.specs.AtOnce.{told_checked, checking, JudgesAtOnce}
+use Rattle.divide.specs.AtOnce.{checking, JudgesAtOnce}
 use Rattle.divide.proofs.AtOnceLaws.{lowest-divides, lowest-before, lowest_none, told-shunted, told_dead, told_live}
 use Rattle.divide.proofs.AtOnceLaws.{judging_of, checking_refused, checking-beyond, checking_of}
 use Rattle.judge_means.specs.Shunts.{Shunted, OnBoard}
@@ -376,29 +378,29 @@ module _ (b : Board) (h : Kept) (r : ℕ) (n : Which) (e : Winding) (taken : Acc
       let both = winding_for_both b h r n e taken in
       found_its b r n (fine_most b r n (usable_can b h both.0).0) e both.1
 
-  module _ (a : code-judgement.Judgement) (told : JudgesAtOnce b h r n a) where
+  module _ (a : Result code-judgement.Judgement Refusal) (told : JudgesAtOnce b h r n a) where
     abbrev judgement : Judgement
     judgement = judged_at_once (sets_of b h.state) b.counts.terminals e
 
-    said : told_judgement a ≡ given judgement
+    said : told_as told_judgement a ≡ given judgement
     said = told ∙ sym (judging_of b h r n e taken)
 
     so : Saying b h.state e judgement
     so = judged-comes b h.state r n e board_fits its
 
-    says : (o : Outcome Judgement) {P : Type 0} → given judgement ≡ o ↔ P → told_judgement a ≡ o ↔ P
+    says : (o : Outcome Judgement) {P : Type 0} → given judgement ≡ o ↔ P → told_as told_judgement a ≡ o ↔ P
     says o both = (λ is. both.0 (sym said ∙ is), λ p. said ∙ both.1 p)
 
-    its-told : (told_judgement a ≡ given live ↔ IsLive b h.state e)
-        × (told_judgement a ≡ given shunted ↔ Shunted b h.state e)
-        × ((x : ℕ) → told_judgement a ≡ given (dead x) ↔ DeadBy b h.state r n e board_fits its x)
+    its-told : (told_as told_judgement a ≡ given live ↔ IsLive b h.state e)
+        × (told_as told_judgement a ≡ given shunted ↔ Shunted b h.state e)
+        × ((x : ℕ) → told_as told_judgement a ≡ given (dead x) ↔ DeadBy b h.state r n e board_fits its x)
     its-told = (
       says (given live) (comes_live b h.state r n e board_fits its judgement so),
       says (given shunted) (comes-shunted b h.state r n e board_fits its judgement so),
       λ x. says (given (dead x)) (comes_dead b h.state r n e board_fits its judgement so x),
     )
 
-    its_not_live : ¬ (IsLive b h.state e) → SaysDead (told_judgement a)
+    its_not_live : ¬ (IsLive b h.state e) → SaysDead (told_as told_judgement a)
     its_not_live off =
         subst SaysDead (sym said) (comes_unshown b h.state r n e board_fits its judgement so off)
 
@@ -414,7 +416,7 @@ agree_where_settled b h r n w e v a judged told taken = (
 )
 
 pub checked_exactly : CheckedExactly
-checked_exactly b h r n e x a told taken below = (
+checked_exactly b h r n e x a promise taken below = (
   (
     λ is. there (given_injective _ true (sym said ∙ is)),
     λ divided. said ∙ ap given (divides_back b h.state fits x below e inside divided),
@@ -431,8 +433,8 @@ checked_exactly b h r n e x a told taken below = (
     inside : OnBoard b e
     inside = on_board b h.state r n e fits (its b h r n e taken)
 
-    said : told_checked a ≡ given (divides (neighbours b h.state) e x)
-    said = told ∙ sym (checking_of b h r n x e taken below)
+    said : told a ≡ given (divides (neighbours b h.state) e x)
+    said = promise ∙ sym (checking_of b h r n x e taken below)
 
     there : divides (neighbours b h.state) e x ≡ true → DividesOn b h.state e x
     there = divides_there b h.state fits x below e inside
@@ -453,7 +455,7 @@ abbrev LineNineteen : Board → Kept → ℕ → Which → ℕ → Type 0
 LineNineteen b h r n x = CanUse b h × ¬ (LineEleven b r n) × (b.counts.terminals ≤ x)
 
 pub nineteen_exactly : NineteenExactly
-nineteen_exactly b h r n x a told = (λ is. from (winding_for b h r n) refl (sym told ∙ is), to)
+nineteen_exactly b h r n x a promise = (λ is. from (winding_for b h r n) refl (sym promise ∙ is), to)
   where
     from : (o : Outcome Winding) → winding_for b h r n ≡ o → checking b h r n x ≡ refused terminal_beyond 0
         → LineNineteen b h r n x
@@ -470,9 +472,9 @@ nineteen_exactly b h r n x a told = (λ is. from (winding_for b h r n) refl (sym
         let can = usable_can b h both.0 in
         (can, λ line. none-ne-some e (sym ((missing_exactly b r n can.0).1 line) ∙ both.1), past))
 
-    to : LineNineteen b h r n x → told_checked a ≡ refused terminal_beyond 0
+    to : LineNineteen b h r n x → told a ≡ refused terminal_beyond 0
     to (can, there, past) =
-        told ∙ sym (found (winding_of n r (parts_of b)) refl)
+        promise ∙ sym (found (winding_of n r (parts_of b)) refl)
       where
         found : (o : Option Winding) → winding_of n r (parts_of b) ≡ o → refused terminal_beyond 0 ≡ checking b h r n x
         found none missing = absurd (there ((missing_exactly b r n can.0).0 missing))

@@ -11,7 +11,9 @@ use lib.Dec.{eqb, ltb}
 use borrow.Author.Tests.{eqb-true, ltb-true, ltb-false}
 use Rattle.lists.specs.Members.{◌∈◌}
 use Rattle.bits.proofs.BoolLaws.{both_true, either_true, by_test}
-use Rattle.refusals.specs.Outcomes.{Outcome, given, refused}
+use Rattle.refusals.specs.Outcomes.{Outcome, given, refused, told_as}
+use Rattle.refusals.specs.declared.Refusal.{Refusal}
+use Rattle.std.specs.Prelude.{Result, Ok, Err}
 use Rattle.refusals.specs.Refusals.{no_such_winding}
 use Rattle.refusals.proofs.OutcomeLaws.{refused_never}
 use Rattle.kinds.specs.declared.Kind.{Kind}
@@ -191,21 +193,21 @@ module _ (b : Board) (r : ℕ) where
 -- ---- over the call
 
 -- a finding by the chains is no refusal
-finding_by_said : (t : List ℕ → Bool) (cs : List (List ℕ)) (w : ℕ) (v : Verdict) (f : Finding) (k p : ℕ)
-    → FindingBy t cs w v f → ¬ (verdict.told_finding f ≡ refused k p)
-finding_by_said t cs w v said.Live k p (live_by c within first is) says = refused_never k p verdict.live (sym says)
-finding_by_said t cs w v said.Dead k p (dead_by within first is) says = refused_never k p verdict.dead (sym says)
-finding_by_said t cs w v said.Undecided k p (undecided_by short is) says =
+finding_by_said : (t : List ℕ → Bool) (cs : List (List ℕ)) (w : ℕ) (v : Verdict) (f : Result Finding Refusal) (k p : ℕ)
+    → FindingBy t cs w v f → ¬ (told_as verdict.told_finding f ≡ refused k p)
+finding_by_said t cs w v (Ok said.Live) k p (live_by c within first is) says = refused_never k p verdict.live (sym says)
+finding_by_said t cs w v (Ok said.Dead) k p (dead_by within first is) says = refused_never k p verdict.dead (sym says)
+finding_by_said t cs w v (Ok said.Undecided) k p (undecided_by short is) says =
     refused_never k p verdict.undecided (sym says)
-finding_by_said t cs w v (said.Refused _) k p never says = elim never [ ]
+finding_by_said t cs w v (Err _) k p never says = elim never [ ]
 
 -- what is judged is refused exactly as the call says
 module _ (b : Board) (h : Kept) (r : ℕ) (n : Which) (w : ℕ) (v : Verdict) (told : Judges b h r n w v) where
-  refused_said : (k p : ℕ) → winding_for b h r n ≡ refused k p → verdict.told_finding v.finding ≡ refused k p
+  refused_said : (k p : ℕ) → winding_for b h r n ≡ refused k p → told_as verdict.told_finding v.finding ≡ refused k p
   refused_said k p off =
       ap (λ (j : verdict.Verdict). j.finding) (told ∙ sym (judging_by b h r n w (refused k p) off))
 
-  said_refused : (k p : ℕ) → verdict.told_finding v.finding ≡ refused k p → winding_for b h r n ≡ refused k p
+  said_refused : (k p : ℕ) → told_as verdict.told_finding v.finding ≡ refused k p → winding_for b h r n ≡ refused k p
   said_refused k p says = by_call (winding_for b h r n) refl
     where
       by_call : (o : Outcome Winding) → winding_for b h r n ≡ o → winding_for b h r n ≡ refused k p

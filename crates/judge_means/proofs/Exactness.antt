@@ -13,6 +13,8 @@ use borrow.Author.Tests.{leb-true, leb-false}
 use Rattle.bits.proofs.BoolLaws.{by_test}
 use Rattle.lists.specs.Members.{◌∈◌, All}
 use Rattle.lists.proofs.MemberLaws.{append-member, all-member, all_map}
+use Rattle.refusals.specs.declared.Refusal.{Refusal}
+use Rattle.std.specs.Prelude.{Result, Ok, Err}
 use Rattle.board.specs.declared.Board.{Board}
 use Rattle.board.specs.BreaksNoRule.{BoardFits}
 use Rattle.board.proofs.BreaksNoRule.{fine_fits}
@@ -73,20 +75,20 @@ the_chains b s fits = record {
 -- ---- the three verdicts by a list of chains
 
 abbrev pub live_verdict : ℕ → List ℕ → Verdict
-live_verdict k c = record { finding = said.Live; effort = k; length = length c; terminals = places c }
+live_verdict k c = record { finding = Ok said.Live; effort = k; length = length c; terminals = places c }
 
 abbrev pub dead_verdict : ℕ → Verdict
-dead_verdict k = record { finding = said.Dead; effort = k; length = 0; terminals = places [] }
+dead_verdict k = record { finding = Ok said.Dead; effort = k; length = 0; terminals = places [] }
 
 abbrev pub undecided_verdict : ℕ → Verdict
-undecided_verdict w = record { finding = said.Undecided; effort = w; length = 0; terminals = places [] }
+undecided_verdict w = record { finding = Ok said.Undecided; effort = w; length = 0; terminals = places [] }
 
 -- by the chains cs, which t tests, and the allowance w, the verdict v is the one of finding f
-pub data FindingBy (t : List ℕ → Bool) (cs : List (List ℕ)) (w : ℕ) (v : Verdict) : Finding → Type 0 where
+pub data FindingBy (t : List ℕ → Bool) (cs : List (List ℕ)) (w : ℕ) (v : Verdict) : Result Finding Refusal → Type 0 where
   live_by : (c : List ℕ) → effort t cs ≤ w → first_shown t cs ≡ some c → v ≡ live_verdict (effort t cs) c
-      → FindingBy t cs w v said.Live
-  dead_by : effort t cs ≤ w → first_shown t cs ≡ none → v ≡ dead_verdict (effort t cs) → FindingBy t cs w v said.Dead
-  undecided_by : w < effort t cs → v ≡ undecided_verdict w → FindingBy t cs w v said.Undecided
+      → FindingBy t cs w v (Ok said.Live)
+  dead_by : effort t cs ≤ w → first_shown t cs ≡ none → v ≡ dead_verdict (effort t cs) → FindingBy t cs w v (Ok said.Dead)
+  undecided_by : w < effort t cs → v ≡ undecided_verdict w → FindingBy t cs w v (Ok said.Undecided)
 
 weighed_finding : (t : List ℕ → Bool) (cs : List (List ℕ)) (w : ℕ) (v : Verdict) → told_verdict v ≡ weighed t cs w
     → FindingBy t cs w v v.finding
@@ -239,55 +241,55 @@ module _ (b : Board) (k : Kept) (r : ℕ) (n : Which) (w : ℕ) (e : Winding) (v
   inside : OnBoard b e
   inside = found-on_board b r n e fits (winding_for_given b k r n e taken).2
 
-  abbrev ComesTo : Finding → Type 0
+  abbrev ComesTo : Result Finding Refusal → Type 0
   ComesTo f = FindingBy (shows e.a e.b) (chains_on b s e) w v f
 
   comes_to : ComesTo v.finding
   comes_to = verdict_finding b k r n w e v told taken
 
-  comes_to_this : (f : Finding) → v.finding ≡ f → ComesTo f
+  comes_to_this : (f : Result Finding Refusal) → v.finding ≡ f → ComesTo f
   comes_to_this f h = subst ComesTo h comes_to
 
   -- the effort that is weighed
   weighs : effort (shows e.a e.b) (chains_on b s e) ≡ effort_of b s e
   weighs = effort_on b s e
 
-  its_live : v.finding ≡ said.Live ↔ IsLive b s e × (effort_of b s e ≤ w)
-  its_live = (λ h. there (comes_to_this said.Live h), back v.finding comes_to)
+  its_live : v.finding ≡ Ok said.Live ↔ IsLive b s e × (effort_of b s e ≤ w)
+  its_live = (λ h. there (comes_to_this (Ok said.Live) h), back v.finding comes_to)
     where
-      there : ComesTo said.Live → IsLive b s e × (effort_of b s e ≤ w)
+      there : ComesTo (Ok said.Live) → IsLive b s e × (effort_of b s e ≤ w)
       there (live_by c within first is) = (listed_live b s e fits inside c first, omega (arith, weighs, within))
 
-      back : (f : Finding) → ComesTo f → IsLive b s e × (effort_of b s e ≤ w) → f ≡ said.Live
-      back said.Live (live_by c within first is) h = refl
-      back said.Dead (dead_by within first is) h = absurd (unlisted_dead b s e fits inside first h.0)
-      back said.Undecided (undecided_by short is) h = absurd (omega (arith, weighs, short, h.1))
-      back (said.Refused _) never h = elim never [ ]
+      back : (f : Result Finding Refusal) → ComesTo f → IsLive b s e × (effort_of b s e ≤ w) → f ≡ Ok said.Live
+      back (Ok said.Live) (live_by c within first is) h = refl
+      back (Ok said.Dead) (dead_by within first is) h = absurd (unlisted_dead b s e fits inside first h.0)
+      back (Ok said.Undecided) (undecided_by short is) h = absurd (omega (arith, weighs, short, h.1))
+      back (Err _) never h = elim never [ ]
 
   -- within the allowance what is not live is dead
-  its_not_live : v.finding ≡ said.Dead ↔ ¬ (IsLive b s e) × (effort_of b s e ≤ w)
-  its_not_live = (λ h. there (comes_to_this said.Dead h), back v.finding comes_to)
+  its_not_live : v.finding ≡ Ok said.Dead ↔ ¬ (IsLive b s e) × (effort_of b s e ≤ w)
+  its_not_live = (λ h. there (comes_to_this (Ok said.Dead) h), back v.finding comes_to)
     where
-      there : ComesTo said.Dead → ¬ (IsLive b s e) × (effort_of b s e ≤ w)
+      there : ComesTo (Ok said.Dead) → ¬ (IsLive b s e) × (effort_of b s e ≤ w)
       there (dead_by within first is) = (unlisted_dead b s e fits inside first, omega (arith, weighs, within))
 
-      back : (f : Finding) → ComesTo f → ¬ (IsLive b s e) × (effort_of b s e ≤ w) → f ≡ said.Dead
-      back said.Live (live_by c within first is) h = absurd (h.0 (listed_live b s e fits inside c first))
-      back said.Dead (dead_by within first is) h = refl
-      back said.Undecided (undecided_by short is) h = absurd (omega (arith, weighs, short, h.1))
-      back (said.Refused _) never h = elim never [ ]
+      back : (f : Result Finding Refusal) → ComesTo f → ¬ (IsLive b s e) × (effort_of b s e ≤ w) → f ≡ Ok said.Dead
+      back (Ok said.Live) (live_by c within first is) h = absurd (h.0 (listed_live b s e fits inside c first))
+      back (Ok said.Dead) (dead_by within first is) h = refl
+      back (Ok said.Undecided) (undecided_by short is) h = absurd (omega (arith, weighs, short, h.1))
+      back (Err _) never h = elim never [ ]
 
-  its-shunted : Shunted b s e → v.finding ≡ said.Dead
+  its-shunted : Shunted b s e → v.finding ≡ Ok said.Dead
   its-shunted is =
       its_not_live.1 (λ live. live.1 is, omega (arith, effort-shunted b s e fits inside is))
 
-  its_dead : v.finding ≡ said.Dead ↔ Shunted b s e ⊎ (¬ (IsShown b s e) × (length (chains_of b s) ≤ w))
+  its_dead : v.finding ≡ Ok said.Dead ↔ Shunted b s e ⊎ (¬ (IsShown b s e) × (length (chains_of b s) ≤ w))
   its_dead = (there, back)
     where
       all_counted : ¬ (Shunted b s e) → ¬ (IsShown b s e) → effort_of b s e ≡ length (chains_of b s)
       all_counted = (effort_numbers b s e fits inside).2
 
-      there : v.finding ≡ said.Dead → Shunted b s e ⊎ (¬ (IsShown b s e) × (length (chains_of b s) ≤ w))
+      there : v.finding ≡ Ok said.Dead → Shunted b s e ⊎ (¬ (IsShown b s e) × (length (chains_of b s) ≤ w))
       there h =
           by-shunted b s e fits inside inl
           (λ apart.
@@ -295,23 +297,23 @@ module _ (b : Board) (k : Kept) (r : ℕ) (n : Which) (w : ℕ) (e : Winding) (v
           let unshown : ¬ (IsShown b s e) = λ shown. so.0 (shown, apart) in
           inr (unshown, omega (arith, so.1, all_counted apart unshown)))
 
-      back : Shunted b s e ⊎ (¬ (IsShown b s e) × (length (chains_of b s) ≤ w)) → v.finding ≡ said.Dead
+      back : Shunted b s e ⊎ (¬ (IsShown b s e) × (length (chains_of b s) ≤ w)) → v.finding ≡ Ok said.Dead
       back (inl is) = its-shunted is
       back (inr (unshown, within)) =
           by-shunted b s e fits inside its-shunted
           (λ apart. its_not_live.1 (λ live. unshown live.0, omega (arith, within, all_counted apart unshown)))
 
-  its_undecided : v.finding ≡ said.Undecided ↔ w < effort_of b s e
-  its_undecided = (λ h. there (comes_to_this said.Undecided h), back v.finding comes_to)
+  its_undecided : v.finding ≡ Ok said.Undecided ↔ w < effort_of b s e
+  its_undecided = (λ h. there (comes_to_this (Ok said.Undecided) h), back v.finding comes_to)
     where
-      there : ComesTo said.Undecided → w < effort_of b s e
+      there : ComesTo (Ok said.Undecided) → w < effort_of b s e
       there (undecided_by short is) = omega (arith, weighs, short)
 
-      back : (f : Finding) → ComesTo f → w < effort_of b s e → f ≡ said.Undecided
-      back said.Live (live_by c within first is) short = absurd (omega (arith, weighs, short, within))
-      back said.Dead (dead_by within first is) short = absurd (omega (arith, weighs, short, within))
-      back said.Undecided (undecided_by under is) short = refl
-      back (said.Refused _) never short = elim never [ ]
+      back : (f : Result Finding Refusal) → ComesTo f → w < effort_of b s e → f ≡ Ok said.Undecided
+      back (Ok said.Live) (live_by c within first is) short = absurd (omega (arith, weighs, short, within))
+      back (Ok said.Dead) (dead_by within first is) short = absurd (omega (arith, weighs, short, within))
+      back (Ok said.Undecided) (undecided_by under is) short = refl
+      back (Err _) never short = elim never [ ]
 
   -- of a chain that shows the winding: it is the first shown, or stands after it in the list
   shown_later : (c d : List ℕ) → FirstAt (shows e.a e.b) (chains_of b s) c → ChainOf b s d
@@ -334,11 +336,11 @@ module _ (b : Board) (k : Kept) (r : ℕ) (n : Which) (w : ℕ) (e : Winding) (v
           (sorted_after at.early c at.late
           (subst Sorted at.split (chains-sorted (joined (neighbours b s)) b.counts.terminals))) late)
 
-  its_first_chain : v.finding ≡ said.Live → FirstChain b s e v
+  its_first_chain : v.finding ≡ Ok said.Live → FirstChain b s e v
   unfolding first_numbered
-  its_first_chain h = shown_by (comes_to_this said.Live h)
+  its_first_chain h = shown_by (comes_to_this (Ok said.Live) h)
     where
-      shown_by : ComesTo said.Live → FirstChain b s e v
+      shown_by : ComesTo (Ok said.Live) → FirstChain b s e v
       shown_by (live_by c within first is) =
           let apart = (listed_live b s e fits inside c first).1 in
           let of-all = first_of_all b s e fits inside (some c) apart first in
@@ -354,30 +356,30 @@ module _ (b : Board) (k : Kept) (r : ℕ) (n : Which) (w : ℕ) (e : Winding) (v
           }
 
   -- dead reports the effort, and no chain
-  its_dead_report : v.finding ≡ said.Dead → (v.effort ≡ effort_of b s e) × ShowsNone v
-  its_dead_report h = counted_by (comes_to_this said.Dead h)
+  its_dead_report : v.finding ≡ Ok said.Dead → (v.effort ≡ effort_of b s e) × ShowsNone v
+  its_dead_report h = counted_by (comes_to_this (Ok said.Dead) h)
     where
-      counted_by : ComesTo said.Dead → (v.effort ≡ effort_of b s e) × ShowsNone v
+      counted_by : ComesTo (Ok said.Dead) → (v.effort ≡ effort_of b s e) × ShowsNone v
       counted_by (dead_by within first is) = (
         ap (λ (u : Verdict). u.effort) is ∙ weighs,
         (ap (λ (u : Verdict). u.length) is, ap (λ (u : Verdict). u.terminals) is),
       )
 
-  its-shunted_dead : Shunted b s e → (v.finding ≡ said.Dead) × (v.effort ≡ 0) × ShowsNone v
+  its-shunted_dead : Shunted b s e → (v.finding ≡ Ok said.Dead) × (v.effort ≡ 0) × ShowsNone v
   its-shunted_dead is =
       let report = its_dead_report (its-shunted is) in
       (its-shunted is, report.0 ∙ effort-shunted b s e fits inside is, report.1)
 
-  its_count : v.finding ≡ said.Dead → ¬ (Shunted b s e) → (v.effort ≡ length (chains_of b s)) × ShowsNone v
+  its_count : v.finding ≡ Ok said.Dead → ¬ (Shunted b s e) → (v.effort ≡ length (chains_of b s)) × ShowsNone v
   its_count h apart =
       let report = its_dead_report h in
       let unshown : ¬ (IsShown b s e) = λ shown. (its_not_live.0 h).0 (shown, apart) in
       (report.0 ∙ (effort_numbers b s e fits inside).2 apart unshown, report.1)
 
-  its_report : v.finding ≡ said.Undecided → (v.effort ≡ w) × ShowsNone v
-  its_report h = reported_by (comes_to_this said.Undecided h)
+  its_report : v.finding ≡ Ok said.Undecided → (v.effort ≡ w) × ShowsNone v
+  its_report h = reported_by (comes_to_this (Ok said.Undecided) h)
     where
-      reported_by : ComesTo said.Undecided → (v.effort ≡ w) × ShowsNone v
+      reported_by : ComesTo (Ok said.Undecided) → (v.effort ≡ w) × ShowsNone v
       reported_by (undecided_by short is) = (
         ap (λ (u : Verdict). u.effort) is,
         (ap (λ (u : Verdict). u.length) is, ap (λ (u : Verdict). u.terminals) is),
@@ -385,8 +387,8 @@ module _ (b : Board) (k : Kept) (r : ℕ) (n : Which) (w : ℕ) (e : Winding) (v
 
   -- live and dead by the published model's current
   its_current : ¬ (Shunted b s e)
-      → (v.finding ≡ said.Live ↔ WindingCarries b s e.a e.b × (effort_of b s e ≤ w))
-      × (v.finding ≡ said.Dead ↔ ¬ (WindingCarries b s e.a e.b) × (effort_of b s e ≤ w))
+      → (v.finding ≡ Ok said.Live ↔ WindingCarries b s e.a e.b × (effort_of b s e ≤ w))
+      × (v.finding ≡ Ok said.Dead ↔ ¬ (WindingCarries b s e.a e.b) × (effort_of b s e ≤ w))
   its_current apart =
       let agree = live_is_carrying b s e.a e.b fits in (
         (

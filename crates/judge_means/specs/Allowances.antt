@@ -7,7 +7,7 @@
 --     TurnsAtEffort J      the verdict turns at the effort: settled the same way from it on, undecided below it
 --     EffortSome J         "So effort is at least 1", of a winding that is not shunted: its own, and that reported with
 --                          live and dead
-use Rattle.std.specs.Prelude.{ℕ, ◌<◌, ◌≤◌, ◌≡◌, ◌⊎◌}
+use Rattle.std.specs.Prelude.{ℕ, ◌<◌, ◌≤◌, ◌≡◌, ◌⊎◌, Ok}
 use Rattle.board.specs.declared.Board.{Board}
 use Rattle.board.specs.BreaksNoRule.{BoardFits}
 use Rattle.state.specs.declared.State.{State}
@@ -20,7 +20,7 @@ use Rattle.judge_means.specs.Shunts.{Shunted, OnBoard}
 use Rattle.judge_means.specs.Exactness.{Judge, effort_of, OfEveryVerdict}
 
 abbrev pub Settled : Verdict → Type 0
-Settled v = (v.finding ≡ said.Live) ⊎ (v.finding ≡ said.Dead)
+Settled v = (v.finding ≡ Ok said.Live) ⊎ (v.finding ≡ Ok said.Dead)
 
 abbrev pub LargerAllowance : Judge → Type 0
 LargerAllowance J =
@@ -37,7 +37,7 @@ TurnsAtEffort J =
     → J b h r n w v
     → J b h r n x u
     → Settled v
-    → (v.effort ≤ x → u ≡ v) × (x < v.effort → u.finding ≡ said.Undecided)
+    → (v.effort ≤ x → u ≡ v) × (x < v.effort → u.finding ≡ Ok said.Undecided)
 
 abbrev pub EffortSome : Judge → Type 0
 EffortSome J =

@@ -27,9 +27,10 @@
 --                            the winding, shunted or not
 --     NineteenExactly        it refuses by 19 exactly if none of 15, 14, 18 and 11 holds and the terminal is not below
 --                            T
-use Rattle.std.specs.Prelude.{ℕ, ◌<◌, ◌≤◌, ◌≡◌, ◌↔◌, true, false}
+use Rattle.std.specs.Prelude.{ℕ, ◌<◌, ◌≤◌, ◌≡◌, ◌↔◌, Bool, true, false, Result, Ok}
 use Rattle.bits.specs.Sets.{member}
-use Rattle.refusals.specs.Outcomes.{Outcome, given, refused}
+use Rattle.refusals.specs.Outcomes.{Outcome, given, refused, told, told_as}
+use Rattle.refusals.specs.declared.Refusal.{Refusal}
 use Rattle.refusals.specs.Refusals.{terminal_beyond}
 use Rattle.board.specs.declared.Board.{Board}
 use Rattle.board.specs.Rules.{board_fine}
@@ -45,8 +46,7 @@ use Rattle.feed.specs.Feeds.{served, linked, shunted_by}
 use Rattle.judge.specs.declared.Which.{Which}
 use Rattle.judge.specs.Judging.{Judges}
 use Rattle.divide.specs.declared.Judgement as code-judgement
-use Rattle.divide.specs.declared.Checked.{Checked}
-use Rattle.divide.specs.AtOnce.{Judgement, live, shunted, dead, told_judgement, told_checked, JudgesAtOnce}
+use Rattle.divide.specs.AtOnce.{Judgement, live, shunted, dead, told_judgement, JudgesAtOnce}
 use Rattle.divide.specs.AtOnce.{ChecksTerminal}
 use Rattle.judge_means.specs.Shunts.{Shunted, OnBoard}
 use Rattle.judge_means.specs.Exactness.{AcceptedWinding, IsShown, IsLive}
@@ -101,12 +101,12 @@ LiveServed =
 
 abbrev pub ToldExactly : Type 0
 ToldExactly =
-    (b : Board) (h : Kept) (r : ℕ) (n : Which) (e : Winding) (a : code-judgement.Judgement)
+    (b : Board) (h : Kept) (r : ℕ) (n : Which) (e : Winding) (a : Result code-judgement.Judgement Refusal)
     → JudgesAtOnce b h r n a
     → AcceptedWinding b h r n e
-    → (told_judgement a ≡ given live ↔ IsLive b h.state e)
-    × (told_judgement a ≡ given shunted ↔ Shunted b h.state e)
-    × ((x : ℕ) → told_judgement a ≡ given (dead x)
+    → (told_as told_judgement a ≡ given live ↔ IsLive b h.state e)
+    × (told_as told_judgement a ≡ given shunted ↔ Shunted b h.state e)
+    × ((x : ℕ) → told_as told_judgement a ≡ given (dead x)
     ↔ ¬ (Shunted b h.state e) × ¬ (IsShown b h.state e) × LowestOn b h.state e x)
 
 abbrev pub SaysDead : Outcome Judgement → Type 0
@@ -117,25 +117,25 @@ SaysDead (refused n p) = ⊥
 
 abbrev pub AgreeWhereSettled : Type 0
 AgreeWhereSettled =
-    (b : Board) (h : Kept) (r : ℕ) (n : Which) (w : ℕ) (e : Winding) (v : Verdict) (a : code-judgement.Judgement)
+    (b : Board) (h : Kept) (r : ℕ) (n : Which) (w : ℕ) (e : Winding) (v : Verdict) (a : Result code-judgement.Judgement Refusal)
     → Judges b h r n w v
     → JudgesAtOnce b h r n a
     → AcceptedWinding b h r n e
-    → (v.finding ≡ said.Live → told_judgement a ≡ given live)
-    × (v.finding ≡ said.Dead → SaysDead (told_judgement a))
+    → (v.finding ≡ Ok said.Live → told_as told_judgement a ≡ given live)
+    × (v.finding ≡ Ok said.Dead → SaysDead (told_as told_judgement a))
 
 abbrev pub CheckedExactly : Type 0
 CheckedExactly =
-    (b : Board) (h : Kept) (r : ℕ) (n : Which) (e : Winding) (x : ℕ) (a : Checked)
+    (b : Board) (h : Kept) (r : ℕ) (n : Which) (e : Winding) (x : ℕ) (a : Result Bool Refusal)
     → ChecksTerminal b h r n x a
     → AcceptedWinding b h r n e
     → x < b.counts.terminals
-    → (told_checked a ≡ given true ↔ DividesOn b h.state e x)
-    × (told_checked a ≡ given false ↔ ¬ (DividesOn b h.state e x))
+    → (told a ≡ given true ↔ DividesOn b h.state e x)
+    × (told a ≡ given false ↔ ¬ (DividesOn b h.state e x))
 
 abbrev pub NineteenExactly : Type 0
 NineteenExactly =
-    (b : Board) (h : Kept) (r : ℕ) (n : Which) (x : ℕ) (a : Checked)
+    (b : Board) (h : Kept) (r : ℕ) (n : Which) (x : ℕ) (a : Result Bool Refusal)
     → ChecksTerminal b h r n x a
-    → told_checked a ≡ refused terminal_beyond 0
+    → told a ≡ refused terminal_beyond 0
     ↔ CanUse b h × ¬ (LineEleven b r n) × (b.counts.terminals ≤ x)

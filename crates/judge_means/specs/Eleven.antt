@@ -15,7 +15,7 @@
 --     EveryRelayWound       each regular relay is wound the one way and each steel-core relay the other
 use Rattle.std.specs.Prelude.{ℕ, ◌≤◌, ◌≡◌, ◌⊎◌, ◌↔◌, true}
 use Rattle.lists.specs.Members.{◌∈◌}
-use Rattle.refusals.specs.Outcomes.{refused}
+use Rattle.refusals.specs.Outcomes.{refused, told_as}
 use Rattle.refusals.specs.Refusals.{no_such_winding}
 use Rattle.kinds.specs.declared.Kind.TheVariants.{Regular, Drawing, Dropping}
 use Rattle.board.specs.declared.Part.{Part}
@@ -40,7 +40,7 @@ abbrev pub ElevenExactly : Type 0
 ElevenExactly =
     (b : Board) (h : Kept) (r : ℕ) (n : Which) (w : ℕ) (v : Verdict)
     → Judges b h r n w v
-    → told_finding v.finding ≡ refused no_such_winding 0
+    → told_as told_finding v.finding ≡ refused no_such_winding 0
     ↔ CanUse b h × LineEleven b r n
 
 pub record ItsWinding (b : Board) (r : ℕ) (n : Which) (e : Winding) : Type 0 where

@@ -38,7 +38,7 @@
 --     UndecidedReports J           undecided reports W, and no chain
 --     AsPublished J                of a winding that is not shunted, live is exactly what document 000 calls current
 --                                  carrying, dead exactly that it is not, where the effort is within the allowance
-use Rattle.std.specs.Prelude.{ℕ, ◌+◌, ◌<◌, ◌≤◌, ◌≡◌, ◌⊎◌, ◌↔◌, cond, List, [], ◌∷◌, ◌++◌, length}
+use Rattle.std.specs.Prelude.{ℕ, ◌+◌, ◌<◌, ◌≤◌, ◌≡◌, ◌⊎◌, ◌↔◌, cond, List, [], ◌∷◌, ◌++◌, length, Ok}
 use Rattle.lists.specs.Members.{◌∈◌, All, Once}
 use Rattle.refusals.specs.Outcomes.{given}
 use Rattle.board.specs.declared.Board.{Board}
@@ -118,15 +118,15 @@ abbrev pub AsAfresh : Judge → Type 0
 AsAfresh J = OfEveryVerdict J λ b s w e v. JudgesBy (sets_of b s) b.counts.terminals e w v
 
 abbrev pub LiveExactly : Judge → Type 0
-LiveExactly J = OfEveryVerdict J λ b s w e v. v.finding ≡ said.Live ↔ IsLive b s e × (effort_of b s e ≤ w)
+LiveExactly J = OfEveryVerdict J λ b s w e v. v.finding ≡ Ok said.Live ↔ IsLive b s e × (effort_of b s e ≤ w)
 
 abbrev pub DeadExactly : Judge → Type 0
 DeadExactly J =
     OfEveryVerdict J λ b s w e v.
-    v.finding ≡ said.Dead ↔ Shunted b s e ⊎ (¬ (IsShown b s e) × (length (chains_of b s) ≤ w))
+    v.finding ≡ Ok said.Dead ↔ Shunted b s e ⊎ (¬ (IsShown b s e) × (length (chains_of b s) ≤ w))
 
 abbrev pub UndecidedExactly : Judge → Type 0
-UndecidedExactly J = OfEveryVerdict J λ b s w e v. v.finding ≡ said.Undecided ↔ w < effort_of b s e
+UndecidedExactly J = OfEveryVerdict J λ b s w e v. v.finding ≡ Ok said.Undecided ↔ w < effort_of b s e
 
 pub record FirstChain (b : Board) (s : State) (e : Winding) (v : Verdict) : Type 0 where
   pub numbered : FirstShowing b s e v.effort
@@ -136,7 +136,7 @@ pub record FirstChain (b : Board) (s : State) (e : Winding) (v : Verdict) : Type
   pub first : (d : List ℕ) → ChainOf b s d → Shows e.a e.b d → (d ≡ numbered.chain) ⊎ Before numbered.chain d
 
 abbrev pub LiveShows : Judge → Type 0
-LiveShows J = OfEveryVerdict J λ b s w e v. v.finding ≡ said.Live → FirstChain b s e v
+LiveShows J = OfEveryVerdict J λ b s w e v. v.finding ≡ Ok said.Live → FirstChain b s e v
 
 abbrev pub ShowsNone : Verdict → Type 0
 ShowsNone v = (v.length ≡ 0) × (v.terminals ≡ places [])
@@ -144,19 +144,19 @@ ShowsNone v = (v.length ≡ 0) × (v.terminals ≡ places [])
 abbrev pub ShuntedDead : Judge → Type 0
 ShuntedDead J =
     OfEveryVerdict J λ b s w e v.
-    Shunted b s e → (v.finding ≡ said.Dead) × (v.effort ≡ 0) × ShowsNone v
+    Shunted b s e → (v.finding ≡ Ok said.Dead) × (v.effort ≡ 0) × ShowsNone v
 
 abbrev pub DeadCounts : Judge → Type 0
 DeadCounts J =
     OfEveryVerdict J λ b s w e v.
-    v.finding ≡ said.Dead → ¬ (Shunted b s e) → (v.effort ≡ length (chains_of b s)) × ShowsNone v
+    v.finding ≡ Ok said.Dead → ¬ (Shunted b s e) → (v.effort ≡ length (chains_of b s)) × ShowsNone v
 
 abbrev pub UndecidedReports : Judge → Type 0
-UndecidedReports J = OfEveryVerdict J λ b s w e v. v.finding ≡ said.Undecided → (v.effort ≡ w) × ShowsNone v
+UndecidedReports J = OfEveryVerdict J λ b s w e v. v.finding ≡ Ok said.Undecided → (v.effort ≡ w) × ShowsNone v
 
 abbrev pub AsPublished : Judge → Type 0
 AsPublished J =
     OfEveryVerdict J λ b s w e v.
     ¬ (Shunted b s e)
-    → (v.finding ≡ said.Live ↔ WindingCarries b s e.a e.b × (effort_of b s e ≤ w))
-    × (v.finding ≡ said.Dead ↔ ¬ (WindingCarries b s e.a e.b) × (effort_of b s e ≤ w))
+    → (v.finding ≡ Ok said.Live ↔ WindingCarries b s e.a e.b × (effort_of b s e ≤ w))
+    × (v.finding ≡ Ok said.Dead ↔ ¬ (WindingCarries b s e.a e.b) × (effort_of b s e ≤ w))
