@@ -9,6 +9,7 @@
 --     made_lines b h v         the lines of that: those of its push or of its release
 --     session_log              "a log of 4,096"
 --     Shown                    a line, and the state with the kept sets after what it tells
+--     shown e w m h            the line of event e with the word w and m moves, and the state and kept sets h after it
 --     tells e r                event e tells what a run answers: its word, its moves and the drawn relays
 --     ran_line b e h           event e tells of a run from h
 --     pressed_line b e x       event e tells of the push or release x: of the run from the state that it leaves, or of
@@ -27,6 +28,7 @@ use Rattle.kept.specs.declared.Kept.{Kept}
 use Rattle.presses.specs.Presses.{push_lines, release_lines, pushing, releasing}
 use Rattle.board_reader.specs.Editions.{Edition}
 use Rattle.board_reader.specs.Reading.{wanted}
+use Rattle.runs.specs.Runs.{Ending}
 use Rattle.runs.specs.Running.{Ran, running}
 use Rattle.lines.specs.Lines.{Line, event, told_line}
 use Rattle.events.specs.declared.Event.{Event}
@@ -59,15 +61,18 @@ session_log = replicate 4096 0
 abbrev pub Shown : Type 0
 Shown = Line × Kept
 
+abbrev pub shown : ℕ → Outcome Ending → ℕ → Kept → Shown
+shown e w m h = (event e w m h.state.drawn, h)
+
 abbrev pub tells : ℕ → Ran → Shown
-tells e r = (event e r.word r.moves r.kept.state.drawn, r.kept)
+tells e r = shown e r.word r.moves r.kept
 
 unfoldable pub ran_line : Board → ℕ → Kept → Shown
 ran_line b e h = tells e (running b h session_log)
 
 unfoldable pub pressed_line : Board → ℕ → Kept × Outcome (Unit {0}) → Shown
 pressed_line b e (h, given u) = ran_line b e h
-pressed_line b e (h, refused n p) = (event e (refused n p) 0 h.state.drawn, h)
+pressed_line b e (h, refused n p) = shown e (refused n p) 0 h
 
 unfoldable pub event_line : Board → ℕ → Kept → Event → Shown
 event_line b e h v = pressed_line b e (pressing b h v)

@@ -4,7 +4,8 @@
 
 ghost use Rattle.std.specs.Prelude.{◌≡◌};
 ghost use Rattle.presses.specs.Presses.{told_pressed};
-ghost use Rattle.events.specs.Events.{pressing, pressed_line, told_shown, RunLine, EventLine};
+ghost use Rattle.lines.specs.Lines.{told_came};
+ghost use Rattle.events.specs.Events.{shown, pressing, pressed_line, told_shown, RunLine, EventLine};
 
 use board::Board;
 use kept::Kept;
@@ -46,6 +47,21 @@ pub struct Shown {
     pub kept: Kept,
 }
 
+// The line that tells of an event: what its run or its press came to, and the drawn relays of the state after it.
+fn tell(event: usize, word: Result<Ending, Refused>, moves: usize, kept: Kept) -> Shown
+    ensures { told_shown result ≡ shown event (told_came word) moves kept }
+{
+    Shown {
+        line: Line::Event {
+            event,
+            word,
+            moves,
+            drawn: kept.state.drawn,
+        },
+        kept,
+    }
+}
+
 // Runs the board from a state, and tells of it as the event of this number.
 #[tactic(auto, unfolding(crate::specs::Events::ran_line))]
 pub fn run_line(board: Board, number: usize, kept: Kept) -> Shown
@@ -53,15 +69,7 @@ pub fn run_line(board: Board, number: usize, kept: Kept) -> Shown
 {
     let mut log = [0; LOG_LENGTH];
     let ran = runs::run(board, kept, &mut log);
-    Shown {
-        line: Line::Event {
-            event: number,
-            word: ran.word.map_err(Refused::from),
-            moves: ran.moves,
-            drawn: ran.kept.state.drawn,
-        },
-        kept: ran.kept,
-    }
+    tell(number, ran.word.map_err(Refused::from), ran.moves, ran.kept)
 }
 
 // Pushes or releases the button of an event.
@@ -83,15 +91,7 @@ fn pressed_line(board: Board, number: usize, pressed: Pressed) -> Shown
     let kept = pressed.kept;
     match pressed.answer {
         Ok(()) => run_line(board, number, kept),
-        Err(refusal) => Shown {
-            line: Line::Event {
-                event: number,
-                word: Err(refusal.into()),
-                moves: 0,
-                drawn: kept.state.drawn,
-            },
-            kept,
-        },
+        Err(refusal) => tell(number, Err(refusal.into()), 0, kept),
     }
 }
 

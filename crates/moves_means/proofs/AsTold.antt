@@ -3,8 +3,10 @@
 use Prim.Native.Nat.{ℕ}
 use mathlib.Core.Path.{◌≡◌, refl, ap, ◌∙◌}
 use mathlib.Core.Bool.{true, false≢true}
+use Rattle.std.specs.Prelude.{Result}
 use Rattle.bits.proofs.BoolLaws.{both_ways}
-use Rattle.refusals.specs.Outcomes.{Outcome, given, refused}
+use Rattle.refusals.specs.declared.Refusal.{Refusal}
+use Rattle.refusals.specs.Outcomes.{Outcome, given, refused, told_as}
 use Rattle.board.specs.declared.Board.{Board}
 use Rattle.board.proofs.BreaksNoRule.{fine_fits}
 use Rattle.state.specs.States.{is_drawn}
@@ -39,9 +41,9 @@ says_live_lem (given (dead x)) is = absurd (false≢true is)
 says_live_lem (refused n p) is = absurd (false≢true is)
 
 -- what the step's definition takes a winding for
-takes_told : (b : Board) (h : Kept) (r : ℕ) (n : Which) (e : Winding) (j : code-judgement.Judgement)
+takes_told : (b : Board) (h : Kept) (r : ℕ) (n : Which) (e : Winding) (j : Result code-judgement.Judgement Refusal)
     → JudgesAtOnce b h r n j → AcceptedWinding b h r n e
-    → taken_live (sets_of b h.state) b.counts.terminals e ≡ says_live (told_judgement j)
+    → taken_live (sets_of b h.state) b.counts.terminals e ≡ says_live (told_as told_judgement j)
 takes_told b h r n e j told taken =
     let accepted = (the_winding b h r n e).0 taken in
     let says = (told_exactly b h r n e j told taken).0 in

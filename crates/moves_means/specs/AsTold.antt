@@ -7,8 +7,9 @@
 --                       by what the judge says of its winding
 --     SteelAsTold       likewise of a steel relay, by what it says of its first and its second winding
 -- A run goes by the same step of a relay, `step_of` (`crates/runs/specs/Running.antt`).
-use Rattle.std.specs.Prelude.{ℕ, ◌≡◌, Bool, true, false}
-use Rattle.refusals.specs.Outcomes.{Outcome, given, refused}
+use Rattle.std.specs.Prelude.{ℕ, ◌≡◌, Result, Bool, true, false}
+use Rattle.refusals.specs.declared.Refusal.{Refusal}
+use Rattle.refusals.specs.Outcomes.{Outcome, given, refused, told_as}
 use Rattle.board.specs.declared.Board.{Board}
 use Rattle.board.specs.Parts.{parts_of}
 use Rattle.board.specs.Sorts.{IsRegular, IsSteel}
@@ -35,29 +36,29 @@ says_live (refused n p) = false
 
 abbrev pub TakenAsTold : Type 0
 TakenAsTold =
-    (b : Board) (h : Kept) (r : ℕ) (n : Which) (e : Winding) (f : Feed) (t : Bool) (j : code-judgement.Judgement)
+    (b : Board) (h : Kept) (r : ℕ) (n : Which) (e : Winding) (f : Feed) (t : Bool) (j : Result code-judgement.Judgement Refusal)
     → Feeds (sets_of b h.state) b.counts.terminals f
     → LiveBy f.served f.linked e t
     → JudgesAtOnce b h r n j
     → AcceptedWinding b h r n e
-    → t ≡ says_live (told_judgement j)
+    → t ≡ says_live (told_as told_judgement j)
 
 abbrev pub RegularAsTold : Type 0
 RegularAsTold =
-    (b : Board) (h : Kept) (r : ℕ) (a : Moved) (j : code-judgement.Judgement)
+    (b : Board) (h : Kept) (r : ℕ) (a : Moved) (j : Result code-judgement.Judgement Refusal)
     → Moves b h r a
     → movable b h r ≡ given tt
     → IsRegular r (parts_of b)
     → JudgesAtOnce b h r First j
-    → told_move_answer a.answer ≡ given (regular_move (is_drawn h.state r) (says_live (told_judgement j)))
+    → told_move_answer a.answer ≡ given (regular_move (is_drawn h.state r) (says_live (told_as told_judgement j)))
 
 abbrev pub SteelAsTold : Type 0
 SteelAsTold =
-    (b : Board) (h : Kept) (r : ℕ) (a : Moved) (j k : code-judgement.Judgement)
+    (b : Board) (h : Kept) (r : ℕ) (a : Moved) (j k : Result code-judgement.Judgement Refusal)
     → Moves b h r a
     → movable b h r ≡ given tt
     → IsSteel r (parts_of b)
     → JudgesAtOnce b h r First j
     → JudgesAtOnce b h r Second k
     → told_move_answer a.answer
-    ≡ given (steel_move (is_drawn h.state r) (says_live (told_judgement j)) (says_live (told_judgement k)))
+    ≡ given (steel_move (is_drawn h.state r) (says_live (told_as told_judgement j)) (says_live (told_as told_judgement k)))

@@ -1,5 +1,4 @@
 -- Laws of sessions, for this crate's proofs and those of later crates.
-pub mod StartLaws
 pub mod AdvanceLaws
 pub mod ToCome
 pub mod ComingLaws

@@ -1,6 +1,6 @@
 -- The theorem of specs/AnyAllowance.antt: behind its W each session goes on with the same bytes, so each event's number
 -- is read alike in both, and what is read past it too.
-use Prim.Native.Nat.{ℕ, zero, suc, ◌+◌, ◌≤◌}
+use Prim.Native.Nat.{ℕ, zero, suc, ◌+◌, ◌/◌, ◌≤◌}
 use native.Mathlib.Omega.{arith}
 use mathlib.Core.Path.{◌≡◌, refl, sym, ap, subst, ◌∙◌}
 use mathlib.Core.Bool.{Bool, true, false, cond}
@@ -17,10 +17,11 @@ use Rattle.number.specs.Numbers.{Width, current_width, number_at, number_bytes}
 use Rattle.number.proofs.NumberLaws.{number-alike, number_written_read, number_bytes-length}
 use Rattle.board.specs.declared.Board.{Board}
 use Rattle.kept.specs.declared.Kept.{Kept}
-use Rattle.board_reader.specs.declared.ReadAnswer.TheVariants.{Read}
+use Rattle.std.specs.Prelude.{Result}
 use Rattle.board_reader.specs.Editions.{Edition, current_edition}
 use Rattle.board_reader.specs.Reading.{wanted, longest_input, reading}
-use Rattle.board_reader.proofs.ToldLaws.{board_read_told}
+use Rattle.board_reader.proofs.TabledLaws.{reading_tabled}
+use Rattle.board_reader.proofs.ToldLaws.{board_read_tells}
 use Rattle.file_means.proofs.BytesAfter.{bytes_after}
 use Rattle.lines.specs.Lines.{Line}
 use Rattle.events.specs.declared.Event.{Event}
@@ -61,7 +62,7 @@ module _ (s t : List ℕ) where
     event-alike : (ed : Edition) (n : ℕ) → ReadAlike (event_at ed n s i) (event_at ed n t j)
     unfolding event_at wanted
     event-alike ed n =
-        alike_then _ _ (alike_then _ _ (places-alike ed.width) (λ v. named (ltb (event_of v).button n) v))
+        alike_then _ _ (alike_then _ _ (places-alike ed.width) (λ v. named (ltb (v / 2) n) v))
         (λ v. both_found (event_of v))
       where
         named : (known : Bool) (v k l : ℕ) → Alike k l
@@ -116,10 +117,10 @@ module _ (f es : List ℕ) (b : Board) (w : ℕ) (file : reading current_edition
   board-before : reading current_edition (session_of f w es) ≡ (b, given (length f))
   board-before =
       let s = session_of f w es in
-      let read = board_read_told.onto (reading current_edition s) in
+      let read = board_read_tells.onto (reading current_edition s) (reading_tabled current_edition s) in
       let same =
-      (bytes_after f s (record { board = b; answer = Read (length f) })
-      (board_read_told.untold (reading current_edition s)) (length f) (sym file) refl).1 short
+      (bytes_after f s (record { board = b; answer = Result.Ok (length f) })
+      (board_read_tells.untold (reading current_edition s)) (length f) (sym file) refl).1 short
       (take-append-le (length f) f (number_bytes w ++ es) (omega arith)) read in
       sym read ∙ λ i. (same.0 i, same.1 i)
 

@@ -24,7 +24,8 @@ use Rattle.runs.specs.Running.{longest_log, ran}
 use Rattle.runs.proofs.RunningLaws.{runnable_log, running_by}
 use Rattle.lines.specs.Lines.{event, closing}
 use Rattle.events.specs.declared.Event.{Event}
-use Rattle.events.specs.Events.{pressing, session_log, Shown, tells, ran_line, pressed_line, event_line}
+use Rattle.events.specs.declared.Event.TheVariants.{Push, Release}
+use Rattle.events.specs.Events.{button_of, pressing, session_log, Shown, tells, ran_line, pressed_line, event_line}
 use Rattle.session_means.specs.EventRefusals.{OnlyTwelve}
 use Rattle.runs.proofs.RunFits.{run_fits}
 
@@ -93,14 +94,11 @@ module _ (b : Board) where
         (left_fits t (kept_at b (with_released t.state n)) (is_pushed t.state n) fits
         (usable_fine b (with_released t.state n) fine (state_fits_release b.counts t.state n before)))
 
-  press_fits : (t : Kept) (v : Event) → usable b t ≡ given tt → ltb v.button b.counts.buttons ≡ true
+  press_fits : (t : Kept) (v : Event) → usable b t ≡ given tt → ltb (button_of v) b.counts.buttons ≡ true
       → PressFits b (pressing b t v)
   unfolding pressing
-  press_fits t v fits below = by v.push
-    where
-      by : (push : Bool) → PressFits b (cond push (pushing b t v.button) (releasing b t v.button))
-      by true = push_fits t v.button fits below
-      by false = release_fits t v.button fits below
+  press_fits t (Push n) fits below = push_fits t n fits below
+  press_fits t (Release n) fits below = release_fits t n fits below
 
   -- ---- the event
 
@@ -110,6 +108,6 @@ module _ (b : Board) where
   pressed_fits e (t, refused n p) so = record { twelve = so.twelve; drawn = refl; fits = so.fits }
 
   pub event_fits : (e : ℕ) (t : Kept) (v : Event) → usable b t ≡ given tt
-      → ltb v.button b.counts.buttons ≡ true → ShownFits b (event_line b e t v)
+      → ltb (button_of v) b.counts.buttons ≡ true → ShownFits b (event_line b e t v)
   unfolding event_line
   event_fits e t v fits below = pressed_fits e (pressing b t v) (press_fits t v fits below)

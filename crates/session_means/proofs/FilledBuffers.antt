@@ -11,7 +11,8 @@ use Rattle.board_reader.specs.Editions.{current_edition}
 use Rattle.lines.specs.Lines.{Line, longest_line}
 use Rattle.session.specs.declared.Session as code-session
 use Rattle.session.specs.declared.Handed as code-handed
-use Rattle.session.specs.declared.HandOut.TheVariants.{Written, Over}
+use Rattle.std.specs.Prelude.{Result, Option, Some, None}
+use Rattle.refusals.specs.declared.Refusal.{Refusal}
 use Rattle.session.specs.Sessions.{session_lines, session_text, line_texts, printed}
 use Rattle.session.specs.Carried.{Ahead, Coming, line, no_line, next_of, told_ahead, Begins}
 use Rattle.session.specs.Filling.{fitting, NextLines}
@@ -52,7 +53,7 @@ module _ (s : List ℕ) where
       (λ a y l n x is room rest numbered. first_line b a y x.0 l x.1 numbered is rest)
 
   came_first : (z : code-session.Session) (out out' : List ℕ) (r : code-handed.Handed)
-      (called : NextLines z s out r out') (n : ℕ) (is : r.answer ≡ Written n) → NumberedIn z s
+      (called : NextLines z s out r out') (n : ℕ) (is : r.answer ≡ Result.Ok (Some n)) → NumberedIn z s
       → FirstIn s z (came_lines z s out out' r called n is).lines_told r.session
   came_first z out out' r called n is numbered =
       let ls = (came_lines z s out out' r called n is).lines_told in
@@ -126,15 +127,15 @@ module _ (s : List ℕ) where
 
   module _ (z : code-session.Session) (out out' : List ℕ) (r : code-handed.Handed) (called : NextLines z s out r out')
       (numbered : NumberedIn z s) where
-    over_none : r.answer ≡ Over → still_in z s ≡ []
+    over_none : r.answer ≡ Result.Ok None → still_in z s ≡ []
     over_none is = none_left _ (told_ahead z.ahead) numbered (filled_over z s out out' r called is _ refl)
 
-    puts : (n : ℕ) (is : r.answer ≡ Written n)
+    puts : (n : ℕ) (is : r.answer ≡ Result.Ok (Some n))
         → PutsText (bytes_of (came_lines z s out out' r called n is).lines_told) out r out'
     puts n is =
         let c = came_lines z s out out' r called n is in
         record {
-          answer = is ∙ ap Written c.lines_bytes;
+          answer = is ∙ ap {B = Result (Option ℕ) Refusal} (λ (k : ℕ). Result.Ok (Some k)) c.lines_bytes;
           begins = rw (← c.lines_bytes) c.lines_text;
           stays = rw (← c.lines_bytes) c.lines_stay;
         }
@@ -145,7 +146,7 @@ module _ (s : List ℕ) where
     some_by (l ∷ ls) rest all some split text full =
         rw split (record { more = ls; left = rest; next = refl; text = text; full = full })
 
-    next_by : (r.answer ≡ Over) ⊎ ((n : ℕ) × (r.answer ≡ Written n)) → HandsSome (still_in z s) out r out'
+    next_by : (r.answer ≡ Result.Ok None) ⊎ ((n : ℕ) × (r.answer ≡ Result.Ok (Some n))) → HandsSome (still_in z s) out r out'
     next_by (inl over) = rw (over_none over) (over, filled-lent z s out out' r called over)
     next_by (inr (n, is)) =
         let c = came_lines z s out out' r called n is in

@@ -9,7 +9,7 @@ use Rattle.board_reader.specs.Editions.{current_edition}
 use Rattle.lines.specs.Lines.{Line, longest_line}
 use Rattle.session.specs.declared.Session as code-session
 use Rattle.session.specs.declared.Handed as code-handed
-use Rattle.session.specs.declared.HandOut.TheVariants.{Over}
+use Rattle.std.specs.Prelude.{Result, None}
 use Rattle.session.specs.HandingOut.{nothing, told_hand_out, NextLine}
 use Rattle.session.specs.Sessions.{line_texts}
 use Rattle.session.specs.Carried.{Ahead, Coming, line, no_line, next_in, told_ahead}
@@ -89,7 +89,7 @@ lines_handed_out s z z' ts begun out =
     }
 
 none_left : (rest : List (List ℕ)) (out out' : List ℕ) (r : code-handed.Handed) → Tells rest out r out'
-    → r.answer ≡ Over → rest ≡ []
+    → r.answer ≡ Result.Ok None → rest ≡ []
 none_left [] out out' r tells over = refl
 none_left (t ∷ ts) out out' r tells over = absurd (over_never (length t) (sym over ∙ tells.answer))
 

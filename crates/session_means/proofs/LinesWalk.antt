@@ -1,7 +1,7 @@
 -- The lines of a session, one after the other, for whatever is to be shown of them: by induction on the events, with
 -- the state before each fitting the board, with the sets of both. The theorems are its instances.
 use Prim.Native.Nat.{ℕ, zero, suc, ◌/◌}
-use mathlib.Core.Path.{◌≡◌, refl}
+use mathlib.Core.Path.{◌≡◌, refl, ap, ◌∙◌}
 use mathlib.Core.Logic.{◌⊎◌, inl, inr}
 use mathlib.Core.Bool.{Bool, true, false, cond}
 use mathlib.Core.List.{List, [], ◌∷◌}
@@ -27,7 +27,8 @@ use Rattle.file_means.proofs.BoardTrip.{BoardIsFine}
 use Rattle.file_means.proofs.ReadFine.{read_fine}
 use Rattle.lines.specs.Lines.{Line, closing}
 use Rattle.events.specs.declared.Event.{Event}
-use Rattle.events.specs.Events.{Shown, event_of, event_at, event_line}
+use Rattle.events.specs.Events.{Shown, event_of, button_of, event_at, event_line}
+use Rattle.events.proofs.EventLaws.{button_of-event}
 use Rattle.session.specs.Sessions.{past_allowance, head_at, event_lines, lines_from, head_lines}
 use Rattle.session_means.specs.LinesDrawn.{EventShows}
 use Rattle.session_means.specs.EventRefusals.{ClosedByEvent}
@@ -46,7 +47,7 @@ pub record Along (b : Board) (Q : ℕ → Kept → List Line → Type 0) : Type 
 module _ (b : Board) (s : List ℕ) (Q : ℕ → Kept → List Line → Type 0) (so : Along b Q) where
   -- the event's button is one of the board's; or the event is refused by 1, 2 or 7
   abbrev EventRead : Outcome (Found Event) → Type 0
-  EventRead (given v) = ltb v.value.button b.counts.buttons ≡ true
+  EventRead (given v) = ltb (button_of v.value) b.counts.buttons ≡ true
   EventRead (refused n p) = ClosedByEvent (closing n p)
 
   event_read : (at : ℕ) → EventRead (event_at current_edition b.counts.buttons s at)
@@ -55,7 +56,7 @@ module _ (b : Board) (s : List ℕ) (Q : ℕ → Kept → List Line → Type 0) 
     where
       below : (v : Found ℕ) (t : Bool) → ltb (v.value / 2) b.counts.buttons ≡ t
           → EventRead (unless t no_such_name at >> given v >>= λ v. found (event_of v.value) v.next)
-      below v true e = e
+      below v true e = ap (λ (k : ℕ). ltb k b.counts.buttons) (button_of-event v.value) ∙ e
       below v false e = inr (inr refl)
 
       by : (o : Outcome (Found ℕ)) → number_at current_width s at ≡ o

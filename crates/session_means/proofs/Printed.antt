@@ -3,13 +3,12 @@
 use Rattle.std.proofs.Common.{ℕ, ◌≡◌, ◌≤◌, List, [], ◌∷◌, ◌++◌, ◌⊎◌, length, take}
 use Rattle.std.proofs.Common.{refl, sym, ap, subst, ◌∙◌, inl, inr, append-nil, append_assoc}
 use Rattle.std.specs.declared.option.Option.{Option}
-use Rattle.std.specs.Prelude.{None, Some}
+use Rattle.std.specs.Prelude.{Result, None, Some}
 use Rattle.std.specs.Io.KnownBytes.{Appends}
 use Rattle.board_reader.specs.Editions.{current_edition}
 use Rattle.lines.specs.Lines.{longest_line}
 use Rattle.session.specs.declared.Session.{Session}
 use Rattle.session.specs.declared.Handed.{Handed}
-use Rattle.session.specs.declared.HandOut.TheVariants.{Written, Over}
 use Rattle.session.specs.Carried.{Ahead, Coming, line, no_line, next_in, Begins}
 use Rattle.session.specs.HandingOut.{NextLine}
 use Rattle.session.specs.Filling.{NextLines}
@@ -60,7 +59,7 @@ pub none_printed : (C : Call) (s : List ℕ) (z : Session) (old : Option (List �
 none_printed C s z old = record { texts = []; handed = refl; appended = appends_none old }
 
 pub more_printed : (C : Call) (s : List ℕ) (z y : Session) (old mid new : Option (List ℕ)) (out out' : List ℕ)
-    (r : Handed) (n : ℕ) → SoPrinted C s z y old mid → C y s out r out' → r.answer ≡ Written n
+    (r : Handed) (n : ℕ) → SoPrinted C s z y old mid → C y s out r out' → r.answer ≡ Result.Ok (Some n)
     → Appends mid new (take n out') → SoPrinted C s z r.session old new
 more_printed C s z y old mid new out out' r n so called wrote appended =
     let hands : Hands C s y (take n out') r.session =
@@ -86,11 +85,11 @@ more_printed C s z y old mid new out out' r n so called wrote appended =
 
 pub all_buffers_printed : (s : List ℕ) (z y : Session) (old new : Option (List ℕ)) (out out' : List ℕ) (r : Handed)
     → Begins s z → SoPrinted NextLines s z y old new → longest_line ≤ length out → NextLines y s out r out'
-    → ((n : ℕ) → r.answer ≡ Written n → ⊥) → Appends old new (session_text current_edition s)
+    → ((n : ℕ) → r.answer ≡ Result.Ok (Some n) → ⊥) → Appends old new (session_text current_edition s)
 all_buffers_printed s z y old new out out' r begun so room called never =
     by (filled_answers y s out out' r called room)
   where
-    by : (r.answer ≡ Over) ⊎ ((n : ℕ) × (r.answer ≡ Written n)) → Appends old new (session_text current_edition s)
+    by : (r.answer ≡ Result.Ok None) ⊎ ((n : ℕ) × (r.answer ≡ Result.Ok (Some n))) → Appends old new (session_text current_edition s)
     by (inl over) =
         subst (λ (xs : List ℕ). Appends old new xs) (all_filled s z y so.texts out out' r begun so.handed called over)
         so.appended
@@ -98,7 +97,7 @@ all_buffers_printed s z y old new out out' r begun so room called never =
 
 pub all_lines_printed : (s : List ℕ) (z y : Session) (old new : Option (List ℕ)) (out out' : List ℕ) (r : Handed)
     → Begins s z → SoPrinted NextLine s z y old new → longest_line ≤ length out → NextLine y s out r out'
-    → ((n : ℕ) → r.answer ≡ Written n → ⊥) → Appends old new (session_text current_edition s)
+    → ((n : ℕ) → r.answer ≡ Result.Ok (Some n) → ⊥) → Appends old new (session_text current_edition s)
 unfolding session_text
 all_lines_printed s z y old new out out' r begun so room called never = by (next_in y s) refl
   where

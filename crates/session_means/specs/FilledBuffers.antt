@@ -8,12 +8,11 @@
 --                                  them
 --     BuffersFilled                whatever buffers were filled from the beginning on, it is so of all their bytes
 --     AllFilled                    and once a call says that there is none, these are all that the session prints
-use Rattle.std.specs.Prelude.{ℕ, ◌+◌, ◌<◌, ◌≤◌, ◌≡◌, List, [], ◌∷◌, ◌++◌, ◌⊎◌, length}
+use Rattle.std.specs.Prelude.{ℕ, ◌+◌, ◌<◌, ◌≤◌, ◌≡◌, List, [], ◌∷◌, ◌++◌, ◌⊎◌, length, Result, None}
 use Rattle.board_reader.specs.Editions.{current_edition}
 use Rattle.lines.specs.Lines.{Line, longest_line}
 use Rattle.session.specs.declared.Session.{Session}
 use Rattle.session.specs.declared.Handed.{Handed}
-use Rattle.session.specs.declared.HandOut.TheVariants.{Over}
 use Rattle.session.specs.Sessions.{session_lines, line_texts, printed, session_text}
 use Rattle.session.specs.Carried.{Begins}
 use Rattle.session.specs.Filling.{NextLines}
@@ -27,7 +26,7 @@ pub record SomeLines (l : Line) (ls : List Line) (out : List ℕ) (r : Handed) (
   pub full : (left ≡ []) ⊎ (length out < length (printed (line_texts (l ∷ more))) + longest_line)
 
 abbrev pub HandsSome : List Line → List ℕ → Handed → List ℕ → Type 0
-HandsSome [] out r out' = (r.answer ≡ Over) × (out' ≡ out)
+HandsSome [] out r out' = (r.answer ≡ Result.Ok None) × (out' ≡ out)
 HandsSome (l ∷ ls) out r out' = SomeLines l ls out r out'
 
 pub record FilledSoFar (s : List ℕ) (z : Session) (t : List ℕ) : Type 0 where
@@ -51,5 +50,5 @@ AllFilled =
     → Begins s z
     → HandsOut NextLines s z ts z'
     → NextLines z' s out r out'
-    → r.answer ≡ Over
+    → r.answer ≡ Result.Ok None
     → printed ts ≡ session_text current_edition s

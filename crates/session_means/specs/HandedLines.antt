@@ -12,12 +12,11 @@
 --                              next, what comes is the next of them
 --     LinesHandedOut           whatever calls have handed out from the beginning on, it is so
 --     AllHandedOut             and once a call says that there is none, they are all of the session's lines
-use Rattle.std.specs.Prelude.{ℕ, ◌≤◌, ◌≡◌, List, [], ◌∷◌, ◌++◌, length, take, drop}
+use Rattle.std.specs.Prelude.{ℕ, ◌≤◌, ◌≡◌, List, [], ◌∷◌, ◌++◌, length, take, drop, Result, Some, None}
 use Rattle.board_reader.specs.Editions.{current_edition}
 use Rattle.lines.specs.Lines.{longest_line}
 use Rattle.session.specs.declared.Session.{Session}
 use Rattle.session.specs.declared.Handed.{Handed}
-use Rattle.session.specs.declared.HandOut.TheVariants.{Written, Over}
 use Rattle.session.specs.Sessions.{session_lines, line_texts}
 use Rattle.session.specs.Carried.{Begins}
 use Rattle.session.specs.HandingOut.{NextLine}
@@ -31,7 +30,7 @@ pub record Hands (C : Call) (s : List ℕ) (z : Session) (t : List ℕ) (y : Ses
   pub answer : Handed
   pub bytes : ℕ
   pub called : C z s out answer out'
-  pub wrote : answer.answer ≡ Written bytes
+  pub wrote : answer.answer ≡ Result.Ok (Some bytes)
   pub text : take bytes out' ≡ t
   pub after : answer.session ≡ y
 
@@ -40,12 +39,12 @@ HandsOut C s z [] z' = z ≡ z'
 HandsOut C s z (t ∷ ts) z' = (y : Session) × (Hands C s z t y × HandsOut C s y ts z')
 
 pub record PutsText (t out : List ℕ) (r : Handed) (out' : List ℕ) : Type 0 where
-  pub answer : r.answer ≡ Written (length t)
+  pub answer : r.answer ≡ Result.Ok (Some (length t))
   pub begins : take (length t) out' ≡ t
   pub stays : drop (length t) out' ≡ drop (length t) out
 
 abbrev pub Tells : List (List ℕ) → List ℕ → Handed → List ℕ → Type 0
-Tells [] out r out' = (r.answer ≡ Over) × (out' ≡ out)
+Tells [] out r out' = (r.answer ≡ Result.Ok None) × (out' ≡ out)
 Tells (t ∷ ts) out r out' = PutsText t out r out'
 
 pub record SoFar (s : List ℕ) (z : Session) (ts : List (List ℕ)) : Type 0 where
@@ -64,5 +63,5 @@ AllHandedOut =
     → Begins s z
     → HandsOut NextLine s z ts z'
     → NextLine z' s out r out'
-    → r.answer ≡ Over
+    → r.answer ≡ Result.Ok None
     → ts ≡ line_texts (session_lines current_edition s)

@@ -12,4 +12,4 @@ returns c =
     c.set.ensures
     ∙ left_asked _ _ _ _ _ c.push.ensures (pushed_push_other c.args.kept.state _)
     (drawn_push c.args.kept.state c.args.button) _ _ _ _ refl refl
-    (ap not c.is_pushed.ensures)
+    (ap not c.is_pushed-settable.ensures)
