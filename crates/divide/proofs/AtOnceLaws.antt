@@ -1,15 +1,14 @@
 -- Laws of judging without listing chains: one for each way through the functions; and of the calls, by the winding that
 -- is judged; and that an answer is known by what it tells.
-use Prim.Native.Nat.{ℕ, suc, ◌+◌, ◌-◌, ◌≤◌, ◌<◌}
+use Prim.Native.Nat.{ℕ, ◌≤◌, ◌<◌}
 use native.Mathlib.Omega.{arith}
 use mathlib.Core.Path.{◌≡◌, refl, sym, ap, ◌∙◌}
-use mathlib.Core.Bool.{Bool, true, false, cond, false≢true}
+use mathlib.Core.Bool.{Bool, true, false, false≢true}
 use mathlib.Core.List.{List, [], ◌∷◌}
 use Rattle.std.specs.Prelude.{Option, Some, None, MatchOption, Result}
 use Rattle.std.specs.Result.{IsErr, IsErrAnd}
 use lib.Dec.{ltb}
 use borrow.Author.Tests.{lt-ltb, le-ltb, ltb-true, ltb-false}
-use Rattle.bits.specs.Sets.{member, first_from}
 use Rattle.bits.proofs.BoolLaws.{by_test, by_less}
 use Rattle.bits.proofs.LowestLaws.{first_found, first-before, first_absent}
 use Rattle.refusals.specs.Outcomes.{Outcome, given, refused, ◌>>◌, ◌>>=◌, told, told_as}
@@ -28,7 +27,6 @@ use Rattle.neighbours.specs.declared.Sets.{Sets}
 use Rattle.neighbours.specs.Neighbours.{neighbours, sets_of}
 use Rattle.kept.specs.declared.Kept.{Kept}
 use Rattle.search.specs.declared.Winding.{Winding}
-use Rattle.feed.specs.Feeds.{reached_without}
 use Rattle.judge.specs.declared.Which.{Which}
 use Rattle.judge.specs.Judging as by-sets
 use Rattle.judge.specs.Judging.{judge_lines, winding_for}
@@ -220,8 +218,7 @@ unfolding checking TabledLines
 checking-tabled b h r n x =
     tabled_then _ _
     (tabled_both _ _
-    (tabled_lines (check_lines b h r n x)
-    (
+    (tabled_lines (check_lines b h r n x) (
       (BrokenBoard, refl),
       (
         (StateBeyondBoard, refl),

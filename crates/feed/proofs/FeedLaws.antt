@@ -4,14 +4,14 @@ use Prim.Native.Nat.{ℕ, zero, suc, min, ◌+◌, ◌≤◌, ◌<◌}
 use native.Mathlib.Omega.{arith}
 use mathlib.Core.Path.{◌≡◌, refl, sym, ap, subst, ◌∙◌}
 use mathlib.Core.Logic.{◌⊎◌, ◌↔◌, inl, inr, ⊎_elim}
-use mathlib.Core.Bool.{Bool, true, false, not, ◌&&◌, false≢true}
+use mathlib.Core.Bool.{true, false, not, ◌&&◌, false≢true}
 use mathlib.Core.List.{List}
 use Rattle.std.specs.Prelude.{Some}
 use lib.Dec.{eqb}
 use lib.ListN.{length, get_or}
 use lib.Seq.{ext_get_or}
 use borrow.Author.Tests.{lt-ltb, le-ltb, eqb-true, eqb-false, not-true}
-use Rattle.bits.specs.Sets.{room, member, excluding, remaining, lowest_from, member_from}
+use Rattle.bits.specs.Sets.{room, member, excluding, remaining, member_from}
 use Rattle.bits.proofs.BoolLaws.{by_test, both_true, both_ways}
 use Rattle.bits.proofs.SetLaws.{member_none, member-every, members_equal, member-alone, member-remaining}
 use Rattle.bits.proofs.SetLaws.{member-including-same, member-including_other, member-excluding-same}

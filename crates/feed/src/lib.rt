@@ -63,7 +63,8 @@ fn linked_to(bare: &[u64; 64], linked: &[u64; 64], x: u32) -> u64
     ensures { result ≡ flooded bare.now (alone x) 0 }
 {
     match bits::lowest_from(bare[x as usize], 0) {
-        Some(lowest) if lowest < x && bits::has(linked[lowest as usize], x) => linked[lowest as usize],
+        Some(lowest) if lowest < x && bits::has(linked[lowest as usize], x) =>
+            linked[lowest as usize],
         _ => reach::flood(bare, bits::with(0, x), 0),
     }
 }

@@ -2,34 +2,26 @@
 use Prim.Native.Nat.{ℕ, ◌+◌, ◌≤◌, ◌<◌}
 use native.Mathlib.Numerals.{add-one}
 use mathlib.Core.Path.{◌≡◌, refl, sym, ap, ap₂, ◌∙◌}
-use mathlib.Core.Logic.{◌⊎◌, ⊎_elim}
-use mathlib.Core.Bool.{Bool, true, false, cond, ◌&&◌}
+use mathlib.Core.Bool.{Bool, true, false}
 use mathlib.Core.List.{List, [], ◌∷◌, ◌++◌}
 use Rattle.std.specs.Prelude as code
 use mathlib.Core.Option.{Option, none, some}
-use lib.Dec.{eqb}
 use lib.ListN.{length, get_or, take}
 use lib.Seq.{take-suc, take_all}
 use Rattle.bits.proofs.BoolLaws.{by_test}
-use borrow.Author.Tests.{eq-eqb, ne_eqb}
 use Rattle.refusals.specs.Outcomes.{given, refused}
 use Rattle.refusals.specs.Refusals.{no_such_winding}
 use Rattle.refusals.proofs.OutcomeLaws.{refused_never, given_injective}
 use Rattle.refusals.proofs.Told.{Told}
-use Rattle.kinds.specs.declared.Kind.{Kind}
-use Rattle.kinds.specs.Kinds.{regular_kind, drawing_kind, dropping_kind, kind_number, name_of}
 use Rattle.board.specs.declared.Part.{Part}
-use Rattle.board.specs.Parts.{blank}
-use Rattle.board.specs.Sorts.{carries}
-use Rattle.lists.proofs.FirstLaws.{taken_from, taken_past, taken_full}
 use Rattle.search.specs.declared.Winding.{Winding}
 use Rattle.judge.specs.declared.Which.{Which}
 use Rattle.judge.specs.declared.Which.TheVariants.{First, Second}
 use Rattle.judge.specs.declared.Windings.{Windings}
 use Rattle.judge.specs.declared.Windings.TheVariants.{Regular, Steel}
-use Rattle.judge.specs.RelayWindings.{is_first, is_second, is_winding, ends_of, winding_of, OfRelay, regular}
+use Rattle.judge.specs.RelayWindings.{is_winding, ends_of, winding_of, OfRelay, regular}
 use Rattle.judge.specs.RelayWindings.{steel, absent, of_relay}
-use Rattle.judge.specs.RelayWindings.{windings_at, winding_named, or_no_such_winding, told_windings}
+use Rattle.judge.specs.RelayWindings.{windings_at, or_no_such_winding, told_windings}
 use Rattle.judge.specs.RelayWindings.{seen_with}
 
 -- ---- the winding among the parts

@@ -1,19 +1,17 @@
 -- Laws of going through chains with an allowance: what a walk comes to, and what verdict that is.
 use Prim.Native.Nat.{ℕ, zero, suc, ◌+◌, ◌-◌, ◌≤◌}
 use native.Mathlib.Omega.{arith}
-use mathlib.Core.Path.{◌≡◌, refl, sym, ap, subst, ◌∙◌}
+use mathlib.Core.Path.{◌≡◌, refl, sym, ap, ◌∙◌}
 use mathlib.Core.Bool.{Bool, cond}
 use mathlib.Core.List.{List, [], ◌∷◌, ◌++◌}
 use mathlib.Core.Option.{none, some}
 use lib.Dec.{leb}
-use lib.ListN.{length, take, replicate}
-use lib.Seq.{length-take-le}
+use lib.ListN.{replicate}
 use borrow.Author.Tests.{leb-true, leb-false, le-leb, lt-leb}
 use Rattle.bits.proofs.BoolLaws.{by_test}
 use Rattle.refusals.specs.Outcomes.{given}
 use Rattle.board.specs.Rules.{most_terminals}
-use Rattle.search.specs.declared.walk.Scan as code-scan
-use Rattle.search.specs.declared.walk.Scan.TheVariants.{Showing, ShowingNone, AllowanceSpent}
+use Rattle.search.specs.declared.walk.Scan.TheVariants.{ShowingNone, AllowanceSpent}
 use Rattle.search.specs.declared.walk.Walked.{Walked}
 use Rattle.search.specs.Verdicts.{Finding, undecided, Verdict, first_shown, effort, places, settled, unsettled}
 use Rattle.search.specs.Verdicts.{weighed}

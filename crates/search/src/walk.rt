@@ -50,7 +50,11 @@ fn next_member(set: u64, n: u8, terminals: u8) -> Option<u8>
     ensures below { IfSome result (λ x. x < terminals) }
 {
     let next = bits::lowest_from(set, u32::from(n))?;
-    if next < u32::from(terminals) { Some(next as u8) } else { None }
+    if next < u32::from(terminals) {
+        Some(next as u8)
+    } else {
+        None
+    }
 }
 
 // Enters the terminal at which the chain ends: counts the chain, looks whether it shows the winding, and goes on from
@@ -122,7 +126,15 @@ fn try_next(
         met: chain.met,
         beside: chain.beside,
     };
-    try_next(near, terminals, winding, again, next + 1, walked.left, places)
+    try_next(
+        near,
+        terminals,
+        winding,
+        again,
+        next + 1,
+        walked.left,
+        places,
+    )
 }
 
 // The first of the places as they are, the others 0.

@@ -17,7 +17,7 @@ use Rattle.board.specs.declared.Board.{Board}
 use Rattle.board_reader.specs.Editions.{current_edition}
 use Rattle.lines.specs.Lines.{Line, line_text, longest_line}
 use Rattle.lines.proofs.LineLaws.{line-length_some, line-length_most, line-room, line_short}
-use Rattle.std.specs.Prelude.{Result, Option, Some, None}
+use Rattle.std.specs.Prelude.{Result, Option, Some}
 use Rattle.refusals.specs.declared.Refusal.{Refusal}
 use Rattle.session.specs.declared.Session as code-session
 use Rattle.session.specs.declared.Handed as code-handed
@@ -25,7 +25,7 @@ use Rattle.session.specs.Sessions.{line_texts, printed}
 use Rattle.session.specs.Carried.{Ahead, Coming, line, no_line, next_of, told_ahead, told_session}
 use Rattle.session.specs.HandingOut.{HandOut, written, nothing, HandedAhead, carrying, handed_by, line_handed}
 use Rattle.session.specs.HandingOut.{told_hand_out, told_handed, next_line, NextLine, Handed}
-use Rattle.session.specs.Filling.{fits_on, fitting, filled_by, lines_handed, summed}
+use Rattle.session.specs.Filling.{fits_on, fitting, filled_by, lines_handed, summed, next_lines}
 use Rattle.session.proofs.NextLineLaws.{line_handed_short, line_handed-room}
 use Rattle.refusals.proofs.Tabled.{tells_injective}
 use Rattle.session.proofs.ToldLaws.{hand_out_tells}
@@ -334,3 +334,39 @@ module _ (b : Board) (a₀ : Ahead) (s out₀ : List ℕ) (a : Ahead) (out : Lis
         rw (told, end.buffer, f.text, f.bytes)
         (lines_end b a₀ s out₀ (told_ahead r.session.ahead) (told_hand_out r.answer) f.lines fits
         (subst (λ (n : ℕ). Why (length out₀ - n) (told_hand_out r.answer)) f.bytes end.why))
+
+-- ---- one call of the loop, on what is left behind `used` bytes
+
+module _ (z₀ z : code-session.Session) (s out₀ out : List ℕ) (used : ℕ) (same : z.board ≡ z₀.board)
+    (f : FilledTo z₀.board (told_ahead z₀.ahead) s out₀ (told_ahead z.ahead) out used) (r : code-handed.Handed)
+    (o : List ℕ) (called : NextLine z s (mid_of used (length out - used) out) r o) where
+  -- the buffer after the call
+  abbrev pub after : List ℕ
+  after = put_mid used (length out - used) out o
+
+  pub on : handed_on r after ≡ behind (take used out) (line_handed z₀.board (told_ahead z.ahead) s (drop used out))
+  on =
+      subst
+      (λ (b : Board). handed_on r after ≡ behind (take used out) (line_handed b (told_ahead z.ahead) s (drop used out)))
+      same (call_behind out used z s o after r called refl)
+
+  pub step_board : r.session.board ≡ z₀.board
+  unfolding next_line
+  step_board = ap (λ (h : Handed). h.session.board) called ∙ same
+
+  pub step_goes : (n : ℕ) → r.answer ≡ Result.Ok (Some n)
+      → Goes z₀.board (told_ahead z₀.ahead) s out₀ (told_ahead z.ahead) out used f r after on n
+  step_goes = line_goes z₀.board (told_ahead z₀.ahead) s out₀ (told_ahead z.ahead) out used f r after on
+
+  pub step_ends : ((n : ℕ) → r.answer ≡ Result.Ok (Some n) → ⊥) → (q : Result (Option ℕ) Refusal)
+      → told_hand_out q ≡ summed used (told_hand_out r.answer)
+      → told_handed (record { session = r.session; answer = q }) after ≡ next_lines (told_session z₀) s out₀
+  unfolding next_lines
+  step_ends never q told =
+      (λ i. record {
+        session = record { board = step_board i; ahead = told_ahead r.session.ahead };
+        answer = told_hand_out q;
+        out = after;
+      })
+      ∙ ap (carrying (told_session z₀))
+      (line-ends z₀.board (told_ahead z₀.ahead) s out₀ (told_ahead z.ahead) out used f r after on never q told)

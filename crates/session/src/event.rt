@@ -9,6 +9,7 @@ use refusals::{Found, No, Refusal};
 
 // Reads the event at a place: a number (1, 2) that names one of the buttons (7): 2 x button + 1 pushes, 2 x button
 // releases.
+#[tactic(auto, unfolding(events::specs::Events::event_at, board_reader::specs::Reading::wanted))]
 pub fn event_at(buttons: u8, s: &[u8], at: usize) -> Result<Found<Event>, Refusal>
     ensures { told result ≡ event_at current_edition buttons s.now at }
 {

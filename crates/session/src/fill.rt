@@ -17,7 +17,12 @@ pub struct HandedLine {
 }
 
 // Hands out the next line into a buffer, if one comes: 16 if the longest line has no room there.
-pub fn hand_line(board: Board, ahead: Ahead, s: &[u8], out: &mut [u8]) -> Result<Option<HandedLine>, Refusal>
+pub fn hand_line(
+    board: Board,
+    ahead: Ahead,
+    s: &[u8],
+    out: &mut [u8],
+) -> Result<Option<HandedLine>, Refusal>
     ensures { told_line_handed (told_ahead ahead) result out.new
         ≡ line_handed board (told_ahead ahead) s.now out.old }
 {
@@ -37,9 +42,5 @@ pub fn hand_line(board: Board, ahead: Ahead, s: &[u8], out: &mut [u8]) -> Result
 pub fn sum_up(used: usize, last: Result<Option<usize>, Refusal>) -> Result<Option<usize>, Refusal>
     ensures { told_hand_out result ≡ summed used (told_hand_out last) }
 {
-    if used == 0 {
-        last
-    } else {
-        Ok(Some(used))
-    }
+    if used == 0 { last } else { Ok(Some(used)) }
 }

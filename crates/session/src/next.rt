@@ -59,22 +59,26 @@ fn close(ahead: Ahead, refused: Refused) -> Next
 }
 
 // What comes of the event at the session's place in the input, if the input goes on there.
+#[tactic(auto, unfolding(crate::specs::Carried::next_event, crate::specs::Carried::event_comes))]
 fn next_event(board: Board, ahead: Ahead, s: &[u8]) -> Option<Next>
     ensures { told_next (told_ahead ahead) result ≡ next_event current_edition board (told_ahead ahead) s.now }
 {
     if s.len() <= ahead.place {
         return None;
     }
-    Some(match event::event_at(board.counts.buttons, s, ahead.place) {
-        Ok(event) => {
-            let shown = events::event_line(board, ahead.event, ahead.kept, event.value);
-            go_on(ahead.event, shown, event.next)
-        }
-        Err(refusal) => close(ahead, refusal.into()),
-    })
+    Some(
+        match event::event_at(board.counts.buttons, s, ahead.place) {
+            Ok(event) => {
+                let shown = events::event_line(board, ahead.event, ahead.kept, event.value);
+                go_on(ahead.event, shown, event.next)
+            }
+            Err(refusal) => close(ahead, refusal.into()),
+        },
+    )
 }
 
 // The next line of the session, if one comes.
+#[tactic(auto, unfolding(crate::specs::Carried::next_of, crate::specs::Carried::next_at))]
 pub fn advance(board: Board, ahead: Ahead, s: &[u8]) -> Option<Next>
     ensures { told_next (told_ahead ahead) result ≡ next_of current_edition board (told_ahead ahead) s.now }
 {

@@ -1,6 +1,6 @@
 -- `divide::lowest_dividing` meets its contract: the first terminal that is found to divide is the lowest that does.
 use borrow.Author.Rules.{rules}
-use mathlib.Core.Path.{◌≡◌, refl}
+use mathlib.Core.Path.{◌≡◌}
 use mathlib.Core.Bool.{true, false}
 use Prim.Native.Nat.{ℕ}
 use Rattle.std.proofs.lemmas.Iterator.{first_from_Range}

@@ -3,7 +3,6 @@
 use borrow.Author.Rules.{rules}
 use Rattle.judge.specs.declared.Which.TheVariants.{First, Second}
 use mathlib.Core.List.{[]}
-use Rattle.board.specs.Parts.{blank}
 use Rattle.judge.proofs.ScannedLaws.{seen_starts, seen_next, seen_windings}
 use Rattle.judge.proofs.find_windings.Goals as goal
 

@@ -1,5 +1,5 @@
 -- `search::search` meets its contract: of more terminals than the sets have, only those are looked at.
-use mathlib.Core.Path.{◌≡◌, sym, ap, ◌∙◌}
+use mathlib.Core.Path.{sym, ap, ◌∙◌}
 use Prim.Native.Nat.{ℕ}
 use Rattle.search.specs.Verdicts.{verdict_by}
 use Rattle.search.proofs.VerdictLaws.{in_sets_min}
