@@ -7,7 +7,7 @@ use native.Mathlib.Numerals.{add-one}
 use mathlib.Core.Path.{◌≡◌, refl, ap, sym, ◌∙◌, subst}
 use mathlib.Core.Bool.{Bool, true, false, cond}
 use Rattle.std.specs.Prelude.{Some, None}
-use lib.Count.{count_trailing_zeros, under, trailing_le}
+use lib.Count.{count_trailing_zeros, under}
 use lib.Dec.{eqb, ltb}
 use borrow.Author.Tests.{ltb-true, ltb-false, lt-ltb, le-ltb}
 use lib.Pow.{shr-shr}
@@ -125,9 +125,6 @@ first_trailing s (suc k) n =
     trailing_bit (s / 2 ^ n % 2) n (count_trailing_zeros k (s / 2 ^ n / 2)) (first_from (member s) k (suc n))
     (mod-lt (s / 2 ^ n) (zero-lt-suc 1))
     (ap (λ (x : ℕ). suc n + count_trailing_zeros k x) next ∙ first_trailing s k (suc n))
-
-pub trailing_fits : (n x : ℕ) → n ≤ room → n + count_trailing_zeros room x < 2 ^ 32
-trailing_fits n x start = omega (arith, start, trailing_le room x)
 
 -- the zeros that the shift brings in can lead past a word's room: then there is no member
 pub lowest_trailing : (s n m : ℕ) → n ≤ room → m ≡ n + count_trailing_zeros room (s / 2 ^ n)

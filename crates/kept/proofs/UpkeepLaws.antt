@@ -1,6 +1,6 @@
 -- Laws of upkeep: the ends of the parts that go by what changed, that every other pair of terminals is joined as it
 -- was, and that sets which belong to a state belong to the next one after a change of one relay or one button, which
--- the crates above cite. One section is for the proofs of `with_ends` and `changed_ends`.
+-- the crates above cite. One section is for the proof of `changed_ends`.
 use Prim.Native.Nat.{ℕ, ◌<◌}
 use mathlib.Core.Path.{◌≡◌, refl, sym, ap, ap₂, subst, ◌∙◌}
 use mathlib.Core.Logic.{◌⊎◌, inl, inr, ⊎_elim}
@@ -158,17 +158,6 @@ pair_else c f g ps agree x y below apart =
         set_at_by t x y ps
         (λ p among is ends. set_at_adds u x y ps p among
         (sym (same p.kind (stays p among ends inside)) ∙ is) ends inside)
-
--- ---- for the proof of `with_ends`
-
-module _ (c : Change) (p : Part) (k : ℕ) {t : Bool} (is : t ≡ follows c p.kind) where
-  pub with_ends_going : (a b i j : ℕ) → t ≡ true → a ≡ p.a → b ≡ p.b → i ≡ including k a → j ≡ including i b
-      → j ≡ with_ends c p k
-  with_ends_going a b i j on first second one both =
-      both ∙ rw (one, first, second) refl ∙ sym (with_ends_on c p k (sym is ∙ on))
-
-  pub with_ends_else : t ≡ false → k ≡ with_ends c p k
-  with_ends_else off = sym (with_ends_off c p k (sym is ∙ off))
 
 -- ---- the state after a change of one relay or one button
 

@@ -1,5 +1,5 @@
--- The laws of lines: how long they are, and what writing one answers and leaves. Later crates cite these, and nothing of
--- the definitions' text.
+-- The laws of lines: how long they are, and what writing one answers and leaves. Later crates cite these, and nothing
+-- of the definitions' text.
 use mathlib.Core.Path.{◌≡◌, sym, ap, ◌∙◌}
 use mathlib.Core.List.{List, ◌++◌}
 use Rattle.std.specs.Prelude.{Result, Ok}

@@ -14,7 +14,8 @@ module _ (live : Winding → Bool) (d : Bool) (x : Option Windings) where
   told_by : (y : Option Windings) → x ≡ y → move_by live d (told_windings y) ≡ move_by live d (told_windings x)
   told_by y is = ap (λ (z : Option Windings). move_by live d (told_windings z)) (sym is)
 
-  pub moves_regular : (v : Winding) (l : Bool) (m : Move) → x ≡ Some (found.Regular v) → l ≡ live v → m ≡ regular_move d l
+  pub moves_regular : (v : Winding) (l : Bool) (m : Move) → x ≡ Some (found.Regular v) → l ≡ live v
+      → m ≡ regular_move d l
       → m ≡ move_by live d (told_windings x)
   moves_regular v l m is on moves = moves ∙ ap (regular_move d) on ∙ told_by (Some (found.Regular v)) is
 

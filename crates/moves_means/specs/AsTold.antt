@@ -36,7 +36,8 @@ says_live (refused n p) = false
 
 abbrev pub TakenAsTold : Type 0
 TakenAsTold =
-    (b : Board) (h : Kept) (r : ℕ) (n : Which) (e : Winding) (f : Feed) (t : Bool) (j : Result code-judgement.Judgement Refusal)
+    (b : Board) (h : Kept) (r : ℕ) (n : Which) (e : Winding) (f : Feed) (t : Bool)
+    (j : Result code-judgement.Judgement Refusal)
     → Feeds (sets_of b h.state) b.counts.terminals f
     → LiveBy f.served f.linked e t
     → JudgesAtOnce b h r n j
@@ -61,4 +62,5 @@ SteelAsTold =
     → JudgesAtOnce b h r First j
     → JudgesAtOnce b h r Second k
     → told_move_answer a.answer
-    ≡ given (steel_move (is_drawn h.state r) (says_live (told_as told_judgement j)) (says_live (told_as told_judgement k)))
+    ≡ given
+    (steel_move (is_drawn h.state r) (says_live (told_as told_judgement j)) (says_live (told_as told_judgement k)))

@@ -1,5 +1,4 @@
--- Laws of one row of sets that is changed in place: one for each way out of the functions of `row`, and for the loops
--- of `row::clear` and `gather`.
+-- Laws of one row of sets that is changed in place, for the loops of `row::clear` and `gather`.
 use Prim.Native.Nat.{ℕ, ◌+◌, ◌-◌, ◌≤◌, ◌<◌}
 use native.Mathlib.Omega.{arith}
 use mathlib.Core.Path.{◌≡◌, refl, sym, ap, subst, ◌∙◌}
@@ -10,69 +9,29 @@ use lib.Dec.{eqb}
 use lib.ListN.{length, get_or, set, length-set}
 use lib.Seq.{get_or-set_same, get_or-set_other, ext_get_or}
 use borrow.Author.Tests.{eqb-true, eqb-false}
-use Rattle.bits.specs.Sets.{member, including, remaining, room, lowest_from, member_from}
+use Rattle.bits.specs.Sets.{member, remaining, room, lowest_from, member_from}
 use Rattle.bits.proofs.BoolLaws.{by_test, by_less}
 use Rattle.bits.proofs.LowestLaws.{lowest-found, lowest_after, lowest_between, member_from_found, member_from_lacks}
 use Rattle.kinds.specs.declared.Kind.{Kind}
 use Rattle.board.specs.declared.Part.{Part}
 use Rattle.board.specs.Rules.{most_terminals}
 use Rattle.lists.proofs.TableLaws.{table-length, table_at}
-use Rattle.neighbours.specs.Neighbours.{with_other, with_part, set_from}
+use Rattle.neighbours.specs.Neighbours.{with_part, set_from}
 use Rattle.neighbours.specs.Rows.{EachSet, only_at, without, among, among_by, gathered}
-use Rattle.neighbours.proofs.SetAtLaws.{with_other_here, with_other_else, with_part_joining, with_part_open}
 use Rattle.neighbours.proofs.SetAtLaws.{from_none}
 
--- ---- one law for each way out of `join` and `bridge`
+-- ---- a row by which a part joins
 
 pub each_same : (near : List ℕ) (f : ℕ → ℕ → ℕ)
     → ((x : ℕ) → x < most_terminals → f x (get_or near x 0) ≡ get_or near x 0)
     → EachSet near near f
 each_same near f same = record { many = refl; each = λ x below. sym (same x below) }
 
-pub join-beyond : (near : List ℕ) (u v : ℕ) → most_terminals ≤ u → EachSet near near (with_other u v)
-join-beyond near u v past = each_same near (with_other u v) (λ x below. with_other_else u v x _ (λ e. omega (arith, e)))
-
--- a set that is changed at its place
-set_at-place : (near : List ℕ) (u w : ℕ) (f : ℕ → ℕ → ℕ) → length near ≡ most_terminals → w ≡ f u (get_or near u 0)
-    → ((x : ℕ) → ¬ (x ≡ u) → f x (get_or near x 0) ≡ get_or near x 0) → EachSet near (set near u w) f
-set_at-place near u w f long new else_same =
-    record { many = length-set near u w; each = λ x below. by_test (eqb x u) (here x below) (elsewhere x) }
-  where
-    here : (x : ℕ) → x < most_terminals → eqb x u ≡ true → get_or (set near u w) x 0 ≡ f x (get_or near x 0)
-    here x below same =
-        let at : x ≡ u = eqb-true x u same in
-        ap (λ (y : ℕ). get_or (set near u w) y 0) at
-        ∙ get_or-set_same near u w 0 (omega (arith, long, below, at))
-        ∙ new ∙ ap (λ (y : ℕ). f y (get_or near y 0)) (sym at)
-
-    elsewhere : (x : ℕ) → eqb x u ≡ false → get_or (set near u w) x 0 ≡ f x (get_or near x 0)
-    elsewhere x differ =
-        get_or-set_other near u x w 0 (eqb-false x u differ) ∙ sym (else_same x (eqb-false x u differ))
-
-pub join_inside : (near : List ℕ) (u v w : ℕ) → length near ≡ most_terminals → w ≡ including (get_or near u 0) v
-    → EachSet near (set near u w) (with_other u v)
-join_inside near u v w long new =
-    set_at-place near u w (with_other u v) long (new ∙ sym (with_other_here u v u (get_or near u 0) refl))
-    (λ x other. with_other_else u v x (get_or near x 0) other)
-
-pub bridge_joining : (t : Bool) (p : Part) (near mid next : List ℕ) → t ≡ true
-    → EachSet near mid (with_other p.a p.b) → EachSet mid next (with_other p.b p.a)
-    → EachSet near next (with_part t p)
-bridge_joining t p near mid next on first second =
-    record {
-      many = second.many ∙ first.many;
-      each = λ x below. second.each x below ∙ ap (with_other p.b p.a x) (first.each x below)
-          ∙ sym (with_part_joining t p x (get_or near x 0) on);
-    }
-
 -- a part joins by a test that its kind passes
 pub each_by : (at : ℕ) (f : Kind → Bool) (p : Part) (near next : List ℕ) (t : Bool) → t ≡ f p.kind
     → EachSet near next (with_part (among at p && t) p) → EachSet near next (with_part (among_by at f p) p)
 each_by at f p near next t by each =
     subst (λ (u : Bool). EachSet near next (with_part (among at p && u) p)) by each
-
-pub bridge_open : (t : Bool) (p : Part) (near : List ℕ) → t ≡ false → EachSet near near (with_part t p)
-bridge_open t p near off = each_same near (with_part t p) (λ x below. with_part_open t p x (get_or near x 0) off)
 
 -- ---- on the way up along the terminals of a set, in `clear`: those below x are done, the others are as they were
 

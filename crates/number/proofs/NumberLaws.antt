@@ -5,9 +5,9 @@ use mathlib.Core.Path.{◌≡◌, refl, sym, ap, ◌∙◌}
 use mathlib.Core.Logic.{◌⊎◌, inl, inr}
 use mathlib.Core.Bool.{Bool, true, false, cond}
 use mathlib.Core.List.{List, [], ◌∷◌, ◌++◌}
-use Prim.Native.Nat.{ℕ, ◌+◌, ◌-◌, ◌^◌, ◌≤◌, ◌<◌}
+use Prim.Native.Nat.{ℕ, ◌+◌, ◌^◌, ◌≤◌, ◌<◌}
 use native.Mathlib.Omega.{arith}
-use borrow.Author.Tests.{leb-true, leb-false, le-leb, lt-leb}
+use borrow.Author.Tests.{leb-true, le-leb, lt-leb}
 use lib.Dec.{leb}
 use lib.ListN.{length, take, drop, length-drop}
 use lib.Seq.{sets, drop-drop}
@@ -218,16 +218,6 @@ pub number_written : (v : ℕ) (out : List ℕ) (at : ℕ) → at + length (numb
     (given (at + length (number_bytes v)), sets out at (number_bytes v))
 unfolding number_writing first_no
 number_written v out at fits = rw (le-leb (at + length (number_bytes v)) (length out) fits)
-
--- room at a place, as `has_room` tests it
-pub room_past : (len at bytes : ℕ) → len < at → false ≡ leb (at + bytes) len
-room_past len at bytes h = sym (lt-leb (at + bytes) len (omega arith))
-
-pub room_within : (len at bytes : ℕ) → at ≤ len → leb bytes (len - at) ≡ leb (at + bytes) len
-room_within len at bytes h =
-    by_test (leb bytes (len - at))
-    (λ fits. fits ∙ sym (le-leb (at + bytes) len (omega (arith, leb-true bytes (len - at) fits))))
-    (λ lacks. lacks ∙ sym (lt-leb (at + bytes) len (omega (arith, leb-false bytes (len - at) lacks))))
 
 -- each way out of `write_number`
 module _ (v : ℕ) (out : List ℕ) (at bytes : ℕ) (long : bytes ≡ length (number_bytes v)) where

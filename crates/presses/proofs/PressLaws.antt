@@ -34,8 +34,10 @@ pressed-tells =
 press-tabled : (b : Board) (h : Kept) (n : ℕ) (settable : Bool) → Tabled (first_no (press_lines b h n settable))
 unfolding TabledLines
 press-tabled b h n settable =
-    tabled_lines (press_lines b h n settable)
-    ((BrokenBoard, refl), ((StateBeyondBoard, refl), ((ForeignSets, refl), ((NoSuchName, refl), ((AlreadySo, refl), tt)))))
+    tabled_lines (press_lines b h n settable) (
+      (BrokenBoard, refl),
+      ((StateBeyondBoard, refl), ((ForeignSets, refl), ((NoSuchName, refl), ((AlreadySo, refl), tt)))),
+    )
 
 left-tabled : (h k : Kept) (o : Outcome (Unit {0})) → Tabled o → Tabled (left h (λ u. k) o).1
 unfolding left

@@ -43,8 +43,8 @@ pub enum Ending {
     Buzz,
 }
 
-// The answer to a run: its word or the refusal, the moves made, the state with the kept sets, the relay that stopped it,
-// and, where it buzzes, the moves made up to the earlier state and the moves between.
+// The answer to a run: its word or the refusal, the moves made, the state with the kept sets, the relay that stopped
+// it, and, where it buzzes, the moves made up to the earlier state and the moves between.
 #[derive(Clone, Copy)]
 pub struct Ran {
     pub word: Result<Ending, Refusal>,

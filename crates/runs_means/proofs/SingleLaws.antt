@@ -18,7 +18,8 @@ use Rattle.moves.specs.Steps as step
 use Rattle.moves.specs.Steps.{step_of, made}
 use Rattle.moves.specs.Moving.{movable, moving, told_moved}
 use Rattle.moves.proofs.StepLaws.{made_fits}
-use Rattle.moves.proofs.MovingLaws.{movable_there, movable_fine, moving_given, moving_refused, moved-tells, moving-tabled}
+use Rattle.moves.proofs.MovingLaws.{movable_there, movable_fine, moving_given, moving_refused}
+use Rattle.moves.proofs.MovingLaws.{moved-tells, moving-tabled}
 use Rattle.moves_means.specs.OneRelay.{ElseAsBefore, Changes}
 use Rattle.moves_means.proofs.SingleMoves.{call_moved}
 use Rattle.moves_means.proofs.OneRelay.{changes_one_relay}

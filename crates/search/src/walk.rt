@@ -49,11 +49,9 @@ fn next_member(set: u64, n: u8, terminals: u8) -> Option<u8>
     ensures lowest { unwrap_or result terminals ≡ first_from (member set) (terminals - n) n }
     ensures below { IfSome result (λ x. x < terminals) }
 {
-    let next = bits::lowest_from(set, u32::from(n))?;
-    if next < u32::from(terminals) {
-        Some(next as u8)
-    } else {
-        None
+    match bits::lowest_from(set, u32::from(n)) {
+        Some(next) if next < u32::from(terminals) => Some(next as u8),
+        _ => None,
     }
 }
 

@@ -2,7 +2,6 @@
 -- windings in `board` need.
 use Prim.Native.Nat.{ℕ, zero, suc, ◌+◌, ◌<◌}
 use native.Mathlib.Nat.{eq-or-lt_of_le}
-use native.Mathlib.Numerals.{add-one}
 use native.Mathlib.Omega.{arith}
 use mathlib.Core.Path.{◌≡◌, refl, sym, ap, subst, ◌∙◌}
 use mathlib.Core.Bool.{Bool, true, false, and-false, false≢true}
@@ -13,14 +12,6 @@ use Rattle.std.proofs.lemmas.List.FromFn.{length-range_with_len, get_or-range_wi
 use lib.ListN.{length}
 use Rattle.windings.specs.Windings.{every}
 use Rattle.bits.proofs.BoolLaws.{both_true, true_both, by_test}
-
-pub every_none : (f : ℕ → Bool) → every 0 f ≡ true
-unfolding every
-every_none f = refl
-
-pub every_more : (f : ℕ → Bool) (n : ℕ) → every n f ≡ true → f n ≡ true → every (n + 1) f ≡ true
-unfolding every
-every_more f n before here = rw (add-one, before, here)
 
 pub every_fails : (f : ℕ → Bool) (n i : ℕ) → i < n → f i ≡ false → every n f ≡ false
 unfolding every

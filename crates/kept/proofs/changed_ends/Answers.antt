@@ -1,16 +1,11 @@
 -- `kept::changed_ends` meets its contract. The invariant: the ends of all the parts are those so far with those of the
 -- parts that are left besides.
-use mathlib.Core.Path.{◌≡◌, sym, ap, ◌∙◌, refl}
-use mathlib.Core.List.{List, [], ◌∷◌}
-use lib.ListN.{length}
-use native.Mathlib.Omega.{arith}
+use mathlib.Core.Path.{sym, ap, ◌∙◌}
+use mathlib.Core.List.{List}
+use Rattle.std.proofs.lemmas.List.{nil_from_length}
 use Rattle.board.specs.declared.Part.{Part}
 use Rattle.kept.proofs.UpkeepLaws.{ends_from, ends_from_none, ends_from_last, changed_ends_from}
 use Rattle.kept.proofs.changed_ends.Goals as goal
-
-no_items : (ps : List Part) → length ps ≡ 0 → ps ≡ []
-no_items [] none = refl
-no_items (p ∷ ps) none = absurd (omega arith)
 
 pub loop-part-init : goal.loop-part-init
 loop-part-init c =
@@ -29,5 +24,5 @@ loop-part-preserved c =
 pub returns : goal.returns
 returns c =
     sym (c.loop-part.invariant
-    ∙ ap (λ (ps : List Part). ends_from c.args.change ps c.loop-part.ends) (no_items _ c.in-None.ensures.steps.0)
+    ∙ ap (λ (ps : List Part). ends_from c.args.change ps c.loop-part.ends) (nil_from_length _ c.in-None.ensures.steps.0)
     ∙ ends_from_none c.args.change c.loop-part.ends)

@@ -1,17 +1,12 @@
 -- `neighbours::gather` meets its contract. The invariant: what all the parts join comes to what the parts that are left
 -- join to the sets so far.
-use mathlib.Core.Path.{◌≡◌, sym, ap, ◌∙◌, refl}
-use mathlib.Core.List.{List, [], ◌∷◌}
-use lib.ListN.{length}
-use native.Mathlib.Omega.{arith}
+use mathlib.Core.Path.{sym, ap, ◌∙◌}
+use mathlib.Core.List.{List}
+use Rattle.std.proofs.lemmas.List.{nil_from_length}
 use Rattle.board.specs.declared.Part.{Part}
 use Rattle.neighbours.specs.Rows.{among_by, gathered}
 use Rattle.neighbours.proofs.RowLaws.{gathered_last, gathered_none, each_by}
 use Rattle.neighbours.proofs.gather.Goals as goal
-
-no_items : (ps : List Part) → length ps ≡ 0 → ps ≡ []
-no_items [] none = refl
-no_items (p ∷ ps) none = absurd (omega arith)
 
 pub loop-part-init : goal.loop-part-init
 loop-part-init g c = record {
@@ -39,5 +34,5 @@ pub returns : goal.returns
 returns g c f tests =
     sym (c.loop-part.invariant.left f tests
     ∙ ap (λ (ps : List Part). gathered (among_by c.args.at f) ps c.loop-part.near)
-    (no_items _ c.in-None.ensures.steps.0)
+    (nil_from_length _ c.in-None.ensures.steps.0)
     ∙ gathered_none (among_by c.args.at f) c.loop-part.near c.loop-part.invariant.long)

@@ -1,18 +1,16 @@
 -- `search::walk::next_member` meets its contract.
 use borrow.Author.Rules.{rules}
-use Prim.Native.Nat.{ℕ}
-use mathlib.Core.Path.{refl, ap, ◌∙◌}
-use Rattle.std.specs.Prelude.{Option, unwrap_or}
+use mathlib.Core.Path.{refl}
 use Rattle.search.proofs.NextLaws.{next_none, next_past, next_some}
 use Rattle.search.proofs.walk.next_member.Goals as goal
 
-pub returns-in_err-next-clause-lowest : goal.returns-in_err-next-clause-lowest
-returns-in_err-next-clause-lowest c =
-    ap (λ (o : Option ℕ). unwrap_or o c.args.terminals) c.from_residual.ensures
-    ∙ next_none _ _ _ _ _ c.requires.n_within c.requires.terminals_few c.from.ensures refl c.in_err-next.ensures
+pub returns-in-Some-clause-lowest : goal.returns-in-Some-clause-lowest
+returns-in-Some-clause-lowest c = search (rules, next_some)
 
-pub returns-then-next-from-clause-lowest : goal.returns-then-next-from-clause-lowest
-returns-then-next-from-clause-lowest c = search (rules, next_some)
+pub returns-in_default-clause-lowest : goal.returns-in_default-clause-lowest
+returns-in_default-clause-lowest c = search (rules, next_past)
 
-pub returns-else-next-from-clause-lowest : goal.returns-else-next-from-clause-lowest
-returns-else-next-from-clause-lowest c = search (rules, next_past)
+pub returns-in_default-2-clause-lowest : goal.returns-in_default-2-clause-lowest
+returns-in_default-2-clause-lowest c =
+    next_none _ _ _ _ c.args.terminals c.requires.n_within c.requires.terminals_few c.from.ensures refl
+    c.in_default.ensures
