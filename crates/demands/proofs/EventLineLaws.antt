@@ -24,6 +24,7 @@ use Rattle.presses.proofs.PressLaws.{press-usable}
 use Rattle.runs.specs.Running.{Ran, longest_log, run_lines, running}
 use Rattle.lines.specs.Lines.{event}
 use Rattle.events.specs.declared.Event.{Event}
+use Rattle.events.specs.declared.Event.TheVariants.{Push, Release}
 use Rattle.events.specs.Events.{made_lines, session_log, Shown, tells, pressing, ran_line, pressed_line, event_line}
 use Rattle.demands.specs.EveryCallComesBack.{word_of}
 use Rattle.demands.proofs.StandsLaws.{LeftStands, push-stands, release-stands, NotRun, run-stands}
@@ -104,13 +105,8 @@ module _ (b : Board) (h : Kept) where
 
   pressing-stands : (v : Event) → PressStands b h (first_no (made_lines b h v)) (pressing b h v)
   unfolding pressing
-  pressing-stands v = by v.push
-    where
-      by : (push : Bool)
-          → PressStands b h (first_no (cond push (push_lines b h v.button) (release_lines b h v.button)))
-          (cond push (pushing b h v.button) (releasing b h v.button))
-      by true = press_push v.button
-      by false = press_release v.button
+  pressing-stands (Push n) = press_push n
+  pressing-stands (Release n) = press_release n
 
   -- ---- an event that is told
 

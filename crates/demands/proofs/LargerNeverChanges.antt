@@ -21,6 +21,8 @@ use Rattle.kept.specs.Kept.{kept_at, same_row, belongs}
 use Rattle.chains.specs.ChainList.{is_in, can_follow, tries, beyond, chains, crosses, some_crosses, beside, shows}
 use Rattle.reach.specs.Floods.{next_seen, flood_on, flooded}
 use Rattle.search.specs.declared.Winding.{Winding}
+use Rattle.std.specs.Prelude.{Result}
+use Rattle.refusals.specs.declared.Refusal.{Refusal}
 use Rattle.search.specs.declared.Finding.{Finding}
 use Rattle.search.specs.declared.Verdict.{Verdict}
 use Rattle.search.specs.Verdicts.{first_shown, effort, places, weighed, verdict_by, in_sets}
@@ -109,7 +111,7 @@ no_word_always f = (
       pushed_live.0,
 )
   where
-    saying : Finding → Verdict
+    saying : Result Finding Refusal → Verdict
     saying g = record { finding = g; effort = 0; length = 0; terminals = [] }
 
 -- ---- the demand

@@ -1,15 +1,11 @@
 -- Each promise allows exactly one answer: one that is told as it is, by `one_itself`; one that is told by a definition,
 -- by `one_told`, because each answer can be had from what it tells, and where it can be refused by `one_tells`, because the
--- definition refuses by numbers of the table alone; one that leaves something in a lent log or buffer, by `one_lent`, and
--- where what is told stands beside the buffer, by `one_written`.
+-- definition refuses by numbers of the table alone; one that leaves something in a lent log or buffer, by `one_lent`.
 use Prim.Native.Nat.{ℕ}
 use mathlib.Core.Path.{◌≡◌, refl, sym, ap, ◌∙◌}
 use mathlib.Core.List.{List}
-use Rattle.std.specs.Prelude.{Result}
-use Rattle.refusals.specs.Outcomes.{Outcome, told, told_as}
-use Rattle.refusals.specs.declared.Refusal.{Refusal}
 use Rattle.refusals.proofs.Told.{Told, told_injective, list-told}
-use Rattle.refusals.proofs.Tabled.{Tabled, Tells, tells_injective, result-tells, result-tells_as}
+use Rattle.refusals.proofs.Tabled.{Tells, tells_injective, result-tells, result-tells_as}
 use Rattle.number.proofs.NumberLaws.{number_tabled, number_writing_tabled}
 use Rattle.kept.proofs.KeptLaws.{usable_tabled}
 use Rattle.presses.proofs.PressLaws.{pressed-tells, pushing-tabled, releasing-tabled}
@@ -23,9 +19,10 @@ use Rattle.divide.proofs.AtOnceLaws.{judgement-told, judging_at_once-tabled, che
 use Rattle.moves.proofs.MovingLaws.{move-told, moved-tells, moving-tabled}
 use Rattle.runs.proofs.RunningLaws.{ran-tells, running-tabled}
 use Rattle.report.proofs.ReportLaws.{reported-tells, reporting-tabled}
-use Rattle.lines.proofs.LineLaws.{line_writing_tabled}
+use Rattle.lines.proofs.ToldLaws.{written-tells, writing-tabled}
 use Rattle.events.proofs.ToldLaws.{shown-told}
 use Rattle.session.proofs.ToldLaws.{session-told, handed-tells}
+use Rattle.demands.proofs.TabledLaws.{next_line_tabled, next_lines_tabled}
 use Rattle.demands.specs.OneAnswer.{One, OneLent, OneAnswer}
 
 one_itself : {A : Type 0} (a : A) → One (λ (x : A). x ≡ a)
@@ -60,20 +57,6 @@ one_lent {A} {R} told both a good =
           (ap (λ (p : R × List ℕ). p.0) same, ap (λ (p : R × List ℕ). p.1) same);
     }
 
--- how many bytes are written, beside the buffer
-one_written : (a : Outcome ℕ × List ℕ) → Tabled a.0
-    → OneLent (λ (x : Result ℕ Refusal) k. ◌≡◌ {A = Outcome ℕ × List ℕ} (told x, k) a)
-one_written (o, out) good =
-    record {
-      answer = result-tells.untold o;
-      left = out;
-      allowed = λ i. (result-tells.onto o good i, out);
-      only = λ x y k l e f. (
-        tells_injective told result-tells x y (ap (λ (p : Outcome ℕ × List ℕ). p.0) (e ∙ sym f)),
-        ap (λ (p : Outcome ℕ × List ℕ). p.1) (e ∙ sym f),
-      );
-    }
-
 pub one_answer : OneAnswer
 one_answer = record {
   bits_has = λ s n. one_itself _;
@@ -88,7 +71,7 @@ one_answer = record {
   refusals_unless = λ t e. one_itself _;
   number_read_number = λ s at. one_tells _ result-tells _ (number_tabled _ s at);
   number_number_length = λ v. one_itself _;
-  number_write_number = λ v out at. one_written _ (number_writing_tabled v out at);
+  number_write_number = λ v out at. one_lent _ written-tells _ (number_writing_tabled v out at);
   kinds_of = λ k n. one_itself _;
   kinds_number = λ k. one_itself _;
   kinds_name = λ k. one_itself _;
@@ -113,7 +96,7 @@ one_answer = record {
   state_is_pushed = λ s n. one_itself _;
   state_fits = λ s c. one_itself _;
   board_reader_read = λ s. one_tells _ board_read_tells _ (reading_tabled _ s);
-  board_writer_write = λ b out. one_written _ (writing_tabled b out);
+  board_writer_write = λ b out. one_lent _ written-tells _ (writing_tabled b out);
   neighbours_conducts = λ k s. one_itself _;
   neighbours_neighbours = λ b s. one_itself _;
   neighbours_renew = λ k at b s. one_itself _;
@@ -122,7 +105,7 @@ one_answer = record {
   kept_changed = λ h b c t. one_itself _;
   kept_usable = λ b h. one_tells _ result-tells _ (usable_tabled b h);
   reach_flood = λ near from out. one_itself _;
-  search_search = λ near t v w. one_tells _ verdict-tells _ (searching-tabled near t v w);
+  search_search = λ near t v w. one_tells _ verdict-tells _ (verdict_by-tabled near _ v w);
   feed_reached_without = λ near x. one_itself _;
   feed_feed_by = λ k t. one_itself _;
   feed_is_live = λ s l v. one_itself _;
@@ -141,10 +124,10 @@ one_answer = record {
   moves_move_relay = λ b h r. one_tells _ moved-tells _ (moving-tabled b h r);
   runs_run = λ b h log. one_lent _ ran-tells _ (running-tabled b h log);
   report_report = λ b n. one_tells _ reported-tells _ (reporting-tabled b n);
-  lines_write_line = λ l out. one_written _ (line_writing_tabled l out);
+  lines_write_line = λ l out. one_lent _ written-tells _ (writing-tabled _ out);
   events_run_line = λ b e h. one_told _ shown-told _;
   events_event_line = λ b e h v. one_told _ shown-told _;
   session_begin = λ s. one_told _ session-told _;
-  session_next_line = λ z s out. one_lent _ handed-tells _ (next_line_tabled z s out);
-  session_next_lines = λ z s out. one_lent _ handed-tells _ (next_lines_tabled z s out);
+  session_next_line = λ z s out. one_lent _ handed-tells _ (next_line_tabled _ s out);
+  session_next_lines = λ z s out. one_lent _ handed-tells _ (next_lines_tabled _ s out);
 }

@@ -23,7 +23,8 @@
 --     NoWordAlways          a judge that answers always the same meets neither `LiveExactly` nor `DeadExactly`
 --     LargerNeverChanges    the demand, of the promise of `judge::judge` and of that of `runs::run`, and of a session's
 --                           lines
-use Rattle.std.specs.Prelude.{◌≡◌}
+use Rattle.std.specs.Prelude.{◌≡◌, Result}
+use Rattle.refusals.specs.declared.Refusal.{Refusal}
 use Rattle.search.specs.declared.Finding.{Finding}
 use Rattle.judge.specs.Judging.{Judges}
 use Rattle.judge_means.specs.Exactness.{Judge, TheChains, EffortNumbers, AsAfresh, LiveExactly, DeadExactly}
@@ -51,11 +52,11 @@ pub record JudgedExactly (J : Judge) : Type 0 where
   pub turns : TurnsAtEffort J
   pub effort : EffortSome J
 
-abbrev pub AlwaysSays : Finding → Judge
+abbrev pub AlwaysSays : Result Finding Refusal → Judge
 AlwaysSays f b h r n w v = v.finding ≡ f
 
 abbrev pub NoWordAlways : Type 0
-NoWordAlways = (f : Finding) → ¬ (LiveExactly (AlwaysSays f)) × ¬ (DeadExactly (AlwaysSays f))
+NoWordAlways = (f : Result Finding Refusal) → ¬ (LiveExactly (AlwaysSays f)) × ¬ (DeadExactly (AlwaysSays f))
 
 pub record LargerNeverChanges : Type 0 where
   -- the chains, in the rule book's order, and the effort as a number of theirs

@@ -8,6 +8,7 @@
 use Rattle.std.specs.Prelude.{ℕ, ◌<◌, ◌≡◌, Bool, List, Option}
 use Rattle.bits.specs.Sets.{SetHas, SetWith, SetWithout, SetFlipped, SetRemaining, SetTogether, SetLowestFrom}
 use Rattle.bits.specs.Sets.{SetAllBelow, WideByte}
+use Rattle.refusals.specs.declared.No.{No}
 use Rattle.refusals.specs.Order.{AsksLine}
 use Rattle.number.specs.Numbers.{ReadsNumber, NumberLength, WritesNumber}
 use Rattle.kinds.specs.declared.Kind.{Kind}
@@ -76,7 +77,7 @@ pub record OneAnswer : Type 0 where
   pub bits_lowest_from : (s n : ℕ) → One (SetLowestFrom s n)
   pub bits_all_below : (s n : ℕ) → One (SetAllBelow s n)
   pub bits_wide : (x : ℕ) → x < 256 → One (WideByte x)
-  pub refusals_unless : {E : Type 0} (t : Bool) (e : E) → One (AsksLine t e)
+  pub refusals_unless : (t : Bool) (e : No) → One (AsksLine t e)
   pub number_read_number : (s : List ℕ) (at : ℕ) → One (ReadsNumber s at)
   pub number_number_length : (v : ℕ) → One (NumberLength v)
   pub number_write_number : (v : ℕ) (out : List ℕ) (at : ℕ) → OneLent (WritesNumber v out at)
