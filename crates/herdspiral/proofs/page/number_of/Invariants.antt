@@ -2,5 +2,5 @@
 use Rattle.std.proofs.Common.{◌≤◌}
 use Rattle.herdspiral.proofs.page.number_of.Given as goal
 
-abbrev pub invariant-loop-at : goal.invariant-loop-at
-invariant-loop-at l = l.asked.length ≤ 655369
+abbrev pub invariant-loop-character : goal.invariant-loop-character
+invariant-loop-character l = l.number ≤ 655369
