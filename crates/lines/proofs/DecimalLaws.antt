@@ -42,10 +42,6 @@ pub decimal_few : (n : ℕ) → length (decimal n) ≤ most_digits
 unfolding decimal
 decimal_few n = digits_few most_digits n
 
-pub decimal_some : (n : ℕ) → 0 < length (decimal n)
-unfolding decimal
-decimal_some n = digits_some 19 n
-
 -- ---- a number's digits by those of its tenth
 
 -- room for more digits changes nothing

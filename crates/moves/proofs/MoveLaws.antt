@@ -1,27 +1,9 @@
--- Laws of what a relay does by its windings, one for each way out of `step`; and that a move turns its relay.
-use mathlib.Core.Path.{◌≡◌, refl, sym, ap, ◌∙◌}
+-- A move turns its relay: what a relay does, by its windings, draws it only if dropped and drops it only if drawn.
+use mathlib.Core.Path.{◌≡◌, refl}
 use mathlib.Core.Bool.{Bool, true, false}
-use Rattle.std.specs.Prelude.{Option, Some}
 use Rattle.search.specs.declared.Winding.{Winding}
-use Rattle.judge.specs.declared.Windings.{Windings}
-use Rattle.judge.specs.declared.Windings.TheVariants as found
-use Rattle.judge.specs.RelayWindings.{OfRelay, regular, steel, absent, told_windings}
+use Rattle.judge.specs.RelayWindings.{OfRelay, regular, steel, absent}
 use Rattle.moves.specs.Steps.{Move, drew, dropped, rests, conflict, regular_move, steel_move, move_by}
-
--- ---- either sort, by its windings x
-
-module _ (live : Winding → Bool) (d : Bool) (x : Option Windings) where
-  told_by : (y : Option Windings) → x ≡ y → move_by live d (told_windings y) ≡ move_by live d (told_windings x)
-  told_by y is = ap (λ (z : Option Windings). move_by live d (told_windings z)) (sym is)
-
-  pub moves_regular : (v : Winding) (l : Bool) (m : Move) → x ≡ Some (found.Regular v) → l ≡ live v
-      → m ≡ regular_move d l
-      → m ≡ move_by live d (told_windings x)
-  moves_regular v l m is on moves = moves ∙ ap (regular_move d) on ∙ told_by (Some (found.Regular v)) is
-
-  pub moves_steel : (v u : Winding) (l k : Bool) (m : Move) → x ≡ Some (found.Steel v u) → l ≡ live v → k ≡ live u
-      → m ≡ steel_move d l k → m ≡ move_by live d (told_windings x)
-  moves_steel v u l k m is on also moves = moves ∙ rw (on, also) refl ∙ told_by (Some (found.Steel v u)) is
 
 -- ---- a relay that draws was dropped, and one that drops was drawn
 

@@ -198,9 +198,6 @@ module _ {f : Stepper} {g : ℕ → Bool → step.Move} {k : ℕ} {log₀ log : 
     here : Course f keep k all room words log notches m h
     here = rw (sym scan.same_log, sym scan.same_moves, sym scan.same_kept) course
 
-    pub scan_long : length log ≡ room
-    scan_long = here.long
-
     -- the state was not met
     new : met_ago h.state here.came ≡ 0
     new =
