@@ -2,10 +2,12 @@
 use Prim.Native.Nat.{ℕ, ◌+◌, ◌≤◌, ◌<◌}
 use native.Mathlib.Numerals.{add-one}
 use mathlib.Core.Path.{◌≡◌, refl, sym, ap, ap₂, ◌∙◌}
-use mathlib.Core.Bool.{Bool, true, false}
+use mathlib.Core.Bool.{Bool, true, false, ◌&&◌}
 use mathlib.Core.List.{List, [], ◌∷◌, ◌++◌}
 use Rattle.std.specs.Prelude as code
 use mathlib.Core.Option.{Option, none, some}
+use lib.Dec.{eqb}
+use borrow.Author.Tests.{ne_eqb}
 use lib.ListN.{length, get_or, take}
 use lib.Seq.{take-suc, take_all}
 use Rattle.bits.proofs.BoolLaws.{by_test}
@@ -13,7 +15,10 @@ use Rattle.refusals.specs.Outcomes.{given, refused}
 use Rattle.refusals.specs.Refusals.{no_such_winding}
 use Rattle.refusals.proofs.OutcomeLaws.{refused_never, given_injective}
 use Rattle.refusals.proofs.Told.{Told}
+use Rattle.kinds.specs.declared.Kind.{Kind}
+use Rattle.kinds.specs.Kinds.{regular_kind, drawing_kind, dropping_kind, kind_number, name_of}
 use Rattle.board.specs.declared.Part.{Part}
+use Rattle.board.specs.Sorts.{carries}
 use Rattle.search.specs.declared.Winding.{Winding}
 use Rattle.judge.specs.declared.Which.{Which}
 use Rattle.judge.specs.declared.Which.TheVariants.{First, Second}
@@ -23,6 +28,21 @@ use Rattle.judge.specs.RelayWindings.{is_winding, ends_of, winding_of, OfRelay, 
 use Rattle.judge.specs.RelayWindings.{steel, absent, of_relay}
 use Rattle.judge.specs.RelayWindings.{windings_at, or_no_such_winding, told_windings}
 use Rattle.judge.specs.RelayWindings.{seen_with}
+
+-- ---- a kind that carries another number is no winding of the relay
+
+carries_else : (j r : ℕ) (k : Kind) → ¬ (name_of k ≡ r) → false ≡ carries j r k
+unfolding carries
+carries_else j r k other = rw (ne_eqb (name_of k) r other) (none (eqb (kind_number k) j))
+  where
+    none : (t : Bool) → false ≡ (t && false)
+    none true = refl
+    none false = refl
+
+named_other : (w : Which) (r : ℕ) (k : Kind) → ¬ (name_of k ≡ r) → false ≡ is_winding w r k
+named_other First r k other =
+    rw (← carries_else regular_kind r k other) (carries_else drawing_kind r k other)
+named_other Second r k other = carries_else dropping_kind r k other
 
 -- ---- the winding among the parts
 
@@ -51,6 +71,10 @@ asked_refused none k p is = refl
 
 -- ---- the scan: what is seen of a winding is the one among the parts so far
 
+seen_still : (o : Option Winding) (p : Part) → o ≡ seen_with o p false
+seen_still (some v) p = refl
+seen_still none p = refl
+
 module _ (n : Which) (r : ℕ) where
   -- one part more
   winding_append : (ps : List Part) (p : Part)
@@ -77,6 +101,14 @@ module _ (n : Which) (r : ℕ) where
       ∙ ap (λ (u : Bool). seen_with seen (get_or l i d) u) is
       ∙ ap (λ (o : Option Winding). seen_with o (get_or l i d) (is_winding n r (get_or l i d).kind)) so
       ∙ sym (ap (winding_of n r) longer ∙ winding_append (take i l) (get_or l i d))
+
+  -- a part of another number is passed; m is its number
+  pub seen_past : (l : List Part) (i : ℕ) (d : Part) (seen : Option Winding) (m : ℕ) → i < length l
+      → seen ≡ winding_of n r (take i l) → m ≡ name_of (get_or l i d).kind → ¬ (m ≡ r)
+      → seen ≡ winding_of n r (take (i + 1) l)
+  seen_past l i d seen m there so name other =
+      seen_next l i d seen seen false there so
+      (named_other n r (get_or l i d).kind (λ e. other (name ∙ e))) (seen_still seen (get_or l i d))
 
   pub seen_ends : (l : List Part) (i : ℕ) (seen : Option Winding) → length l ≤ i → seen ≡ winding_of n r (take i l)
       → seen ≡ winding_of n r l

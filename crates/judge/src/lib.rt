@@ -77,6 +77,9 @@ pub fn find_windings(board: Board, relay: u32) -> Option<Windings>
     let mut first = None;
     let mut second = None;
     for part in board.parts() {
+        if u32::from(part.kind.name()) != relay {
+            continue;
+        }
         first = seen_with(first, *part, is_first(part.kind, relay));
         second = seen_with(second, *part, is_second(part.kind, relay));
     }
