@@ -2,5 +2,4 @@
 pub mod MemberLaws
 pub mod CountedLaws
 pub mod FilledLaws
-pub mod FirstLaws
 pub mod TableLaws

@@ -3,9 +3,9 @@
 use mathlib.Core.Path.{◌≡◌, sym, ap, ◌∙◌}
 use mathlib.Core.List.{List, [], ◌∷◌, ◌++◌, append_assoc}
 use Prim.Native.Nat.{ℕ, zero, suc, ◌+◌, ◌≤◌}
-use native.Mathlib.Nat.{add-zero, zero-add, suc-add, add-suc}
+use native.Mathlib.Nat.{zero-add, suc-add}
 use native.Mathlib.Omega.{arith}
-use lib.ListN.{length, take, drop, set}
+use lib.ListN.{length, take, drop}
 use lib.Seq.{sets, sets-eq, take-nil, take-append_seam, drop-append_seam, drop-drop, drop_at, length-take-le}
 
 module _ {A : Type 0} where
@@ -25,12 +25,6 @@ module _ {A : Type 0} where
       → drop at (take n s) ≡ xs
   piece_between s at n xs rest stands next =
       rw next (sym (take-drop at (length xs) s) ∙ ap (take (length xs)) stands ∙ take-append_seam xs rest)
-
-  -- two pieces written one after the other are one piece written
-  pub sets-append : (l : List A) (i : ℕ) (xs ys : List A) → sets (sets l i xs) (i + length xs) ys ≡ sets l i (xs ++ ys)
-  sets-append l i [] ys = rw add-zero
-  sets-append l i (x ∷ xs) ys = rw (add-suc, ← suc-add) (sets-append (set l i x) (suc i) xs ys)
-
   -- a piece that was written stands there
   pub drop_sets : (l : List A) (i : ℕ) (xs : List A) → i + length xs ≤ length l
       → drop i (sets l i xs) ≡ xs ++ drop (i + length xs) l

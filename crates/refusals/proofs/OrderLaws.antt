@@ -20,16 +20,6 @@ asks_append [] ms = refl
 asks_append ((true, n) ∷ ls) ms = asks_append ls ms
 asks_append ((false, n) ∷ ls) ms = refl
 
--- what stands so far, o, after which one line more is asked, by a test t that is the line's test u
-pub asks_then : (ls : Order) (n : ℕ) {t u : Bool} {o q : Outcome (Unit {0})} → o ≡ first_no ls → t ≡ u
-    → q ≡ (o >> unless t n 0) → q ≡ first_no (ls ++ ((u, n) ∷ []))
-asks_then ls n {t} {u} first same next =
-    next
-    ∙ ap (λ (x : Outcome (Unit {0})). x >> unless t n 0) first
-    ∙ ap (λ (x : Bool). first_no ls >> unless x n 0) same
-    ∙ ap (λ (x : Outcome (Unit {0})). first_no ls >> x) (sym (asks_first u n))
-    ∙ sym (asks_append ls ((u, n) ∷ []))
-
 -- where nothing stands against a call, each of its tests holds
 pub first_holds : (t : Bool) (n : ℕ) (ls : Order) → first_no ((t, n) ∷ ls) ≡ given tt
     → (t ≡ true) × (first_no ls ≡ given tt)

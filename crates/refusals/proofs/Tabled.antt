@@ -169,7 +169,3 @@ beside-tells {S} {A} {B} {R} {Good} told both struct first second whole parts =
     onto (s, o) good =
         ap {B = S × B} (λ (p : S × A). (p.0, told p.1)) (parts s (both.untold o))
         ∙ ap {B = S × B} (λ (q : B). (s, q)) (both.onto o good)
-
--- a bijection tells all
-pub told-tells : {A B : Type 0} (Good : B → Type 0) (told : A → B) → Told told → Tells Good told
-told-tells Good told both = record { untold = both.untold; back = both.back; onto = λ y good. both.onto y }
