@@ -22,7 +22,8 @@
 --     Checks b r                       promise: `check` of board b answers r
 -- What the functions of this crate promise each other:
 --     row_after c w ps                 the windings and marks after the parts ps, if 5 to 8 and 17 hold of none of them
-use Rattle.std.specs.Prelude.{ℕ, ◌≡◌, Bool, true, cond, not, ◌&&◌, ◌||◌, List, [], ◌∷◌, ltb, leb, eqb, Option, Some, None}
+use Rattle.std.specs.Prelude.{ℕ, ◌≡◌, Bool, true, cond, not, ◌&&◌, ◌||◌, List, [], ◌∷◌, ltb, leb, eqb, Option, Some}
+use Rattle.std.specs.Prelude.{None}
 use Rattle.kinds.specs.declared.Kind.{Kind}
 use Rattle.windings.specs.declared.WoundSoFar.{WoundSoFar}
 use Rattle.kinds.specs.Kinds.{kind_number, name_of, wire_kind, button_kind}

@@ -109,7 +109,8 @@ module _ (e : Edition) (c : Counts) (s : List ℕ) (start : ℕ) (w₀ : WoundSo
       ∙ ap (read_after walk.so_far) (parts_stop e c (c.parts - (i + 1)) w s at k p here) in
       rw stopped
 
-  pub walk_end : c.parts ≤ i → found (record { parts = parts; windings = w }) at ≡ row_from w₀ (parts_at e c c.parts w₀ s start)
+  pub walk_end : c.parts ≤ i → found (record { parts = parts; windings = w }) at
+      ≡ row_from w₀ (parts_at e c c.parts w₀ s start)
   unfolding row_from
   walk_end past =
       let none : c.parts - i ≡ 0 = omega arith in

@@ -78,7 +78,8 @@ module _ (e : Edition) (s : List ℕ) where
 
   answered_tabled : (o : Outcome (Found Board)) → Tabled o → Tabled (answered o).1
   unfolding answered
-  answered_tabled o (gives f is) = subst (λ (x : Outcome (Found Board)). Tabled (answered x).1) (sym is) (tabled_given f.next)
+  answered_tabled o (gives f is) = subst (λ (x : Outcome (Found Board)). Tabled (answered x).1) (sym is)
+      (tabled_given f.next)
   answered_tabled o (refuses k p is) =
       subst (λ (x : Outcome (Found Board)). Tabled (answered x).1) (sym is) (refuses k p refl)
 

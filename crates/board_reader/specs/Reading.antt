@@ -18,8 +18,8 @@
 --     reading e s                      what reading answers
 --     told_board_read r                what the code's answer r comes to
 --     Reads s r                        promise: `read` of the bytes s answers r, by the current edition
---     AnswersTo P n at o r             promise: where the reading of a number comes to o, and P says what a test may say of
---                                      the value, r is that number, or n at its place where the test fails
+--     AnswersTo P n at o r             promise: where the reading of a number comes to o, and P says what a test may
+--                                      say of the value, r is that number, or n at its place where the test fails
 use Rattle.std.specs.Prelude.{ℕ, zero, suc, ◌≡◌, Bool, cond, List, [], ◌∷◌, ltb, leb, eqb, length}
 use Rattle.refusals.specs.declared.Found.{Found}
 use Rattle.refusals.specs.Outcomes.{Outcome, given, refused, found, ◌>>=◌, ◌>>◌, unless, told}

@@ -1,5 +1,6 @@
 -- Laws of the bytes of a row, of a board's counts and of a part: one after the other, and how many they are.
-use Rattle.std.proofs.Common.{◌≡◌, ◌∙◌, refl, sym, ap, ℕ, ◌+◌, ◌≤◌, ◌<◌, List, [], ◌∷◌, ◌++◌, length, get_or, take, drop}
+use Rattle.std.proofs.Common.{◌≡◌, ◌∙◌, refl, sym, ap, ℕ, ◌+◌, ◌≤◌, ◌<◌, List, [], ◌∷◌, ◌++◌, length, get_or, take}
+use Rattle.std.proofs.Common.{drop}
 use Rattle.std.proofs.Common.{append_assoc, append-nil, length-append, take-append-drop, take_all, arith}
 use Rattle.std.proofs.lemmas.List.{take_more}
 use Rattle.number.specs.Numbers.{number_bytes}
@@ -85,12 +86,14 @@ module _ {A : Type 0} (bytes : A → List ℕ) (i : ℕ) (d : A) (xs : List A) (
 
     pub pushed-room : {m : ℕ} → length front + length (row_bytes bytes xs) ≤ m
         → length now + length (bytes (get_or xs i d)) ≤ m
-    pushed-room room = omega (arith, room, row_room, ap length so_far, length-append front (row_bytes bytes (take i xs)))
+    pushed-room room = omega (arith, room, row_room, ap length so_far, length-append front (row_bytes bytes
+        (take i xs)))
 
 module _ {A : Type 0} (bytes : A → List ℕ) (xs : List A) (front : List ℕ) {now : List ℕ} where
   pub pushed-none : now ≡ front → now ≡ front ++ row_bytes bytes (take 0 xs)
   unfolding row_bytes
   pushed-none is = is ∙ sym (append-nil front)
 
-  pub pushed-all : {i : ℕ} → length xs ≤ i → now ≡ front ++ row_bytes bytes (take i xs) → now ≡ front ++ row_bytes bytes xs
+  pub pushed-all : {i : ℕ} → length xs ≤ i → now ≡ front ++ row_bytes bytes (take i xs)
+      → now ≡ front ++ row_bytes bytes xs
   pushed-all {i} past so_far = so_far ∙ ap (λ l. front ++ row_bytes bytes l) (take_all i xs past)

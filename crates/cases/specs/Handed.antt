@@ -1,6 +1,6 @@
 -- What a case hands in. Bytes that are not given are 0.
 --     given bs i              the byte at the place i of the bytes bs
---     three_bytes bs i        the number of three bytes, highest first, from the place i on
+--     number_of_three bs i        the number of three bytes, highest first, from the place i on
 --     GivesNumber bs i r      promise: `number_at` answers r
 --     handed_part bs i        the part whose four bytes begin at the place i: kind, a, b and name
 --     handed_start bs i       the start, a set in five bytes, lowest first, from the place i on
@@ -19,18 +19,19 @@ use Rattle.kept.specs.Kept.{KeptOf}
 abbrev pub given : List ℕ → ℕ → ℕ
 given bs i = slice_index_or bs i 0
 
-abbrev pub three_bytes : List ℕ → ℕ → ℕ
-three_bytes bs i = 65536 * given bs i + 256 * given bs (i + 1) + given bs (i + 2)
+abbrev pub number_of_three : List ℕ → ℕ → ℕ
+number_of_three bs i = 65536 * given bs i + 256 * given bs (i + 1) + given bs (i + 2)
 
 abbrev pub GivesNumber : List ℕ → ℕ → ℕ → Type 0
-GivesNumber bs i r = r ≡ three_bytes bs i
+GivesNumber bs i r = r ≡ number_of_three bs i
 
 abbrev pub handed_part : List ℕ → ℕ → Part
 handed_part bs i = record { a = given bs (i + 1); b = given bs (i + 2); kind = kind_of (given bs i) (given bs (i + 3)) }
 
 abbrev pub handed_start : List ℕ → ℕ → ℕ
 handed_start bs i =
-    given bs i + 256 * given bs (i + 1) + 65536 * (given bs (i + 2) + 256 * given bs (i + 3)) + 4294967296 * given bs (i + 4)
+    given bs i + 256 * given bs (i + 1)
+    + 65536 * (given bs (i + 2) + 256 * given bs (i + 3)) + 4294967296 * given bs (i + 4)
 
 pub record HandsBoard (bs : List ℕ) (r : Board) : Type 0 where
   pub terminals : r.counts.terminals ≡ given bs 0

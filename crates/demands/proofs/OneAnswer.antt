@@ -1,6 +1,7 @@
 -- Each promise allows exactly one answer: one that is told as it is, by `one_itself`; one that is told by a definition,
--- by `one_told`, because each answer can be had from what it tells, and where it can be refused by `one_tells`, because the
--- definition refuses by numbers of the table alone; one that leaves something in a lent log or buffer, by `one_lent`.
+-- by `one_told`, because each answer can be had from what it tells, and where it can be refused by `one_tells`,
+-- because the definition refuses by numbers of the table alone; one that leaves something in a lent log or buffer, by
+-- `one_lent`.
 use Prim.Native.Nat.{ℕ}
 use mathlib.Core.Path.{◌≡◌, refl, sym, ap, ◌∙◌}
 use mathlib.Core.List.{List}

@@ -2,7 +2,7 @@
 -- for the first run (event 0), then one for each event"; "An event refused by 12 prints its number, `refused` and 12;
 -- nothing is run"; "After spent, .. or conflict the next event acts on the state left", and after buzz (request A8).
 --     event_of v               the event of the number v: it pushes or releases a button
---     button_of v              the button of the event v
+--     named_button v           the button of the event v
 --     event_at ed n s at       the event at a place of the input, by the edition ed: a number (1, 2) that names one of
 --                              n buttons (7)
 --     pressing b h v           the event v pushes or releases its button, from the state and the kept sets h
@@ -38,9 +38,9 @@ use Rattle.events.specs.declared.Shown as code
 abbrev pub event_of : ℕ → Event
 event_of v = cond (eqb (v % 2) 1) (Push (v / 2)) (Release (v / 2))
 
-abbrev pub button_of : Event → ℕ
-button_of (Push n) = n
-button_of (Release n) = n
+abbrev pub named_button : Event → ℕ
+named_button (Push n) = n
+named_button (Release n) = n
 
 unfoldable pub event_at : Edition → ℕ → List ℕ → ℕ → Outcome (Found Event)
 event_at ed n s at = do

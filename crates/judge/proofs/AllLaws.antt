@@ -27,7 +27,8 @@ module _ (b : Board) where
   windings_lacking r past = rw (le-ltb r b.counts.relays past) refl
 
   -- each relay's windings stand at its place, whatever d would stand beyond
-  pub windings-place : (all : List (code.Option Windings)) (r : ℕ) (d : code.Option Windings) → FindsAllWindings b all → r < most_relays
+  pub windings-place : (all : List (code.Option Windings)) (r : ℕ) (d : code.Option Windings)
+      → FindsAllWindings b all → r < most_relays
       → r < b.counts.relays → told_windings (get_or all r d) ≡ windings_at r (parts_of b)
   windings-place all r d finds inside below =
       sym (get_or-map told_windings all r d)

@@ -84,10 +84,12 @@ abbrev pub undecided_verdict : ℕ → Verdict
 undecided_verdict w = record { finding = Ok said.Undecided; effort = w; length = 0; terminals = places [] }
 
 -- by the chains cs, which t tests, and the allowance w, the verdict v is the one of finding f
-pub data FindingBy (t : List ℕ → Bool) (cs : List (List ℕ)) (w : ℕ) (v : Verdict) : Result Finding Refusal → Type 0 where
+pub data FindingBy (t : List ℕ → Bool) (cs : List (List ℕ)) (w : ℕ) (v : Verdict) : Result Finding Refusal
+    → Type 0 where
   live_by : (c : List ℕ) → effort t cs ≤ w → first_shown t cs ≡ some c → v ≡ live_verdict (effort t cs) c
       → FindingBy t cs w v (Ok said.Live)
-  dead_by : effort t cs ≤ w → first_shown t cs ≡ none → v ≡ dead_verdict (effort t cs) → FindingBy t cs w v (Ok said.Dead)
+  dead_by : effort t cs ≤ w → first_shown t cs ≡ none → v ≡ dead_verdict (effort t cs)
+      → FindingBy t cs w v (Ok said.Dead)
   undecided_by : w < effort t cs → v ≡ undecided_verdict w → FindingBy t cs w v (Ok said.Undecided)
 
 weighed_finding : (t : List ℕ → Bool) (cs : List (List ℕ)) (w : ℕ) (v : Verdict) → told_verdict v ≡ weighed t cs w

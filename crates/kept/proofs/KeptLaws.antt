@@ -137,7 +137,8 @@ module _ (b : Board) (h : Kept) where
   unfolding usable first_no
   usable_broken broken = rw broken refl
 
-  pub usable_beyond : board_fine b ≡ true → state_fine b.counts h.state ≡ false → refused state_beyond_board 0 ≡ usable b h
+  pub usable_beyond : board_fine b ≡ true → state_fine b.counts h.state ≡ false
+      → refused state_beyond_board 0 ≡ usable b h
   unfolding usable first_no
   usable_beyond fine beyond = rw (fine, beyond) refl
 

@@ -3,6 +3,7 @@ use Prim.Native.Nat.{ℕ, ◌+◌, ◌-◌, ◌≤◌, ◌<◌}
 use native.Mathlib.Omega.{arith}
 use mathlib.Core.Path.{◌≡◌, refl, sym, ap, subst, ◌∙◌}
 use mathlib.Core.Bool.{Bool, true, false, ◌&&◌}
+use mathlib.Core.Logic.{◌⊎◌, inl, inr}
 use mathlib.Core.List.{List, [], ◌∷◌, ◌++◌}
 use Rattle.std.specs.Prelude.{Option, Some, None}
 use lib.Dec.{eqb}
@@ -27,11 +28,23 @@ pub each_same : (near : List ℕ) (f : ℕ → ℕ → ℕ)
     → EachSet near near f
 each_same near f same = record { many = refl; each = λ x below. sym (same x below) }
 
--- a part joins by a test that its kind passes
-pub each_by : (at : ℕ) (f : Kind → Bool) (p : Part) (near next : List ℕ) (t : Bool) → t ≡ f p.kind
-    → EachSet near next (with_part (among at p && t) p) → EachSet near next (with_part (among_by at f p) p)
-each_by at f p near next t by each =
-    subst (λ (u : Bool). EachSet near next (with_part (among at p && u) p)) by each
+-- a part with both ends in the set, of a kind that passes the test, joins them; any other leaves the sets as they are
+pub each_joined : (at : ℕ) (f : Kind → Bool) (p : Part) (near next : List ℕ) → among at p ≡ true → f p.kind ≡ true
+    → EachSet near next (with_part true p) → EachSet near next (with_part (among_by at f p) p)
+each_joined at f p near next within passes =
+    let both : true ≡ (among at p && f p.kind) = rw (within, passes) refl in
+    subst (λ (u : Bool). EachSet near next (with_part u p)) both
+
+pub each_apart : (at : ℕ) (f : Kind → Bool) (p : Part) (near : List ℕ) → (among at p ≡ false) ⊎ (f p.kind ≡ false)
+    → EachSet near near (with_part (among_by at f p) p)
+each_apart at f p near off =
+    subst (λ (u : Bool). EachSet near near (with_part u p)) (sym (neither (among at p) (f p.kind) off))
+    (record { many = refl; each = λ x below. refl })
+  where
+    neither : (t u : Bool) → (t ≡ false) ⊎ (u ≡ false) → (t && u) ≡ false
+    neither false u off = refl
+    neither true u (inl off) = cc
+    neither true u (inr off) = off
 
 -- ---- on the way up along the terminals of a set, in `clear`: those below x are done, the others are as they were
 

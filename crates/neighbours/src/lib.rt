@@ -55,7 +55,9 @@ fn gather<J: Fn(Kind) -> bool>(near: &mut [u64; 64], at: u64, parts: &[Part], jo
     ensures { GathersBy (J.post joins) at parts.now near.old near.new }
 {
     for part in parts.iter().rev() {
-        row::bridge(near, at, part, joins(part.kind));
+        if row::is_among(part, at) && joins(part.kind) {
+            row::bridge(near, part);
+        }
     }
 }
 

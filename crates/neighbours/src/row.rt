@@ -1,5 +1,5 @@
 // One row of sets, a set for each of 64 terminals, changed in place.
-ghost use Rattle.std.specs.Prelude.{◌≡◌, ◌&&◌, length};
+ghost use Rattle.std.specs.Prelude.{◌≡◌, true, length};
 ghost use Rattle.board.specs.Rules.{most_terminals};
 ghost use Rattle.neighbours.specs.Neighbours.{with_other, with_part};
 ghost use Rattle.neighbours.specs.Rows.{EachSet, among, only_at, without};
@@ -31,19 +31,17 @@ fn join(near: &mut [u64; 64], x: u8, y: u8)
 }
 
 // Whether both ends of a part are among these terminals.
-fn is_among(part: &Part, at: u64) -> bool
+pub fn is_among(part: &Part, at: u64) -> bool
     ensures { result ≡ among at part.now }
 {
     bits::has(at, u32::from(part.a)) && bits::has(at, u32::from(part.b))
 }
 
-// Joins the ends of a part besides, in both directions, if both are among these terminals and it is one that joins.
-pub fn bridge(near: &mut [u64; 64], at: u64, part: &Part, joins: bool)
+// Joins the ends of a part besides, in both directions.
+pub fn bridge(near: &mut [u64; 64], part: &Part)
     requires { length near.old ≡ most_terminals }
-    ensures { EachSet near.old near.new (with_part (among at part.now && joins) part.now) }
+    ensures { EachSet near.old near.new (with_part true part.now) }
 {
-    if is_among(part, at) && joins {
-        join(near, part.a, part.b);
-        join(near, part.b, part.a);
-    }
+    join(near, part.a, part.b);
+    join(near, part.b, part.a);
 }

@@ -42,7 +42,8 @@ written_fits v at n out w wrote tells =
 pub number_written_back : NumberWrittenRead
 number_written_back v at n out out' w r small wrote tells read =
     let fits = written_fits v at n out w wrote tells in
-    let next : n ≡ at + length (number_bytes v) = given_injective _ _ (sym tells ∙ written-told v at out w wrote fits) in
+    let next : n ≡ at + length (number_bytes v) = given_injective _ _ (sym tells
+        ∙ written-told v at out w wrote fits) in
     read ∙ rw next (number_written_read out' at v _ small (written_there v at out w wrote fits))
 
 pub number_read_back : NumberReadWritten

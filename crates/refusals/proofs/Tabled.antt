@@ -1,5 +1,5 @@
--- Answers with a refusal in them: the code's numbers for no are the table's, those of an outcome any. So an answer can be
--- had from what it tells, and each outcome is told of an answer that gives something or is refused by the table.
+-- Answers with a refusal in them: the code's numbers for no are the table's, those of an outcome any. So an answer
+-- can be had from what it tells, and each outcome is told of an answer that gives something or is refused by the table.
 --     no_of n         the case of the number n
 --     Tabled o        the outcome o gives something, or is refused by a number of the table
 --     TabledLines ls  so are all that a call of the lines ls can be refused by
@@ -13,7 +13,8 @@ use Rattle.refusals.specs.declared.No.{No}
 use Rattle.refusals.specs.declared.No.TheVariants.{InputEnds, BadForm, OutOfRange, NoSuchKind, NoSuchTerminal}
 use Rattle.refusals.specs.declared.No.TheVariants.{EndsEqual, NoSuchName, WindingTaken, WindingLacking, InputTooLong}
 use Rattle.refusals.specs.declared.No.TheVariants.{NoSuchWinding, AlreadySo, LogTooLong, StateBeyondBoard, BrokenBoard}
-use Rattle.refusals.specs.declared.No.TheVariants.{BufferTooShort, MarkedTwice, ForeignSets, TerminalBeyond, TooManyButtons}
+use Rattle.refusals.specs.declared.No.TheVariants.{BufferTooShort, MarkedTwice, ForeignSets, TerminalBeyond}
+use Rattle.refusals.specs.declared.No.TheVariants.{TooManyButtons}
 use Rattle.refusals.specs.declared.Refusal.{Refusal}
 use Rattle.refusals.specs.Refusals.{number_of}
 use Rattle.refusals.specs.Outcomes.{Outcome, given, refused, ◌>>=◌, ◌>>◌, unless, told, told_as}
@@ -124,7 +125,8 @@ result-tells_as {A} {B} t both = record { untold = untold; back = back; onto = o
 
     onto : (o : Outcome B) → Tabled o → told_as t (untold o) ≡ o
     onto o (gives b is) =
-        subst (λ (x : Outcome B). told_as t (untold x) ≡ x) (sym is) (ap {B = Outcome B} (λ (y : B). given y) (both.onto b))
+        subst (λ (x : Outcome B). told_as t (untold x) ≡ x) (sym is) (ap {B = Outcome B}
+        (λ (y : B). given y) (both.onto b))
     onto o (refuses k p is) =
         subst (λ (x : Outcome B). told_as t (untold x) ≡ x) (sym is)
         (ap {B = Outcome B} (λ (j : No). refused (number_of j) p) (no_of_number k))

@@ -7,8 +7,8 @@
 --     answering o r go      what a call answers against which o stands: what r makes of that refusal, or `go` where it
 --                           is nothing
 --     against o             what stands against a call that came to o: its refusal, or nothing
---     AsksLine t e r        promise: `unless` of a line of the test t, with e said where it does not hold, answers r; where
---                           it is refused, `?` ends the call there, so the first line whose test fails speaks
+--     AsksLine t e r        promise: `unless` of a line of the test t, with e said where it does not hold, answers r;
+--                           where it is refused, `?` ends the call there, so the first line whose test fails speaks
 use Rattle.std.specs.Prelude.{ℕ, ◌≡◌, Bool, cond, Result, List, [], ◌∷◌}
 use Rattle.refusals.specs.Outcomes.{Outcome, given, refused}
 

@@ -4,7 +4,8 @@ use Rattle.refusals.specs.declared.No.{No}
 use Rattle.refusals.specs.declared.No.TheVariants.{InputEnds, BadForm, OutOfRange, NoSuchKind, NoSuchTerminal}
 use Rattle.refusals.specs.declared.No.TheVariants.{EndsEqual, NoSuchName, WindingTaken, WindingLacking, InputTooLong}
 use Rattle.refusals.specs.declared.No.TheVariants.{NoSuchWinding, AlreadySo, LogTooLong, StateBeyondBoard, BrokenBoard}
-use Rattle.refusals.specs.declared.No.TheVariants.{BufferTooShort, MarkedTwice, ForeignSets, TerminalBeyond, TooManyButtons}
+use Rattle.refusals.specs.declared.No.TheVariants.{BufferTooShort, MarkedTwice, ForeignSets, TerminalBeyond}
+use Rattle.refusals.specs.declared.No.TheVariants.{TooManyButtons}
 
 -- 1: input ends inside or before a wanted number; place: input length
 abbrev pub input_ends : ℕ

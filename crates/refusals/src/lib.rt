@@ -1,5 +1,5 @@
-// The numbers for no, which every call answers with, what a refusal and a thing that was read are, and a line of a call:
-// a test that must hold, and what is said where it does not.
+// The numbers for no, which every call answers with, what a refusal and a thing that was read are, and a line of a
+// call: a test that must hold, and what is said where it does not.
 #![tactic(auto)]
 
 ghost use Rattle.std.specs.Prelude.{◌≡◌};

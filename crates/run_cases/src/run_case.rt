@@ -42,7 +42,8 @@ fn print_log<W: Write>(out: &mut W, log: &[u8], moves: usize) -> io::Result<()> 
     Ok(())
 }
 
-// Runs a board over a log of the length that is asked, and prints what the run answers, what it logged and what it left.
+// Runs a board over a log of the length that is asked, and prints what the run answers, what it logged and what it
+// left.
 pub fn answer_run<W: Write>(out: &mut W, asked: Asked) -> io::Result<()> {
     let mut buffer = [UNTOUCHED; LOG_ROOM];
     let Some(log) = buffer.get_mut(..asked.number as usize) else {

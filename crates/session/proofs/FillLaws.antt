@@ -60,9 +60,11 @@ module _ (out : List ℕ) (at : ℕ) where
       → handed_on r out' ≡ behind (take at out) (line_handed z.board (told_ahead z.ahead) s (drop at out))
   unfolding next_line
   call_behind z s o out' r called back =
-      let lent = called ∙ ap (λ (p : List ℕ). carrying (told_session z) (line_handed z.board (told_ahead z.ahead) s p)) part-lent in
+      let lent = called ∙ ap (λ (p : List ℕ). carrying (told_session z) (line_handed z.board
+          (told_ahead z.ahead) s p)) part-lent in
       ap (handed_on r) (back ∙ part_back o)
-      ∙ ap (λ (h : Handed). behind (take at out) (record { ahead = h.session.ahead; answer = h.answer; out = h.out })) lent
+      ∙ ap (λ (h : Handed).
+      behind (take at out) (record { ahead = h.session.ahead; answer = h.answer; out = h.out })) lent
 
 -- ---- the answer
 

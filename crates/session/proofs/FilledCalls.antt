@@ -75,10 +75,12 @@ module _ (z : code-session.Session) (s out out' : List ℕ) (r : code-handed.Han
   answers_by room (y, l ∷ ls) fits =
       inr (
         _,
-        tells_injective told_hand_out hand_out_tells r.answer (Result.Ok (Some _)) (told_answer _ (room_by room _ fits)),
+        tells_injective told_hand_out hand_out_tells r.answer (Result.Ok (Some _)) (told_answer _
+            (room_by room _ fits)),
       )
 
-  pub filled_answers : longest_line ≤ length out → (r.answer ≡ Result.Ok None) ⊎ ((n : ℕ) × (r.answer ≡ Result.Ok (Some n)))
+  pub filled_answers : longest_line ≤ length out → (r.answer ≡ Result.Ok None) ⊎ ((n : ℕ) × (r.answer
+      ≡ Result.Ok (Some n)))
   filled_answers room = answers_by room (fits_in) refl
 
   -- ---- lines are handed out

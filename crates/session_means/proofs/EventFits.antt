@@ -25,7 +25,7 @@ use Rattle.runs.proofs.RunningLaws.{runnable_log, running_by}
 use Rattle.lines.specs.Lines.{event, closing}
 use Rattle.events.specs.declared.Event.{Event}
 use Rattle.events.specs.declared.Event.TheVariants.{Push, Release}
-use Rattle.events.specs.Events.{button_of, pressing, session_log, Shown, tells, ran_line, pressed_line, event_line}
+use Rattle.events.specs.Events.{named_button, pressing, session_log, Shown, tells, ran_line, pressed_line, event_line}
 use Rattle.session_means.specs.EventRefusals.{OnlyTwelve}
 use Rattle.runs.proofs.RunFits.{run_fits}
 
@@ -94,7 +94,7 @@ module _ (b : Board) where
         (left_fits t (kept_at b (with_released t.state n)) (is_pushed t.state n) fits
         (usable_fine b (with_released t.state n) fine (state_fits_release b.counts t.state n before)))
 
-  press_fits : (t : Kept) (v : Event) → usable b t ≡ given tt → ltb (button_of v) b.counts.buttons ≡ true
+  press_fits : (t : Kept) (v : Event) → usable b t ≡ given tt → ltb (named_button v) b.counts.buttons ≡ true
       → PressFits b (pressing b t v)
   unfolding pressing
   press_fits t (Push n) fits below = push_fits t n fits below
@@ -108,6 +108,6 @@ module _ (b : Board) where
   pressed_fits e (t, refused n p) so = record { twelve = so.twelve; drawn = refl; fits = so.fits }
 
   pub event_fits : (e : ℕ) (t : Kept) (v : Event) → usable b t ≡ given tt
-      → ltb (button_of v) b.counts.buttons ≡ true → ShownFits b (event_line b e t v)
+      → ltb (named_button v) b.counts.buttons ≡ true → ShownFits b (event_line b e t v)
   unfolding event_line
   event_fits e t v fits below = pressed_fits e (pressing b t v) (press_fits t v fits below)

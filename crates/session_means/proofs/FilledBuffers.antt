@@ -146,7 +146,8 @@ module _ (s : List ℕ) where
     some_by (l ∷ ls) rest all some split text full =
         rw split (record { more = ls; left = rest; next = refl; text = text; full = full })
 
-    next_by : (r.answer ≡ Result.Ok None) ⊎ ((n : ℕ) × (r.answer ≡ Result.Ok (Some n))) → HandsSome (still_in z s) out r out'
+    next_by : (r.answer ≡ Result.Ok None) ⊎ ((n : ℕ) × (r.answer ≡ Result.Ok (Some n)))
+        → HandsSome (still_in z s) out r out'
     next_by (inl over) = rw (over_none over) (over, filled-lent z s out out' r called over)
     next_by (inr (n, is)) =
         let c = came_lines z s out out' r called n is in

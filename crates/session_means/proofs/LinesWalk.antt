@@ -27,8 +27,8 @@ use Rattle.file_means.proofs.BoardTrip.{BoardIsFine}
 use Rattle.file_means.proofs.ReadFine.{read_fine}
 use Rattle.lines.specs.Lines.{Line, closing}
 use Rattle.events.specs.declared.Event.{Event}
-use Rattle.events.specs.Events.{Shown, event_of, button_of, event_at, event_line}
-use Rattle.events.proofs.EventLaws.{button_of-event}
+use Rattle.events.specs.Events.{Shown, event_of, named_button, event_at, event_line}
+use Rattle.events.proofs.EventLaws.{named_button-event}
 use Rattle.session.specs.Sessions.{past_allowance, head_at, event_lines, lines_from, head_lines}
 use Rattle.session_means.specs.LinesDrawn.{EventShows}
 use Rattle.session_means.specs.EventRefusals.{ClosedByEvent}
@@ -47,7 +47,7 @@ pub record Along (b : Board) (Q : ℕ → Kept → List Line → Type 0) : Type 
 module _ (b : Board) (s : List ℕ) (Q : ℕ → Kept → List Line → Type 0) (so : Along b Q) where
   -- the event's button is one of the board's; or the event is refused by 1, 2 or 7
   abbrev EventRead : Outcome (Found Event) → Type 0
-  EventRead (given v) = ltb (button_of v.value) b.counts.buttons ≡ true
+  EventRead (given v) = ltb (named_button v.value) b.counts.buttons ≡ true
   EventRead (refused n p) = ClosedByEvent (closing n p)
 
   event_read : (at : ℕ) → EventRead (event_at current_edition b.counts.buttons s at)
@@ -56,7 +56,7 @@ module _ (b : Board) (s : List ℕ) (Q : ℕ → Kept → List Line → Type 0) 
     where
       below : (v : Found ℕ) (t : Bool) → ltb (v.value / 2) b.counts.buttons ≡ t
           → EventRead (unless t no_such_name at >> given v >>= λ v. found (event_of v.value) v.next)
-      below v true e = ap (λ (k : ℕ). ltb k b.counts.buttons) (button_of-event v.value) ∙ e
+      below v true e = ap (λ (k : ℕ). ltb k b.counts.buttons) (named_button-event v.value) ∙ e
       below v false e = inr (inr refl)
 
       by : (o : Outcome (Found ℕ)) → number_at current_width s at ≡ o

@@ -89,7 +89,8 @@ pub all_buffers_printed : (s : List ℕ) (z y : Session) (old new : Option (List
 all_buffers_printed s z y old new out out' r begun so room called never =
     by (filled_answers y s out out' r called room)
   where
-    by : (r.answer ≡ Result.Ok None) ⊎ ((n : ℕ) × (r.answer ≡ Result.Ok (Some n))) → Appends old new (session_text current_edition s)
+    by : (r.answer ≡ Result.Ok None) ⊎ ((n : ℕ) × (r.answer ≡ Result.Ok (Some n)))
+        → Appends old new (session_text current_edition s)
     by (inl over) =
         subst (λ (xs : List ℕ). Appends old new xs) (all_filled s z y so.texts out out' r begun so.handed called over)
         so.appended

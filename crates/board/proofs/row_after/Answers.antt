@@ -1,5 +1,5 @@
--- `board::row_after` meets its contract. The invariant: all the parts come to what those that are left come to after the
--- windings and marks so far.
+-- `board::row_after` meets its contract. The invariant: all the parts come to what those that are left come to after
+-- the windings and marks so far.
 use borrow.Author.Rules.{rules}
 use Rattle.board.proofs.RuleLaws.{row_walk_off, row_walk_on, row_walk_end}
 use Rattle.board.proofs.row_after.Goals as goal

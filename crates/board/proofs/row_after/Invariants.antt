@@ -1,5 +1,5 @@
--- `board::row_after` meets its contract. The invariant: all the parts come to what those that are left come to after the
--- windings and marks so far.
+-- `board::row_after` meets its contract. The invariant: all the parts come to what those that are left come to after
+-- the windings and marks so far.
 use mathlib.Core.Path.{◌≡◌}
 use lib.ListN.{drop}
 use Rattle.board.specs.Rules.{row_after}

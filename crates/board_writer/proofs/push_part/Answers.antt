@@ -4,7 +4,8 @@ use Rattle.number.specs.Numbers.{number_bytes}
 use Rattle.kinds.specs.Kinds.{kind_number}
 use Rattle.board.specs.Parts.{fields_of}
 use Rattle.board_writer.specs.File.{numbers_bytes}
-use Rattle.board_writer.proofs.LengthLaws.{part_bytes_sum, part_bytes_are, pushed-on, pushed-room, pushed-none, pushed-all}
+use Rattle.board_writer.proofs.LengthLaws.{part_bytes_sum, part_bytes_are, pushed-on, pushed-room, pushed-none}
+use Rattle.board_writer.proofs.LengthLaws.{pushed-all}
 use Rattle.board_writer.proofs.push_part.Goals as goal
 
 pub push_number-requires : goal.push_number-requires
@@ -38,5 +39,6 @@ returns c =
     let same = c.as_slice-field-items.ensures.value ∙ c.fields-fields.ensures in
     pushed-all number_bytes _ _ c.loop-field-test.false c.loop-field.invariant
     ∙ ap (λ vs. c.args.file.now.items ++ number_bytes (kind_number c.args.part.kind) ++ numbers_bytes vs) same
-    ∙ append_assoc c.args.file.now.items (number_bytes (kind_number c.args.part.kind)) (numbers_bytes (fields_of c.args.part))
+    ∙ append_assoc c.args.file.now.items (number_bytes (kind_number c.args.part.kind)) (numbers_bytes
+      (fields_of c.args.part))
     ∙ ap (λ l. c.args.file.now.items ++ l) (sym (part_bytes_are c.args.part))

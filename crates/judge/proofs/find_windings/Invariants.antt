@@ -1,5 +1,5 @@
--- `judge::find_windings` meets its contract. The invariant, of the first winding and of the second: what is seen of it is
--- the one among the parts so far.
+-- `judge::find_windings` meets its contract. The invariant, of the first winding and of the second: what is seen of
+-- it is the one among the parts so far.
 use mathlib.Core.Path.{◌≡◌}
 use lib.ListN.{take}
 use Rattle.judge.specs.declared.Which.TheVariants.{First, Second}

@@ -3,9 +3,12 @@
 use mathlib.Core.Path.{sym, ap, ◌∙◌}
 use mathlib.Core.List.{List}
 use Rattle.std.proofs.lemmas.List.{nil_from_length}
+use mathlib.Core.Logic.{inl, inr}
 use Rattle.board.specs.declared.Part.{Part}
 use Rattle.neighbours.specs.Rows.{among_by, gathered}
-use Rattle.neighbours.proofs.RowLaws.{gathered_last, gathered_none, each_by}
+use Rattle.neighbours.proofs.RowLaws.{gathered_last, gathered_none, each_joined, each_apart}
+use Rattle.neighbours.proofs.gather.Goals.{else-is_among-via-then-is_among+else-joins}
+use Rattle.neighbours.proofs.gather.Goals.{else-is_among-via-else-is_among}
 use Rattle.neighbours.proofs.gather.Goals as goal
 
 pub loop-part-init : goal.loop-part-init
@@ -22,12 +25,26 @@ bridge-requires g c = c.loop-part.invariant.long
 
 pub loop-part-preserved : goal.loop-part-preserved
 loop-part-preserved g c = record {
+  long = c.loop-part.invariant.long;
+  left = λ f tests.
+      c.loop-part.invariant.left f tests
+      ∙ ap (λ (ps : List Part). gathered (among_by c.args.at f) ps c.loop-part.near) c.in-Some.ensures.steps
+      ∙ gathered_last (among_by c.args.at f) c.next.new.self.iter.rest.now c.in-Some.part.now c.loop-part.near
+      c.loop-part.near (each_apart c.args.at f c.in-Some.part.now _ (elim c.else-is_among.branch [
+        | else-is_among-via-then-is_among+else-joins w ↦ inr (sym (tests _ _ w.joins.ensures) ∙ w.if-joins.false)
+        | else-is_among-via-else-is_among w ↦ inl (sym c.is_among.ensures ∙ w.if-is_among.false)
+      ]));
+}
+
+pub loop-part-preserved-then-joins : goal.loop-part-preserved-then-joins
+loop-part-preserved-then-joins g c = record {
   long = c.bridge.array_long;
   left = λ f tests.
       c.loop-part.invariant.left f tests
       ∙ ap (λ (ps : List Part). gathered (among_by c.args.at f) ps c.loop-part.near) c.in-Some.ensures.steps
       ∙ gathered_last (among_by c.args.at f) c.next.new.self.iter.rest.now c.in-Some.part.now c.loop-part.near
-      c.bridge.new.near (each_by c.args.at f c.in-Some.part.now _ _ _ (tests _ _ c.joins.ensures) c.bridge.ensures);
+      c.bridge.new.near (each_joined c.args.at f c.in-Some.part.now _ _ (sym c.is_among.ensures ∙ c.if-is_among.true)
+      (sym (tests _ _ c.joins.ensures) ∙ c.if-joins.true) c.bridge.ensures);
 }
 
 pub returns : goal.returns

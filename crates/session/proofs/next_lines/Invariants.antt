@@ -7,7 +7,8 @@ use Rattle.session.proofs.next_lines.Given as goal
 abbrev pub invariant-loop-length : goal.invariant-loop-length
 invariant-loop-length l = record {
   board : l.session.board ≡ l.fn.session.board;
-  filled : FilledTo l.fn.session.board (told_ahead l.fn.session.ahead) l.s l.initial.out (told_ahead l.session.ahead) l.out
+  filled : FilledTo l.fn.session.board (told_ahead l.fn.session.ahead) l.s l.initial.out
+      (told_ahead l.session.ahead) l.out
       l.used;
 }
 

@@ -14,7 +14,8 @@ loop-i-preserved c =
     record {
       few = so_far.few;
       long = length-set _ _ _ ∙ so_far.long;
-      walk = walk_on _ _ _ _ _ _ _ _ _ so_far.walk _ _ _ c.loop-i-test.true so_far.few (sym c.in-Ok.ensures) c.with-row.ensures;
+      walk = walk_on _ _ _ _ _ _ _ _ _ so_far.walk _ _ _ c.loop-i-test.true so_far.few
+          (sym c.in-Ok.ensures) c.with-row.ensures;
     }
 
 pub returns-in_default : goal.returns-in_default
