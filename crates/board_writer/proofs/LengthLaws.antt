@@ -30,6 +30,15 @@ pub counts_bytes_sum : (c : Counts) → length (counts_bytes c) ≡ length (numb
 unfolding counts_bytes row_bytes
 counts_bytes_sum c = simp length-append (omega arith)
 
+-- the counts' numbers, from left to right
+pub counts_bytes_are : (c : Counts) → counts_bytes c ≡ number_bytes c.terminals ++ number_bytes c.relays ++ number_bytes
+    c.buttons ++ number_bytes c.parts
+unfolding counts_bytes row_bytes
+counts_bytes_are c = simp (append_assoc, append-nil) refl
+
+-- what pushing them one after the other goes by
+pub ruleset counts_pushed = (counts_bytes_sum, counts_bytes_are, length-append, append_assoc)
+
 -- ---- a part
 
 -- a part's bytes are its kind's and then those of its fields
@@ -41,12 +50,6 @@ pub part_bytes_sum : (p : Part) → length (part_bytes p) ≡ length (number_byt
     (numbers_bytes (fields_of p))
 part_bytes_sum p =
     ap length (part_bytes_are p) ∙ length-append (number_bytes (kind_number p.kind)) (numbers_bytes (fields_of p))
-
--- the counts' numbers, from left to right
-pub counts_bytes_are : (c : Counts) → counts_bytes c ≡ number_bytes c.terminals ++ number_bytes c.relays ++ number_bytes
-    c.buttons ++ number_bytes c.parts
-unfolding counts_bytes row_bytes
-counts_bytes_are c = simp (append_assoc, append-nil) refl
 
 -- ---- things pushed one after the other
 

@@ -30,6 +30,7 @@ fn push_number(file: &mut ArrayVec<u8, LONGEST_FILE>, value: u32)
 }
 
 // Adds T, R, B and C.
+#[tactic(auto, using(crate::proofs::LengthLaws::counts_pushed))]
 fn push_counts(file: &mut ArrayVec<u8, LONGEST_FILE>, counts: Counts)
     requires room { length file.old.items + length (counts_bytes counts) ≤ longest_file }
     requires parts { counts.parts ≤ most_parts }

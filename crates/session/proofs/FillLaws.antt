@@ -202,17 +202,6 @@ module _ (b : Board) (a₀ : Ahead) (s out₀ : List ℕ) (a : Ahead) (out : Lis
   rest-lent : drop used out ≡ drop used out₀
   rest-lent = ap (drop used) f.text ∙ drop_at (bytes_of f.lines) (drop used out₀) used (sym f.bytes)
 
-  pub filled_to_length : length out ≡ length out₀
-  filled_to_length =
-      omega (
-        arith,
-        ap length f.text,
-        length-append (bytes_of f.lines) (drop used out₀),
-        length-drop used out₀,
-        f.bytes,
-        f.within,
-      )
-
   room-left : length (drop used out) ≡ length out₀ - used
   room-left = ap length rest-lent ∙ length-drop used out₀
 
