@@ -17,6 +17,8 @@ PLACEHOLDER = re.compile(r"(?<![A-Za-z])(NAME|LABEL|CRATE|X)(?![A-Za-z])")
 ELSEWHERE = {
     "01-scope.md": "the rule book, which is handed to the developers",
     "02-change-requests.md": "the requests, which are handed to the developers",
+    "DownFrom": "a law of before, in the note on request A5",
+    "Fields::one": "a function of before, in the note on request A2",
     "MoveDecided": "a statement of before, in the notes on requests A6 and A7",
     "RegularByChains": "a statement of before, in the notes on requests A4 to A7",
     "RunDecided": "a statement of before, in the notes on requests A6 and A7",
@@ -28,13 +30,16 @@ ELSEWHERE = {
     "flock": "a command of the system",
     "h1-w2": "a sample of before, in the note on request A6",
     "h4-winding-w5": "a sample of before, in the notes on requests A4 and A6",
+    "handed_sets.rt": "a file of before, in the note on request A5",
     "head": "a command of the system",
+    "is_bare": "a function of before, in the note on request A4",
     "ladder": "a sample of before, in the note on request A1",
     "ladder-w2097151": "a sample of before, in the note on request A1",
     "open": "a word of the proof language",
     "os": "a crate of the older kit, in the note on request A10",
     "proof": "a column of a table",
     "repeats": "a script that is handed to the developers",
+    "u32::from": "a conversion of the kit's library",
     "util": "a name that is not to be used",
 }
 
@@ -47,7 +52,7 @@ ENDINGS = ("py", "md", "txt", "antt", "rt", "rs", "hex", "lines", "words", "page
 
 
 # Pages that set names of before beside today's.
-RECORDS = ("docs/PORT.md",)
+RECORDS = ("docs/PORT.md", "docs/DESIGN-PASS.md")
 
 
 def documents():
