@@ -86,8 +86,14 @@ module _ {A : Type 0} (bytes : A → List ℕ) (i : ℕ) (d : A) (xs : List A) (
 
     pub pushed-room : {m : ℕ} → length front + length (row_bytes bytes xs) ≤ m
         → length now + length (bytes (get_or xs i d)) ≤ m
-    pushed-room room = omega (arith, room, row_room, ap length so_far, length-append front (row_bytes bytes
-        (take i xs)))
+    pushed-room room = omega (
+      arith,
+      room,
+      row_room,
+      ap length so_far,
+      length-append front (row_bytes bytes
+          (take i xs)),
+    )
 
 module _ {A : Type 0} (bytes : A → List ℕ) (xs : List A) (front : List ℕ) {now : List ℕ} where
   pub pushed-none : now ≡ front → now ≡ front ++ row_bytes bytes (take 0 xs)

@@ -118,7 +118,7 @@ SaysDead (refused n p) = ⊥
 abbrev pub AgreeWhereSettled : Type 0
 AgreeWhereSettled =
     (b : Board) (h : Kept) (r : ℕ) (n : Which) (w : ℕ) (e : Winding) (v : Verdict)
-        (a : Result code-judgement.Judgement Refusal)
+    (a : Result code-judgement.Judgement Refusal)
     → Judges b h r n w v
     → JudgesAtOnce b h r n a
     → AcceptedWinding b h r n e

@@ -25,6 +25,7 @@ module _ {A : Type 0} where
       → drop at (take n s) ≡ xs
   piece_between s at n xs rest stands next =
       rw next (sym (take-drop at (length xs) s) ∙ ap (take (length xs)) stands ∙ take-append_seam xs rest)
+
   -- a piece that was written stands there
   pub drop_sets : (l : List A) (i : ℕ) (xs : List A) → i + length xs ≤ length l
       → drop i (sets l i xs) ≡ xs ++ drop (i + length xs) l

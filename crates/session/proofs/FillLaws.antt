@@ -61,7 +61,7 @@ module _ (out : List ℕ) (at : ℕ) where
   unfolding next_line
   call_behind z s o out' r called back =
       let lent = called ∙ ap (λ (p : List ℕ). carrying (told_session z) (line_handed z.board
-          (told_ahead z.ahead) s p)) part-lent in
+      (told_ahead z.ahead) s p)) part-lent in
       ap (handed_on r) (back ∙ part_back o)
       ∙ ap (λ (h : Handed).
       behind (take at out) (record { ahead = h.session.ahead; answer = h.answer; out = h.out })) lent

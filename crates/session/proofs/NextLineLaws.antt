@@ -56,7 +56,7 @@ module _ (b : Board) (a : Ahead) (s out : List ℕ) where
 
         pub line_handed_written : (k : ℕ) → o ≡ given k
             → told_line_handed a (Result.Ok (Some (record { length = k; ahead = n.ahead }))) out'
-              ≡ line_handed b a s out
+            ≡ line_handed b a s out
         unfolding handed_by
         line_handed_written k said =
             let long = given_injective _ _ (sym said ∙ ap (λ (y : Outcome ℕ × List ℕ). y.0) put_as) in

@@ -40,5 +40,5 @@ returns c =
     pushed-all number_bytes _ _ c.loop-field-test.false c.loop-field.invariant
     ∙ ap (λ vs. c.args.file.now.items ++ number_bytes (kind_number c.args.part.kind) ++ numbers_bytes vs) same
     ∙ append_assoc c.args.file.now.items (number_bytes (kind_number c.args.part.kind)) (numbers_bytes
-      (fields_of c.args.part))
+    (fields_of c.args.part))
     ∙ ap (λ l. c.args.file.now.items ++ l) (sym (part_bytes_are c.args.part))

@@ -8,4 +8,4 @@ use Rattle.board_writer.proofs.push_part.Given as goal
 abbrev pub invariant-loop-field : goal.invariant-loop-field
 invariant-loop-field l =
     l.file.items ≡ l.fn.file.items ++ number_bytes (kind_number l.fn.part.kind)
-        ++ row_bytes number_bytes (take l.field-index l.field-items)
+    ++ row_bytes number_bytes (take l.field-index l.field-items)

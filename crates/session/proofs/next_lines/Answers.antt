@@ -12,7 +12,7 @@ overflow_add-used c =
     let so = c.loop-length.invariant in
     let goes =
     step_goes c.args.session _ _ _ _ _ so.board so.filled _ _ c.next_line-handed.ensures c.in-Ok-Some.length
-        (search rules) in
+    (search rules) in
     omega (arith, goes.filled_on.within)
 
 pub loop-length-smaller : goal.loop-length-smaller
@@ -20,7 +20,7 @@ loop-length-smaller c =
     let so = c.loop-length.invariant in
     let goes =
     step_goes c.args.session _ _ _ _ _ so.board so.filled _ _ c.next_line-handed.ensures c.in-Ok-Some.length
-        (search rules) in
+    (search rules) in
     omega (arith, goes.filled_on.within, goes.grows)
 
 pub loop-length-preserved : goal.loop-length-preserved

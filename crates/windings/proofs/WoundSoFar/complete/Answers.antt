@@ -11,5 +11,5 @@ returns c =
     every-from_all (wound c.args.self) c.args.relays _
     (cases_from_all _ _ _ (λ x. wound c.args.self x ≡ true) (λ x. wound c.args.self x ≡ false) c.all.ensures.ran
     (YieldsList-from_range 0 c.args.relays c.args.relays (rw c.from.ensures refl) (omega arith))
-        (λ x q k. search (rules, tests))
+    (λ x q k. search (rules, tests))
     (λ x q k. search (rules, tests)))
