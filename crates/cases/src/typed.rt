@@ -47,6 +47,13 @@ impl Case {
         }
     }
 
+    // Begins the next case.
+    fn clear(&mut self) {
+        self.bytes.clear();
+        self.half = None;
+        self.sets = 0;
+    }
+
     // Whether nothing is typed yet.
     fn is_fresh(&self) -> bool {
         self.bytes.is_empty() && self.half.is_none()
@@ -132,7 +139,7 @@ where
             b':' if besides == Besides::Sets => {
                 if !case.end_sets() {
                     writeln!(out, "bad text")?;
-                    case = Case::fresh();
+                    case.clear();
                 }
             }
             _ => {
@@ -143,7 +150,7 @@ where
                     let (sets, asked) = bytes.split_at(case.sets.min(bytes.len()));
                     answer(out, character, sets, asked)?;
                 }
-                case = Case::fresh();
+                case.clear();
             }
         }
     }

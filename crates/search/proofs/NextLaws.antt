@@ -1,4 +1,4 @@
--- Laws of the next neighbour to which a chain can go on: what `walk::next_member` needs, and that the numbers passed
+-- Laws of the next neighbour to which a chain can go on: what `Walk::next_member` needs, and that the numbers passed
 -- over add no chain.
 use Prim.Native.Nat.{ℕ, zero, suc, ◌+◌, ◌-◌, ◌<◌, ◌≤◌}
 use native.Mathlib.Omega.{arith}

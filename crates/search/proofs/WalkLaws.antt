@@ -1,4 +1,4 @@
--- Laws of the chain walk, one for each way out of `walk::enter` and `walk::try_next`: what has been walked, followed by
+-- Laws of the chain walk, one for each way out of `Walk::enter` and `Walk::try_next`: what has been walked, followed by
 -- what is left to walk, is the scan of the definition's list.
 use Prim.Native.Nat.{ℕ, zero, suc, ◌+◌, ◌-◌, ◌*◌, ◌<◌, ◌≤◌}
 use native.Mathlib.Omega.{arith}

@@ -42,97 +42,83 @@ impl Walked {
     }
 }
 
-// The lowest member of the set from n up that is below the number of terminals, if there is one.
-fn next_member(set: u64, n: u8, terminals: u8) -> Option<u8>
-    requires n_within { n ≤ terminals }
-    requires terminals_few { terminals ≤ most_terminals }
-    ensures lowest { unwrap_or result terminals ≡ first_from (member set) (terminals - n) n }
-    ensures below { IfSome result (λ x. x < terminals) }
-{
-    match bits::lowest_from(set, u32::from(n)) {
-        Some(next) if next < u32::from(terminals) => Some(next as u8),
-        _ => None,
-    }
-}
-
-// Enters the terminal at which the chain ends: counts the chain, looks whether it shows the winding, and goes on from
-// it. The chain's terminals stand in the first of the lent places, and stay there.
-#[cycle(enter_try_next)]
-fn enter(
-    near: &[u64; 64],
+// What a walk goes by: the sets of neighbours of so many terminals, and the winding.
+#[derive(Clone, Copy)]
+struct Walk<'n> {
+    near: &'n [u64; 64],
     terminals: u8,
     winding: Winding,
-    chain: Chain,
-    left: u32,
-    places: &mut [u8; 64],
-) -> Walked
-    requires terminals_few { terminals ≤ most_terminals }
-    requires carries { Carries winding chain places.old }
-    ensures { WalkComes result chain places.old places.new
-        (entered near.now terminals winding (path_in chain places.old) left) }
-{
-    let length = chain.length;
-    if left == 0 {
-        return Walked::at(length, Scan::AllowanceSpent, left);
-    }
-    let left = left - 1;
-    if chain.end == MINUS {
-        if chain.beside {
-            return Walked::at(length, Scan::Showing, left);
+    ghost few: { terminals ≤ most_terminals },
+}
+
+impl Walk<'_> {
+    // The lowest member of the set from n up that is below the number of terminals, if there is one.
+    fn next_member(&self, set: u64, n: u8) -> Option<u8>
+        requires n_within { n ≤ self.now.terminals }
+        ensures lowest { unwrap_or result self.now.terminals
+            ≡ first_from (member set) (self.now.terminals - n) n }
+        ensures below { IfSome result (λ x. x < self.now.terminals) }
+    {
+        match bits::lowest_from(set, u32::from(n)) {
+            Some(next) if next < u32::from(self.terminals) => Some(next as u8),
+            _ => None,
         }
-        return Walked::at(length, Scan::ShowingNone, left);
     }
-    if usize::from(terminals) <= length {
-        return Walked::at(length, Scan::ShowingNone, left);
-    }
-    try_next(near, terminals, winding, chain, 0, left, places)
-}
 
-// Tries the next neighbour, from the number n up, to which the chain can go on.
-#[cycle(enter_try_next)]
-fn try_next(
-    near: &[u64; 64],
-    terminals: u8,
-    winding: Winding,
-    chain: Chain,
-    n: u8,
-    left: u32,
-    places: &mut [u8; 64],
-) -> Walked
-    requires terminals_few { terminals ≤ most_terminals }
-    requires carries { Carries winding chain places.old }
-    requires length_below { chain.length < terminals }
-    requires n_within { n ≤ terminals }
-    ensures { WalkComes result chain places.old places.new
-        (tried near.now terminals winding (path_in chain places.old) n left) }
-{
-    let length = chain.length;
-    let unmet = bits::remaining(near[usize::from(chain.end)], chain.met);
-    let Some(next) = next_member(unmet, n, terminals) else {
-        return Walked::at(length, Scan::ShowingNone, left);
-    };
-    places[length] = next;
-    let longer = chain.on_to(winding, next);
-    let walked = enter(near, terminals, winding, longer, left, places);
-    let Scan::ShowingNone = walked.found else {
-        return walked;
-    };
-    // The chain as it was, field by field: handed on whole, it would be copied through memory at each call.
-    let again = Chain {
-        length,
-        end: chain.end,
-        met: chain.met,
-        beside: chain.beside,
-    };
-    try_next(
-        near,
-        terminals,
-        winding,
-        again,
-        next + 1,
-        walked.left,
-        places,
-    )
+    // Enters the terminal at which the chain ends: counts the chain, looks whether it shows the winding, and goes on
+    // from it. The chain's terminals stand in the first of the lent places, and stay there.
+    #[cycle(enter_try_next)]
+    fn enter(&self, chain: Chain, left: u32, places: &mut [u8; 64]) -> Walked
+        requires carries { Carries self.now.winding chain places.old }
+        ensures { WalkComes result chain places.old places.new
+            (entered self.now.near.now self.now.terminals self.now.winding (path_in chain places.old) left) }
+    {
+        let length = chain.length;
+        if left == 0 {
+            return Walked::at(length, Scan::AllowanceSpent, left);
+        }
+        let left = left - 1;
+        if chain.end == MINUS {
+            if chain.beside {
+                return Walked::at(length, Scan::Showing, left);
+            }
+            return Walked::at(length, Scan::ShowingNone, left);
+        }
+        if usize::from(self.terminals) <= length {
+            return Walked::at(length, Scan::ShowingNone, left);
+        }
+        self.try_next(chain, 0, left, places)
+    }
+
+    // Tries the next neighbour, from the number n up, to which the chain can go on.
+    #[cycle(enter_try_next)]
+    fn try_next(&self, chain: Chain, n: u8, left: u32, places: &mut [u8; 64]) -> Walked
+        requires carries { Carries self.now.winding chain places.old }
+        requires length_below { chain.length < self.now.terminals }
+        requires n_within { n ≤ self.now.terminals }
+        ensures { WalkComes result chain places.old places.new
+            (tried self.now.near.now self.now.terminals self.now.winding (path_in chain places.old) n left) }
+    {
+        let length = chain.length;
+        let unmet = bits::remaining(self.near[usize::from(chain.end)], chain.met);
+        let Some(next) = self.next_member(unmet, n) else {
+            return Walked::at(length, Scan::ShowingNone, left);
+        };
+        places[length] = next;
+        let longer = chain.on_to(self.winding, next);
+        let walked = self.enter(longer, left, places);
+        let Scan::ShowingNone = walked.found else {
+            return walked;
+        };
+        // The chain as it was, field by field: handed on whole, it would be copied through memory at each call.
+        let again = Chain {
+            length,
+            end: chain.end,
+            met: chain.met,
+            beside: chain.beside,
+        };
+        self.try_next(again, next + 1, walked.left, places)
+    }
 }
 
 // The first of the places as they are, the others 0.
@@ -180,8 +166,13 @@ pub fn from_plus(near: &[u64; 64], terminals: u8, winding: Winding, allowance: u
     requires { terminals ≤ most_terminals }
     ensures { told_verdict result ≡ verdict_by near.now terminals winding allowance }
 {
+    let walk = Walk {
+        near,
+        terminals,
+        winding,
+    };
     let chain = Chain::at_plus();
     let mut places = [0u8; 64];
-    let walked = enter(near, terminals, winding, chain, allowance, &mut places);
+    let walked = walk.enter(chain, allowance, &mut places);
     verdict(walked, places, allowance)
 }
