@@ -46,10 +46,11 @@ def tabled():
 
 
 def has_code(crate):
-    """Whether a file of the crate's code has a line that is not a comment, nor the one that has the check try its
-    tactics."""
-    lines = [line.strip() for name in repository.files(crate, "src") for line in repository.text(name).split("\n")]
-    return any(line and not line.startswith("//") and line != "#![tactic(auto)]" for line in lines)
+    """Whether a file of the crate's code has a line that is not a comment, an import of definitions, a theorem, nor the
+    line that has the check try its tactics."""
+    text = "\n".join(repository.text(name) for name in repository.files(crate, "src"))
+    lines = [line.strip() for line in repository.without_theorems(text).split("\n")]
+    return any(line and not line.startswith(("//", "ghost use ")) and line != "#![tactic(auto)]" for line in lines)
 
 
 wings, depends = listed()

@@ -1,8 +1,9 @@
-"""Each function that another crate can call has one promise, under one name: its `ensures` is exactly that named relation, of
-the call's arguments in their order, the answer, and what a lent buffer holds afterwards. The relation is defined once, in the
-crate's own specs/, and the proved list of laws of one answer (crates/demands/specs/OneAnswer.antt, proofs/OneAnswer.antt) has a
-line over that name at any arguments, and lines for nothing else. docs/PROMISES.md has a row for it that names the relation, that
-line and at least two must-fail edits, all of which exist, and it names every edit. A call that refuses has its rows in demand 1."""
+"""Each function of the library that another crate can call has one promise, under one name: its `ensures` is exactly that named
+relation, of the call's arguments in their order, the answer, and what a lent buffer holds afterwards. The relation is defined
+once, in the crate's own specs/, and the proved list of laws of one answer (crates/demands/specs/OneAnswer.antt,
+proofs/OneAnswer.antt) has a line over that name at any arguments, and lines for nothing else. docs/PROMISES.md has a row for it
+that names the relation, that line and at least two must-fail edits, all of which exist, and it names every edit. A call that
+refuses has its rows in demand 1."""
 import os
 import re
 import sys
@@ -13,7 +14,7 @@ import repository
 # What the programs share is no part of the library: its functions promise what they do, and have no line in the list. And one line
 # of the list is of a promise that std's `u32::from` keeps today.
 PROGRAMS_OWN = ["cases"]
-KIT_PROMISE = "bits_wide"
+KIT_PROMISE = ("bits_wide", "(x : ℕ) → x < 256 → One (WideByte x)")
 REFUSING = "WritesNumber WritesLine Writes Pushes Releases Judges Moves Runs RunLine EventLine NextLine NextLines".split()
 
 page = repository.text("docs", "PROMISES.md")
@@ -64,8 +65,7 @@ def says_one(line, relation, contract):
     names = " ".join(binders).split()
     law = "OneLent" if "&mut " in contract else "One"
     said = f"({relation} {' '.join(names)})" if names else relation
-    whole = "".join(re.findall(r"^\{\w+ : Type 0\} ", line))
-    whole += "".join(f"({group}) " for group in re.findall(r"\(([\w ]+ : [\w ]+)\)", line))
+    whole = "".join(f"({group}) " for group in re.findall(r"\(([\w ]+ : [\w ]+)\)", line))
     return len(names) == len(set(names)) == len(parameters(contract)) and line == (f"{whole}→ {law} {said}" if names else f"{law} {said}")
 
 
@@ -102,7 +102,8 @@ for relation in REFUSING + ["JudgesAtOnce", "ChecksTerminal"]:
 for relation in REFUSING + ["Reads"]:
     checks.append((f"AsLent has a row for {relation}", re.search(rf"→ {relation} ", bodies["AsLent"]) is not None))
 for line in listed:
-    checks.append((f"{line} of the list is a public function", line in {line_of(name) for name in public} | {KIT_PROMISE}))
+    checks.append((f"{line} of the list is a public function", line in {line_of(name) for name in public} | {KIT_PROMISE[0]}))
+checks.append((f"{KIT_PROMISE[0]} of the list says {KIT_PROMISE[1]}", " ".join(listed.get(KIT_PROMISE[0], "").split()) == KIT_PROMISE[1]))
 for crate in PROGRAMS_OWN:
     for label in repository.edits(crate):
         checks.append((f"docs/PROMISES.md names the edit {label} of {crate}", f"`{label}`" in page))

@@ -1,6 +1,6 @@
 // What a case hands in: numbers, a board that may break a rule, and kept sets. Bytes that are not given are 0.
 ghost use Rattle.std.specs.Prelude.{◌≡◌, ◌≤◌};
-ghost use Rattle.cases.specs.Handed.{given, handed_part, handed_start, GivesNumber, HandsBoard, HandsKept};
+ghost use Rattle.cases.specs.Handed.{byte_given, handed_part, handed_start, GivesNumber, HandsBoard, HandsKept};
 
 use board::{Board, Counts, MOST_PARTS, Part};
 use kept::Kept;
@@ -10,12 +10,12 @@ use state::State;
 
 // The byte at a place.
 fn byte_at(bytes: &[u8], at: usize) -> u8
-    ensures { result ≡ given bytes.now at }
+    ensures { result ≡ byte_given bytes.now at }
 {
     bytes.get(at).copied().unwrap_or(0)
 }
 
-// The number of three bytes, highest first, at a place.
+// The number of three bytes, highest first, at a place, which is one of the first 256.
 pub fn number_at(bytes: &[u8], at: u8) -> u32
     ensures { GivesNumber bytes.now at result }
 {

@@ -1,4 +1,41 @@
 // The front page: the user's three demands and the requests A9 and A10 as theorems over the public calls, the starred
-// boards as one table, and that every promise allows one answer only. There is no code here; specs/ has the statements,
-// proofs/ the theorems of the same names.
+// boards as one table, and that every promise allows one answer only. There is no code here: each function is a
+// theorem's name in the check's verdict, and its contract the statement; specs/ has the statements, proofs/ the theorems.
 #![tactic(auto)]
+
+ghost use Rattle.demands.specs.AsTheModelSays.{AsTheModelSays};
+ghost use Rattle.demands.specs.EveryCallComesBack.{EveryCallComesBack};
+ghost use Rattle.demands.specs.InAnyOrder.{InAnyOrder};
+ghost use Rattle.demands.specs.LargerNeverChanges.{LargerNeverChanges};
+ghost use Rattle.demands.specs.Starred.{Starred};
+ghost use Rattle.demands.specs.WhateverIsPushed.{WhateverIsPushed};
+
+// Demand 1.
+pub fn every_call_comes_back()
+    ensures { EveryCallComesBack }
+{}
+
+// Demand 2.
+pub fn as_the_model_says()
+    ensures { AsTheModelSays }
+{}
+
+// Demand 3.
+pub fn larger_never_changes()
+    ensures { LargerNeverChanges }
+{}
+
+// The rule book's boards to try.
+pub fn starred_boards()
+    ensures { Starred }
+{}
+
+// Request A9.
+pub fn in_any_order()
+    ensures { InAnyOrder }
+{}
+
+// Request A10.
+pub fn whatever_is_pushed()
+    ensures { WhateverIsPushed }
+{}

@@ -13,16 +13,18 @@ pub struct Asked {
     pub number: u32,
 }
 
-// What a case of these bytes hands in, with the kept sets before its colon.
-pub fn of(sets: &[u8], bytes: &[u8]) -> Asked {
-    let board = handed::board(bytes.get(9..).unwrap_or(b""));
-    let state = State {
-        drawn: u64::from(handed::number_at(bytes, 0)),
-        pushed: u64::from(handed::number_at(bytes, 3)),
-    };
-    Asked {
-        board,
-        kept: handed::kept(board, state, sets),
-        number: handed::number_at(bytes, 6),
+impl Asked {
+    // What a case of these bytes hands in, with the kept sets before its colon.
+    pub fn of(sets: &[u8], bytes: &[u8]) -> Self {
+        let board = handed::board(bytes.get(9..).unwrap_or(b""));
+        let state = State {
+            drawn: u64::from(handed::number_at(bytes, 0)),
+            pushed: u64::from(handed::number_at(bytes, 3)),
+        };
+        Asked {
+            board,
+            kept: handed::kept(board, state, sets),
+            number: handed::number_at(bytes, 6),
+        }
     }
 }

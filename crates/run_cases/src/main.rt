@@ -13,28 +13,19 @@ mod print_left;
 mod report_case;
 mod run_case;
 
+use asked::Asked;
 use cases::typed::{self, Besides};
-use press_case::print_pressed;
 use std::io;
 use std::io::Write;
 
 // Answers the case that this character ends.
 fn answer<W: Write>(out: &mut W, character: u8, sets: &[u8], case: &[u8]) -> io::Result<()> {
-    let asked = asked::of(sets, case);
     match character {
-        b'+' => print_pressed(
-            out,
-            asked,
-            presses::push(asked.board, asked.kept, asked.number),
-        ),
-        b'-' => print_pressed(
-            out,
-            asked,
-            presses::release(asked.board, asked.kept, asked.number),
-        ),
-        b'^' => move_case::answer_move(out, asked),
-        b'=' => run_case::answer_run(out, asked),
-        b'%' => report_case::answer_report(out, asked),
+        b'+' => press_case::answer_push(out, Asked::of(sets, case)),
+        b'-' => press_case::answer_release(out, Asked::of(sets, case)),
+        b'^' => move_case::answer_move(out, Asked::of(sets, case)),
+        b'=' => run_case::answer_run(out, Asked::of(sets, case)),
+        b'%' => report_case::answer_report(out, Asked::of(sets, case)),
         _ => writeln!(out, "bad text"),
     }
 }

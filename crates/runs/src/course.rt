@@ -47,7 +47,7 @@ pub fn follow<const WORDS: usize>(
             break 'run (Ending::Buzz, NO_RELAY, moves - ago, ago);
         }
         let feed = feed::feed_by(kept.sets, board.counts.terminals);
-        'scan: for relay in 0..relays {
+        for relay in 0..relays {
             let drawn = state.is_drawn(u32::from(relay));
             let motion = moves::step(&feed, windings[usize::from(relay)], drawn);
             match motion {

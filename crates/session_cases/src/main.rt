@@ -30,26 +30,20 @@ fn read_full<R: Read>(reader: &mut R, buffer: &mut [u8]) -> io::Result<bool>
     }
 }
 
-// The length before a session, in four bytes, lowest first. Where the stream ends, there is none.
-fn read_length<R: Read>(reader: &mut R) -> io::Result<Option<usize>> {
-    let mut bytes = [0; 4];
-    let full = read_full(reader, &mut bytes)?;
-    Ok(full.then_some(u32::from_le_bytes(bytes) as usize))
-}
-
-// Reads the next session into the start of a buffer, and answers how many bytes it has; nothing where the stream ends,
-// or the length is larger than the buffer.
+// Reads the next session into the start of a buffer, after its length in four bytes, lowest first, and answers how many
+// bytes it has; nothing where the stream ends, or the length is larger than the buffer.
 fn read_session<R: Read>(reader: &mut R, buffer: &mut [u8]) -> io::Result<Option<usize>>
     ensures { IfOk result (λ next. IfSome next (λ n. n ≤ length buffer.old)) }
 {
-    let Some(length) = read_length(reader)? else {
-        return Ok(None);
-    };
+    let mut bytes = [0; 4];
+    let told = read_full(reader, &mut bytes)?;
+    let [low, middle, high, beyond] = bytes;
+    let length = u32::from_le_bytes([low, middle, high, 0]) as usize;
     if buffer.len() < length {
         return Ok(None);
     }
     let full = read_full(reader, &mut buffer[..length])?;
-    Ok(full.then_some(length))
+    Ok((told && beyond == 0 && full).then_some(length))
 }
 
 // Prints the lines of a session.
