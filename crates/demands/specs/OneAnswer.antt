@@ -36,6 +36,7 @@ use Rattle.kept.specs.Upkeep.{KeptChanged}
 use Rattle.reach.specs.Floods.{Floods}
 use Rattle.search.specs.declared.Winding.{Winding}
 use Rattle.search.specs.Verdicts.{Searches}
+use Rattle.feed.specs.declared.Feed.{Feed}
 use Rattle.feed.specs.Feeds.{ReachedWithout, Feeds, LiveBy}
 use Rattle.judge.specs.declared.Which.{Which}
 use Rattle.judge.specs.declared.Windings.{Windings}
@@ -118,7 +119,7 @@ pub record OneAnswer : Type 0 where
   pub search_search : (near : List ℕ) (t : ℕ) (v : Winding) (w : ℕ) → One (Searches near t v w)
   pub feed_reached_without : (near : List ℕ) (x : ℕ) → One (ReachedWithout near x)
   pub feed_feed_by : (k : Sets) (t : ℕ) → One (Feeds k t)
-  pub feed_is_live : (s : ℕ) (l : List ℕ) (v : Winding) → One (LiveBy s l v)
+  pub feed_is_live : (f : Feed) (v : Winding) → One (LiveBy f v)
   pub judge_find_windings : (b : Board) (r : ℕ) → One (FindsWindings b r)
   pub judge_find_all_windings : (b : Board) → One (FindsAllWindings b)
   pub judge_winding_for : (b : Board) (h : Kept) (r : ℕ) (k : Which) → One (AsksFor b h r k)
@@ -128,7 +129,7 @@ pub record OneAnswer : Type 0 where
   pub divide_check : (b : Board) (h : Kept) (r : ℕ) (k : Which) (x : ℕ) → One (ChecksTerminal b h r k x)
   pub presses_push : (b : Board) (h : Kept) (n : ℕ) → One (Pushes b h n)
   pub presses_release : (b : Board) (h : Kept) (n : ℕ) → One (Releases b h n)
-  pub moves_step : (n : ℕ) (l : List ℕ) (x : Option Windings) (d : Bool) → One (StepsRelay n l x d)
+  pub moves_step : (f : Feed) (x : Option Windings) (d : Bool) → One (StepsRelay f x d)
   pub moves_after : (b : Board) (h : Kept) (r : ℕ) (m : Move) → One (AfterMove b h r m)
   pub moves_move_relay : (b : Board) (h : Kept) (r : ℕ) → One (Moves b h r)
   pub runs_run : (b : Board) (h : Kept) (log : List ℕ) → OneLent (Runs b h log)

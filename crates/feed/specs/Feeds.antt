@@ -19,8 +19,7 @@
 --     ReachedWithout near x r
 --                              promise: `reached_without` x over the sets `near` answers r
 --     Feeds k t r              promise: `feed_by` the sets k of t terminals answers r
---     LiveBy s l v r           promise: `is_live` of winding v, with the served terminals s and the linked ones l,
---                              answers r
+--     LiveBy f v r             promise: `is_live` of winding v, by any served and linked terminals f, answers r
 -- What the functions of this crate promise each other:
 --     LowerKnown bare l x      in l each terminal below x has those that are linked to it
 -- `judge_means` shows of a board that breaks no rule that these are the served and the linked terminals, `moves_means`
@@ -82,5 +81,5 @@ ReachedWithout near x r = r ≡ reached_without near x
 abbrev pub Feeds : Sets → ℕ → Feed → Type 0
 Feeds k t r = r ≡ feed_of k t
 
-abbrev pub LiveBy : ℕ → List ℕ → Winding → Bool → Type 0
-LiveBy s l v r = r ≡ live_by s l v
+abbrev pub LiveBy : Feed → Winding → Bool → Type 0
+LiveBy f v r = r ≡ live_by f.served f.linked v

@@ -97,12 +97,14 @@ fn is_linked(linked: &[u64; 64], winding: Winding) -> bool
     winding.a < MOST_TERMINALS && bits::has(linked[usize::from(winding.a)], u32::from(winding.b))
 }
 
-// Whether a winding is live: it is not shunted, and both its ends are served.
-#[tactic(auto, unfolding(crate::specs::Feeds::live_by))]
-pub fn is_live(served: u64, linked: &[u64; 64], winding: Winding) -> bool
-    ensures { LiveBy served linked.now winding result }
-{
-    !is_linked(linked, winding)
-        && bits::has(served, u32::from(winding.a))
-        && bits::has(served, u32::from(winding.b))
+impl Feed {
+    // Whether a winding is live: it is not shunted, and both its ends are served.
+    #[tactic(auto, unfolding(crate::specs::Feeds::live_by))]
+    pub fn is_live(&self, winding: Winding) -> bool
+        ensures { LiveBy self.now winding result }
+    {
+        !is_linked(&self.linked, winding)
+            && bits::has(self.served, u32::from(winding.a))
+            && bits::has(self.served, u32::from(winding.b))
+    }
 }

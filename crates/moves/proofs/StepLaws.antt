@@ -3,7 +3,6 @@
 use Prim.Native.Nat.{ℕ, ◌<◌}
 use mathlib.Core.Path.{◌≡◌, refl, ap, ◌∙◌}
 use mathlib.Core.Bool.{Bool, true}
-use mathlib.Core.List.{List}
 use Rattle.board.specs.declared.Counts.{Counts}
 use Rattle.board.specs.declared.Board.{Board}
 use Rattle.board.specs.Parts.{parts_of}
@@ -18,7 +17,8 @@ use Rattle.kept.specs.Upkeep.{changed_to}
 use Rattle.kept.specs.Kept.{kept_at}
 use Rattle.kept.proofs.UpkeepLaws.{relay-kept}
 use Rattle.search.specs.declared.Winding.{Winding}
-use Rattle.feed.specs.Feeds.{served, linked, live_by}
+use Rattle.feed.specs.declared.Feed.{Feed}
+use Rattle.feed.specs.Feeds.{feed_of, live_by}
 use Rattle.judge.specs.RelayWindings.{OfRelay, windings_at}
 use Rattle.moves.specs.declared.Move as code-move
 use Rattle.moves.specs.declared.Move.TheVariants.{Drew, Dropped}
@@ -35,11 +35,11 @@ unfolding step_of
 step_by_lem b s r k m own is = rw own at is
 
 -- by what was worked out of the sets k, and the windings x of the relay
-pub step_worked : (k : Sets) (b : Board) (s : State) (r n : ℕ) (l : List ℕ) (x : OfRelay Winding) (d : Bool) (m : Move)
-    → n ≡ served k.near b.counts.terminals → l ≡ linked k.bare b.counts.terminals
-    → x ≡ windings_at r (parts_of b) → d ≡ is_drawn s r → m ≡ move_by (live_by n l) d x → m ≡ step_by k b s r
+pub step_worked : (k : Sets) (b : Board) (s : State) (r : ℕ) (f : Feed) (x : OfRelay Winding) (d : Bool) (m : Move)
+    → f ≡ feed_of k b.counts.terminals → x ≡ windings_at r (parts_of b) → d ≡ is_drawn s r
+    → m ≡ move_by (live_by f.served f.linked) d x → m ≡ step_by k b s r
 unfolding step_by taken_live
-step_worked k b s r n l x d m serves links winds drawn is = rw (serves, links, winds, drawn) at is
+step_worked k b s r f x d m worked winds drawn is = rw (worked, winds, drawn) at is
 
 -- where it is known which windings x the relay has
 pub step_windings : (b : Board) (s : State) (r : ℕ) (x : OfRelay Winding) → windings_at r (parts_of b) ≡ x

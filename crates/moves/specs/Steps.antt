@@ -15,11 +15,11 @@
 --     made s r m                the state after relay r came to m: "A move changes that relay and nothing else"
 --     kept_made b h r m         the same with the kept sets: where it moved, they are kept up with it (request A5)
 --     told_move                 the answer's cases in the rule book's words
---     StepsRelay n l x d m      promise: `step` of a relay with the windings x, drawn if d, with the served terminals n
---                               and the linked ones l, answers m
+--     StepsRelay f x d m        promise: `step` of a relay with the windings x, drawn if d, by any served and linked
+--                               terminals f, answers m
 --     AfterMove b h r m t       promise: `after` relay r of board b came to m from h answers t
 -- `moves_means` shows that a winding is taken for live exactly if the judge of `divide` says that it is.
-use Rattle.std.specs.Prelude.{ℕ, ◌≡◌, Bool, not, cond, ◌&&◌, List, Option}
+use Rattle.std.specs.Prelude.{ℕ, ◌≡◌, Bool, not, cond, ◌&&◌, Option}
 use Rattle.board.specs.declared.Board.{Board}
 use Rattle.board.specs.Parts.{parts_of}
 use Rattle.state.specs.declared.State.{State}
@@ -30,6 +30,7 @@ use Rattle.kept.specs.declared.Kept.{Kept}
 use Rattle.kept.specs.declared.Change.TheVariants.{Relay}
 use Rattle.kept.specs.Upkeep.{changed_to}
 use Rattle.search.specs.declared.Winding.{Winding}
+use Rattle.feed.specs.declared.Feed.{Feed}
 use Rattle.feed.specs.Feeds.{served, linked, live_by}
 use Rattle.judge.specs.declared.Windings.{Windings}
 use Rattle.judge.specs.RelayWindings.{OfRelay, regular, steel, absent, windings_at, told_windings}
@@ -77,8 +78,8 @@ told_move said.Dropped = dropped
 told_move said.Rests = rests
 told_move said.Conflict = conflict
 
-abbrev pub StepsRelay : ℕ → List ℕ → Option Windings → Bool → code-move.Move → Type 0
-StepsRelay n l x d m = told_move m ≡ move_by (live_by n l) d (told_windings x)
+abbrev pub StepsRelay : Feed → Option Windings → Bool → code-move.Move → Type 0
+StepsRelay f x d m = told_move m ≡ move_by (live_by f.served f.linked) d (told_windings x)
 
 abbrev pub AfterMove : Board → Kept → ℕ → code-move.Move → Kept → Type 0
 AfterMove b h r m t = t ≡ kept_made b h r (told_move m)

@@ -9,6 +9,7 @@ ghost use Rattle.moves.specs.Steps.{AfterMove};
 ghost use Rattle.moves.specs.Moving.{movable, Moves};
 
 use board::Board;
+use feed::Feed;
 use judge::Windings;
 use kept::{Change, Kept};
 use refusals::{No, Refusal, unless};
@@ -56,14 +57,14 @@ fn steel(drawn: bool, drawing: bool, dropping: bool) -> Move
 
 // What a relay does, drawn or not, by its windings: each is live or dead by the served terminals and those linked to
 // each terminal. What the board lacks rests.
-pub fn step(served: u64, linked: &[u64; 64], windings: Option<Windings>, drawn: bool) -> Move
-    ensures { StepsRelay served linked.now windings drawn result }
+pub fn step(feed: &Feed, windings: Option<Windings>, drawn: bool) -> Move
+    ensures { StepsRelay feed.now windings drawn result }
 {
     match windings {
-        Some(Windings::Regular(winding)) => regular(drawn, feed::is_live(served, linked, winding)),
+        Some(Windings::Regular(winding)) => regular(drawn, feed.is_live(winding)),
         Some(Windings::Steel { drawing, dropping }) => {
-            let live = feed::is_live(served, linked, drawing);
-            steel(drawn, live, feed::is_live(served, linked, dropping))
+            let live = feed.is_live(drawing);
+            steel(drawn, live, feed.is_live(dropping))
         }
         None => Move::Rests,
     }
@@ -76,7 +77,7 @@ fn step_by(board: Board, kept: Kept, relay: u32) -> Move
     let feed = feed::feed_by(kept.sets, board.counts.terminals);
     let windings = judge::find_windings(board, relay);
     let drawn = kept.state.is_drawn(relay);
-    step(feed.served, &feed.linked, windings, drawn)
+    step(&feed, windings, drawn)
 }
 
 // The state and the kept sets after a relay came to this: drawn or dropped, with the sets kept up with it, or as they

@@ -1,7 +1,7 @@
 -- A relay moves by what the judge of `divide` says of its windings. Request A6: "Runs and single moves use the new
 -- judge." Over the calls, whatever they answer under their promises.
 --     says_live o       the judgement o is live; shunted and dead are not
---     TakenAsTold       what a step takes a winding for, by `feed::feed_by` of the state's sets and `feed::is_live`, is
+--     TakenAsTold       what a step takes a winding for, by `feed::feed_by` of the state's sets and its `is_live`, is
 --                       exactly whether `divide::judge` says that it is live
 --     RegularAsTold     the word of `moves::move_relay` on a regular relay is what a regular relay does, drawn or not,
 --                       by what the judge says of its winding
@@ -39,7 +39,7 @@ TakenAsTold =
     (b : Board) (h : Kept) (r : ℕ) (n : Which) (e : Winding) (f : Feed) (t : Bool)
     (j : Result code-judgement.Judgement Refusal)
     → Feeds (sets_of b h.state) b.counts.terminals f
-    → LiveBy f.served f.linked e t
+    → LiveBy f e t
     → JudgesAtOnce b h r n j
     → AcceptedWinding b h r n e
     → t ≡ says_live (told_as told_judgement j)

@@ -2,7 +2,7 @@
 -- definition of a step, by its laws.
 use Prim.Native.Nat.{ℕ, ◌<◌, ◌≤◌}
 use native.Mathlib.Omega.{arith}
-use mathlib.Core.Path.{◌≡◌, refl, sym, ap, subst}
+use mathlib.Core.Path.{◌≡◌, refl, sym, subst}
 use mathlib.Core.Bool.{Bool}
 use mathlib.Core.List.{List}
 use Rattle.std.specs.Prelude.{Option, None}
@@ -40,8 +40,7 @@ pub step_seen : (b : Board) (h : Kept) (f : Feed) (all : List (Option Windings))
     → (q : ℕ) → q < b.counts.relays → seeing f all q (is_drawn h.state q) ≡ step_of b h.state q
 step_seen b h f all own worked found most q below =
     step_by_lem b h.state q h.sets _ (kept_sets b h own)
-    (step_worked h.sets b h.state q f.served f.linked (told_windings (get_or all q beyond)) _ _
-    (ap (λ (g : Feed). g.served) worked) (ap (λ (g : Feed). g.linked) worked)
+    (step_worked h.sets b h.state q f (told_windings (get_or all q beyond)) _ _ worked
     (windings-place b all q beyond found (omega (arith, most, below)) below) refl refl)
 
 -- the arm of `match` for the relays that move

@@ -49,12 +49,7 @@ pub fn follow<const WORDS: usize>(
         let feed = feed::feed_by(kept.sets, board.counts.terminals);
         for relay in 0..relays {
             let drawn = state.is_drawn(u32::from(relay));
-            let motion = moves::step(
-                feed.served,
-                &feed.linked,
-                windings[usize::from(relay)],
-                drawn,
-            );
+            let motion = moves::step(&feed, windings[usize::from(relay)], drawn);
             match motion {
                 Move::Rests => {}
                 Move::Conflict => break 'run (Ending::Conflict, relay, 0, 0),

@@ -22,22 +22,23 @@ look_back-requires g c = search (rules, covered-spares)
 pub overflow_sub-word : goal.overflow_sub-word
 overflow_sub-word g c = search (rules, met_within)
 
-pub scan-init : goal.scan-init
-scan-init g c = search (rules, step_seen, scan_starts)
+pub loop-relay-init : goal.loop-relay-init
+loop-relay-init g c = search (rules, step_seen, scan_starts)
 
-pub scan-preserved : goal.scan-preserved
-scan-preserved g c =
-    scan_rests c.scan.invariant c.scan-test.true c.from.ensures c.from-in-scan.ensures
+pub loop-relay-preserved : goal.loop-relay-preserved
+loop-relay-preserved g c =
+    scan_rests c.loop-relay.invariant c.loop-relay-test.true c.from.ensures c.from-in-loop-relay.ensures
     c.is_drawn-drawn.ensures c.step-motion.ensures (ap told_move c.in-Rests.is)
 
 pub run-preserved : goal.run-preserved
 run-preserved g c =
-    course-moves c.scan.invariant c.run.invariant c.scan-test.true c.from.ensures c.from-in-scan.ensures
+    course-moves c.loop-relay.invariant c.run.invariant c.loop-relay-test.true c.from.ensures
+    c.from-in-loop-relay.ensures
     c.is_drawn-drawn.ensures c.step-motion.ensures (λ s. refl)
-    (omega (arith, c.scan-test.true, c.requires.relays_few)) (λ s. step_turns _ s _)
+    (omega (arith, c.loop-relay-test.true, c.requires.relays_few)) (λ s. step_turns _ s _)
     c.from-in-Drew.ensures
     (λ own. c.after-kept.ensures
-    ∙ kept_made_lem _ c.scan.kept c.from-in-Drew.result (told_move c.step-motion.result) own)
+    ∙ kept_made_lem _ c.loop-relay.kept c.from-in-Drew.result (told_move c.step-motion.result) own)
     (told-moving c.step-motion.result c.in-Drew.is)
     c.if-log-moves.false c.byte.ensures c.args.notches.now.some
     c.look_back.ensures.notched
@@ -45,16 +46,18 @@ run-preserved g c =
 pub returns-in-Some : goal.returns-in-Some
 returns-in-Some g c = course_buzz c.run.invariant (sym c.in-Some.is ∙ c.look_back.ensures.looked_back)
 
-pub returns-after-scan : goal.returns-after-scan
-returns-after-scan g c = course_idle c.scan.invariant c.run.invariant c.scan-test.false
+pub returns-after-loop-relay : goal.returns-after-loop-relay
+returns-after-loop-relay g c = course_idle c.loop-relay.invariant c.run.invariant c.loop-relay-test.false
 
 pub returns-in-Conflict : goal.returns-in-Conflict
 returns-in-Conflict g c =
-    course_conflict c.scan.invariant c.run.invariant c.scan-test.true c.from.ensures c.from-in-scan.ensures
+    course_conflict c.loop-relay.invariant c.run.invariant c.loop-relay-test.true c.from.ensures
+    c.from-in-loop-relay.ensures
     c.is_drawn-drawn.ensures c.step-motion.ensures
     (ap told_move c.in-Conflict.is)
 
 pub returns-then-log-moves : goal.returns-then-log-moves
 returns-then-log-moves g c =
-    course_spent c.scan.invariant c.run.invariant c.scan-test.true c.from.ensures c.from-in-scan.ensures
+    course_spent c.loop-relay.invariant c.run.invariant c.loop-relay-test.true c.from.ensures
+    c.from-in-loop-relay.ensures
     c.is_drawn-drawn.ensures c.step-motion.ensures (told-moving c.step-motion.result c.in-Drew.is) c.if-log-moves.true

@@ -11,8 +11,8 @@ use Rattle.runs.proofs.SeenLaws.{seeing}
 use Rattle.runs.proofs.CourseLaws.{Course, ScanSoFar}
 use Rattle.runs.proofs.course.follow.Given as goal
 
-abbrev pub invariant-scan : goal.invariant-scan
-invariant-scan g l =
+abbrev pub invariant-loop-relay : goal.invariant-loop-relay
+invariant-loop-relay g l =
     ScanSoFar (step_of l.board) (seeing l.feed l.windings) l.relays l.initial.log l.initial.moves l.initial.kept l.log
     l.moves l.kept l.relay
 
