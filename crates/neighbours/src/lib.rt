@@ -2,15 +2,14 @@
 // terminals, or anew between some of them.
 #![tactic(auto)]
 
-ghost use Rattle.std.specs.Prelude.{◌≡◌, length};
-ghost use Rattle.board.specs.Rules.{most_terminals};
+ghost use Rattle.std.specs.Prelude.{◌≡◌};
 ghost use Rattle.neighbours.specs.Conduction.{Conducts};
 ghost use Rattle.neighbours.specs.Neighbours.{Neighbours, Renews};
-ghost use Rattle.neighbours.specs.Rows.{GathersBy};
 
 use bare::conducts_bare;
-use board::{Board, Part};
+use board::Board;
 use kinds::Kind;
+use row::Row;
 use state::State;
 
 mod bare;
@@ -48,54 +47,33 @@ pub fn conducts(kind: Kind, state: State) -> bool
     }
 }
 
-// Joins each pair of these terminals besides that a part joins whose kind passes the test: part by part from the last.
-fn gather<J: Fn(Kind) -> bool>(near: &mut [u64; 64], at: u64, parts: &[Part], joins: J)
-    requires whole { length near.old ≡ most_terminals }
-    requires asked { J.IsAlwaysCallable joins }
-    ensures { GathersBy (J.post joins) at parts.now near.old near.new }
-{
-    for part in parts.iter().rev() {
-        if row::is_among(part, at) && joins(part.kind) {
-            row::bridge(near, part);
-        }
-    }
-}
-
 // The sets of a board in a state.
 pub fn neighbours(board: Board, state: State) -> Sets
     ensures { Neighbours board state result }
 {
-    let mut near = [0; PLACES];
-    let mut bare = [0; PLACES];
-    gather(
-        &mut near,
-        EVERYWHERE,
-        board.parts(),
-        |kind| conducts(kind, state),
-    );
-    gather(
-        &mut bare,
-        EVERYWHERE,
-        board.parts(),
-        |kind| conducts_bare(kind, state),
-    );
-    Sets { near, bare }
+    let mut near = Row { sets: [0; PLACES] };
+    let mut bare = Row { sets: [0; PLACES] };
+    near.gather(EVERYWHERE, board.parts(), |kind| conducts(kind, state));
+    bare.gather(EVERYWHERE, board.parts(), |kind| conducts_bare(kind, state));
+    Sets {
+        near: near.sets,
+        bare: bare.sets,
+    }
 }
 
 // The sets, with each pair of these terminals joined exactly if a board in a state joins it, and every other as it is.
 pub fn renew(sets: Sets, at: u64, board: Board, state: State) -> Sets
     ensures { Renews sets at board state result }
 {
-    let mut near = sets.near;
-    let mut bare = sets.bare;
-    row::clear(&mut near, at);
-    row::clear(&mut bare, at);
-    gather(&mut near, at, board.parts(), |kind| conducts(kind, state));
-    gather(
-        &mut bare,
-        at,
-        board.parts(),
-        |kind| conducts_bare(kind, state),
-    );
-    Sets { near, bare }
+    let Sets { near, bare } = sets;
+    let mut near = Row { sets: near };
+    let mut bare = Row { sets: bare };
+    near.clear(at);
+    bare.clear(at);
+    near.gather(at, board.parts(), |kind| conducts(kind, state));
+    bare.gather(at, board.parts(), |kind| conducts_bare(kind, state));
+    Sets {
+        near: near.sets,
+        bare: bare.sets,
+    }
 }

@@ -1,47 +1,68 @@
-// One row of sets, a set for each of 64 terminals, changed in place.
+// One row of sets, changed in place.
 ghost use Rattle.std.specs.Prelude.{◌≡◌, true, length};
 ghost use Rattle.board.specs.Rules.{most_terminals};
 ghost use Rattle.neighbours.specs.Neighbours.{with_other, with_part};
-ghost use Rattle.neighbours.specs.Rows.{EachSet, among, only_at, without};
+ghost use Rattle.neighbours.specs.Rows.{EachSet, GathersBy, among, only_at, without};
 
+use crate::PLACES;
 use board::{MOST_TERMINALS, Part};
+use kinds::Kind;
 
-// Parts these terminals from each other: the set of each of them loses those of them that it has.
-pub fn clear(near: &mut [u64; 64], at: u64)
-    requires { length near.old ≡ most_terminals }
-    ensures { EachSet near.old near.new (only_at at (without at)) }
-{
-    let mut next = bits::lowest_from(at, 0);
-    while let Some(x) = next {
-        let place = x as usize;
-        near[place] = bits::remaining(near[place], at);
-        next = bits::lowest_from(at, x + 1);
-    }
+// A row of sets, one for each of 64 terminals.
+#[derive(Drop)]
+pub struct Row {
+    pub sets: [u64; PLACES],
+    pub ghost whole: { length sets ≡ most_terminals },
 }
 
-// Joins y to x besides; the sets stay as they are where they have no place for x.
-fn join(near: &mut [u64; 64], x: u8, y: u8)
-    requires { length near.old ≡ most_terminals }
-    ensures { EachSet near.old near.new (with_other x y) }
-{
-    if x < MOST_TERMINALS {
-        let place = usize::from(x);
-        near[place] = bits::with(near[place], u32::from(y));
+impl Row {
+    // Parts these terminals from each other: the set of each of them loses those of them that it has.
+    pub fn clear(&mut self, at: u64)
+        ensures { EachSet self.old.sets self.new.sets (only_at at (without at)) }
+    {
+        let mut next = bits::lowest_from(at, 0);
+        while let Some(x) = next {
+            let place = x as usize;
+            self.sets[place] = bits::remaining(self.sets[place], at);
+            next = bits::lowest_from(at, x + 1);
+        }
+    }
+
+    // Joins y to x besides; the sets stay as they are where they have no place for x.
+    fn join(&mut self, x: u8, y: u8)
+        ensures { EachSet self.old.sets self.new.sets (with_other x y) }
+    {
+        if x < MOST_TERMINALS {
+            let place = usize::from(x);
+            self.sets[place] = bits::with(self.sets[place], u32::from(y));
+        }
+    }
+
+    // Joins the ends of a part besides, in both directions.
+    fn bridge(&mut self, part: &Part)
+        ensures { EachSet self.old.sets self.new.sets (with_part true part.now) }
+    {
+        self.join(part.a, part.b);
+        self.join(part.b, part.a);
+    }
+
+    // Joins each pair of these terminals besides that a part joins whose kind passes the test: part by part from the
+    // last.
+    pub fn gather<J: Fn(Kind) -> bool>(&mut self, at: u64, parts: &[Part], joins: J)
+        requires { J.IsAlwaysCallable joins }
+        ensures { GathersBy (J.post joins) at parts.now self.old.sets self.new.sets }
+    {
+        for part in parts.iter().rev() {
+            if is_among(part, at) && joins(part.kind) {
+                self.bridge(part);
+            }
+        }
     }
 }
 
 // Whether both ends of a part are among these terminals.
-pub fn is_among(part: &Part, at: u64) -> bool
+fn is_among(part: &Part, at: u64) -> bool
     ensures { result ≡ among at part.now }
 {
     bits::has(at, u32::from(part.a)) && bits::has(at, u32::from(part.b))
-}
-
-// Joins the ends of a part besides, in both directions.
-pub fn bridge(near: &mut [u64; 64], part: &Part)
-    requires { length near.old ≡ most_terminals }
-    ensures { EachSet near.old near.new (with_part true part.now) }
-{
-    join(near, part.a, part.b);
-    join(near, part.b, part.a);
 }

@@ -1,7 +1,7 @@
--- `neighbours::row::clear` meets its contract. The invariant: the sets of the terminals before the next are done, and
--- the others are as they were.
+-- `neighbours::row::Row::clear` meets its contract. The invariant: the sets of the terminals before the next are done,
+-- and the others are as they were.
 use Rattle.neighbours.proofs.RowLaws.{clear_starts, clear_after, clear_on, clear-ends}
-use Rattle.neighbours.proofs.row.clear.Goals as goal
+use Rattle.neighbours.proofs.row.Row.clear.Goals as goal
 
 pub loop-next-init : goal.loop-next-init
 loop-next-init c = clear_starts _ _ _ c.lowest_from-next.ensures
@@ -12,7 +12,7 @@ loop-next-smaller c =
 
 pub loop-next-preserved : goal.loop-next-preserved
 loop-next-preserved c =
-    clear_on _ _ _ _ _ _ _ c.requires c.loop-next.invariant c.in-Some.is c.remaining.ensures
+    clear_on _ _ _ _ _ _ _ c.args.self.now.whole c.loop-next.invariant c.in-Some.is c.remaining.ensures
     c.lowest_from-next-in-Some.ensures
 
 pub returns : goal.returns
