@@ -4,8 +4,8 @@
 --     GivesNumber bs i r     promise: `number_at` answers r
 --     handed_part bs i       the part whose four bytes begin at the place i: kind, a, b and name
 --     handed_start bs i      the start, a set in five bytes, lowest first, from the place i on
---     HandsBoard bs r        promise: `board` answers r, by the bytes bs: T, R, B, C (low byte, high byte), the start and
---                            the 256 parts
+--     HandsBoard bs r        promise: `board` answers r, by the bytes bs: T, R, B, C (low byte, high byte), the start
+--                            and the 256 parts
 --     HandsKept b s bs r     promise: `kept` answers r: the state s, with the board's own sets beside it where bs has
 --                            nothing
 use Rattle.std.specs.Prelude.{ℕ, ◌≡◌, ◌+◌, ◌*◌, ◌<◌, List, [], slice_index_or}
@@ -26,7 +26,12 @@ abbrev pub GivesNumber : List ℕ → ℕ → ℕ → Type 0
 GivesNumber bs i r = r ≡ number_of_three bs i
 
 abbrev pub handed_part : List ℕ → ℕ → Part
-handed_part bs i = record { a = byte_given bs (i + 1); b = byte_given bs (i + 2); kind = kind_of (byte_given bs i) (byte_given bs (i + 3)) }
+handed_part bs i =
+    record {
+      a = byte_given bs (i + 1);
+      b = byte_given bs (i + 2);
+      kind = kind_of (byte_given bs i) (byte_given bs (i + 3));
+    }
 
 abbrev pub handed_start : List ℕ → ℕ → ℕ
 handed_start bs i =

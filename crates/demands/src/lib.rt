@@ -1,6 +1,6 @@
 // The front page: the user's three demands and the requests A9 and A10 as theorems over the public calls, the starred
-// boards as one table, and that every promise allows one answer only. There is no code here: each function is a
-// theorem's name in the check's verdict, and its contract the statement; specs/ has the statements, proofs/ the theorems.
+// boards as one table, and that every promise allows one answer only. There is no code here: each function is the name
+// of a theorem in the check's verdict, and its contract the statement; specs/ has the statements, proofs/ the theorems.
 #![tactic(auto)]
 
 ghost use Rattle.demands.specs.AsTheModelSays.{AsTheModelSays};
