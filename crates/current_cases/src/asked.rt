@@ -1,5 +1,5 @@
 // What a case asks, in numbers after its board: which winding, in which state with its kept sets, and what else its
-// sort wants. A number that is not there is 0.
+// sort wants.
 use board::Board;
 use cases::handed;
 use judge::Which;
@@ -14,52 +14,46 @@ pub struct AskedWinding {
     pub which: Which,
 }
 
-// The numbers that follow the board, and whether all that were asked for were there.
+// The numbers that follow the board.
 #[derive(Drop)]
 pub struct Numbers<'c> {
     bytes: &'c [u8],
-    next: Option<usize>,
+    at: usize,
 }
 
 impl<'c> Numbers<'c> {
     // Those from a place on.
     pub fn from(bytes: &'c [u8], at: usize) -> Self {
-        Numbers {
-            bytes,
-            next: Some(at),
-        }
+        Numbers { bytes, at }
     }
 
-    // The next.
-    pub fn number(&mut self) -> u32 {
-        let read = self
-            .next
-            .and_then(|at| number::read_number(self.bytes, at).ok());
-        self.next = read.map(|found| found.next);
-        read.map_or(0, |found| found.value)
+    // The next, if it is there.
+    pub fn next(&mut self) -> Option<u32> {
+        let found = number::read_number(self.bytes, self.at).ok()?;
+        self.at = found.next;
+        Some(found.value)
     }
 
-    // The winding that the next four ask for: drawn, pushed, relay and which.
-    pub fn winding(&mut self, board: Board, sets: &[u8]) -> AskedWinding {
+    // The winding that the next four ask for, if they are there: drawn, pushed, relay and which.
+    pub fn winding(&mut self, board: Board, sets: &[u8]) -> Option<AskedWinding> {
         let state = State {
-            drawn: u64::from(self.number()),
-            pushed: u64::from(self.number()),
+            drawn: u64::from(self.next()?),
+            pushed: u64::from(self.next()?),
         };
-        let relay = self.number();
-        let which = if self.number() == 0 {
-            Which::First
-        } else {
-            Which::Second
+        let relay = self.next()?;
+        let which = match self.next()? {
+            0 => Which::First,
+            _ => Which::Second,
         };
-        AskedWinding {
+        Some(AskedWinding {
             kept: handed::kept(board, state, sets),
             relay,
             which,
-        }
+        })
     }
 
     // Whether the case ends where they do.
     pub fn end_the_case(&self) -> bool {
-        self.next == Some(self.bytes.len())
+        self.at == self.bytes.len()
     }
 }

@@ -1,28 +1,20 @@
 // A case from its board on: the board is read, and what follows it is answered by the sort of the case.
 use crate::asked::Numbers;
-use crate::{divide_case, judge_case};
+use board::Board;
 use cases::refusal::OfFile;
 use std::io;
 use std::io::Write;
 
-// Answers the case that this character ends; where its board is refused, prints that.
-pub fn answer_case<W: Write>(
-    out: &mut W,
-    character: u8,
-    sets: &[u8],
-    bytes: &[u8],
-) -> io::Result<()> {
+// Reads a case's board, and has the numbers after it answered; where the board is refused, prints that.
+pub fn answer_case<W: Write, F>(out: &mut W, sets: &[u8], bytes: &[u8], answer: F) -> io::Result<()>
+where
+    F: FnOnce(&mut W, Board, &[u8], Numbers) -> io::Result<()>,
+    requires { F.IsAlwaysCallable answer }
+{
     let read = board_reader::read(bytes);
     match read.answer {
         Err(refused) => write!(out, "{}", OfFile(refused))?,
-        Ok(next) => {
-            let numbers = Numbers::from(bytes, next);
-            match character {
-                b'@' => judge_case::answer_judgement(out, read.board, sets, numbers)?,
-                b'!' => divide_case::answer_judgement(out, read.board, sets, numbers)?,
-                _ => divide_case::answer_check(out, read.board, sets, numbers)?,
-            }
-        }
+        Ok(next) => answer(out, read.board, sets, Numbers::from(bytes, next))?,
     }
     writeln!(out)
 }

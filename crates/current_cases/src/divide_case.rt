@@ -15,9 +15,9 @@ pub fn answer_judgement<W: Write>(
     mut numbers: Numbers,
 ) -> io::Result<()> {
     let winding = numbers.winding(board, sets);
-    if !numbers.end_the_case() {
+    let (Some(winding), true) = (winding, numbers.end_the_case()) else {
         return write!(out, "bad case");
-    }
+    };
     match divide::judge(board, winding.kept, winding.relay, winding.which) {
         Ok(Judgement::Live) => write!(out, "told live"),
         Ok(Judgement::Shunted) => write!(out, "told shunted"),
@@ -34,10 +34,10 @@ pub fn answer_check<W: Write>(
     mut numbers: Numbers,
 ) -> io::Result<()> {
     let winding = numbers.winding(board, sets);
-    let x = numbers.number();
-    if !numbers.end_the_case() {
+    let x = numbers.next();
+    let (Some(winding), Some(x), true) = (winding, x, numbers.end_the_case()) else {
         return write!(out, "bad case");
-    }
+    };
     match divide::check(board, winding.kept, winding.relay, winding.which, x) {
         Ok(true) => write!(out, "checked divides"),
         Ok(false) => write!(out, "checked does not divide"),

@@ -2,20 +2,22 @@
 use crate::asked::Numbers;
 use board::Board;
 use cases::refusal::ByCall;
-use search::{Finding, Verdict};
+use search::{Finding, PLACES, Verdict};
 use std::io;
 use std::io::Write;
 
-// Prints the chain that a verdict shows, if it has a length, and looks at all its places: past the length one is used
-// although it must not be.
-fn print_chain<W: Write>(out: &mut W, terminals: &[u8; 64], length: usize) -> io::Result<()> {
+// Prints the chain that a verdict shows, if it has a length, and looks at the places past it: one is used there although
+// it must not be.
+fn print_chain<W: Write>(out: &mut W, terminals: &[u8; PLACES], length: usize) -> io::Result<()> {
     if length != 0 {
         write!(out, " {length}:")?;
     }
-    for (at, &terminal) in terminals.iter().enumerate() {
-        if at < length {
-            write!(out, " {terminal}")?;
-        } else if terminal != 0 {
+    let (chain, past) = terminals.split_at(length.min(PLACES));
+    for terminal in chain {
+        write!(out, " {terminal}")?;
+    }
+    for terminal in past {
+        if *terminal != 0 {
             write!(out, " and more")?;
         }
     }
@@ -47,10 +49,10 @@ pub fn answer_judgement<W: Write>(
     mut numbers: Numbers,
 ) -> io::Result<()> {
     let winding = numbers.winding(board, sets);
-    let allowance = numbers.number();
-    if !numbers.end_the_case() {
+    let allowance = numbers.next();
+    let (Some(winding), Some(allowance), true) = (winding, allowance, numbers.end_the_case()) else {
         return write!(out, "bad case");
-    }
+    };
     let verdict = judge::judge(board, winding.kept, winding.relay, winding.which, allowance);
     print_verdict(out, verdict)
 }

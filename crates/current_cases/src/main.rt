@@ -20,7 +20,9 @@ use std::io::Write;
 // Answers the case that this character ends.
 fn answer<W: Write>(out: &mut W, character: u8, sets: &[u8], case: &[u8]) -> io::Result<()> {
     match character {
-        b'@' | b'!' | b'?' => board_case::answer_case(out, character, sets, case),
+        b'@' => board_case::answer_case(out, sets, case, judge_case::answer_judgement),
+        b'!' => board_case::answer_case(out, sets, case, divide_case::answer_judgement),
+        b'?' => board_case::answer_case(out, sets, case, divide_case::answer_check),
         _ => writeln!(out, "bad text"),
     }
 }

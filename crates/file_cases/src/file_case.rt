@@ -11,21 +11,20 @@ const ROOM_TO_SPARE: usize = 1_040;
 // What every byte of a buffer is before it is lent.
 const UNTOUCHED: u8 = 0xaa;
 
-// Whether a buffer holds so many bytes of a file and is untouched after them.
-fn holds_file(buffer: &[u8], file: &[u8], count: usize) -> bool {
-    count <= buffer.len()
-        && buffer.iter().enumerate().all(|(at, &byte)| {
-            let wanted = if at < count { file.get(at) } else { None };
-            byte == wanted.copied().unwrap_or(UNTOUCHED)
-        })
+// Whether a buffer holds a file and is untouched after it.
+fn holds_file(buffer: &[u8], file: &[u8]) -> bool {
+    match buffer.strip_prefix(file) {
+        Some(past) => past.iter().all(|&byte| byte == UNTOUCHED),
+        None => false,
+    }
 }
 
-// Writes the board of a file that ends at a place, and prints whether the buffer then has the file's bytes.
-pub fn write_back<W: Write>(out: &mut W, board: Board, file: &[u8], next: usize) -> io::Result<()> {
+// Writes a board, and prints whether the buffer then has the bytes of the file that it was read from.
+pub fn write_back<W: Write>(out: &mut W, board: Board, file: &[u8]) -> io::Result<()> {
     let mut buffer = [UNTOUCHED; ROOM_TO_SPARE];
-    write!(out, "read {next} wrote ")?;
+    write!(out, "read {} wrote ", file.len())?;
     print_written(out, board_writer::write(board, &mut buffer))?;
-    let word = if holds_file(&buffer, file, next) {
+    let word = if holds_file(&buffer, file) {
         "same"
     } else {
         "differs"
@@ -33,20 +32,18 @@ pub fn write_back<W: Write>(out: &mut W, board: Board, file: &[u8], next: usize)
     writeln!(out, " {word}")
 }
 
-// Writes the board of a file of this length into one byte less of a buffer, and prints what came of it.
-pub fn write_short<W: Write>(
-    out: &mut W,
-    board: Board,
-    _file: &[u8],
-    length: usize,
-) -> io::Result<()> {
+// Writes a board into one byte less of a buffer than the file has that it was read from, and prints what came of it.
+pub fn write_short<W: Write>(out: &mut W, board: Board, file: &[u8]) -> io::Result<()> {
     let mut buffer = [UNTOUCHED; ROOM_TO_SPARE];
-    if length == 0 || buffer.len() < length {
+    let Some(short) = file.len().checked_sub(1) else {
+        return Ok(());
+    };
+    if buffer.len() <= short {
         return Ok(());
     }
     write!(out, "short ")?;
-    print_written(out, board_writer::write(board, &mut buffer[..length - 1]))?;
-    let word = if holds_file(&buffer, b"", 0) {
+    print_written(out, board_writer::write(board, &mut buffer[..short]))?;
+    let word = if holds_file(&buffer, b"") {
         "kept"
     } else {
         "changed"
@@ -54,15 +51,15 @@ pub fn write_short<W: Write>(
     writeln!(out, " {word}")
 }
 
-// Reads a board file, and has the board that it gives written: by what file, and where it ends.
+// Reads a board file, and has the board that it gives written, by what was read of the file.
 pub fn answer_file<W: Write, F>(out: &mut W, file: &[u8], write: F) -> io::Result<()>
 where
-    F: FnOnce(&mut W, Board, &[u8], usize) -> io::Result<()>,
+    F: FnOnce(&mut W, Board, &[u8]) -> io::Result<()>,
     requires { F.IsAlwaysCallable write }
 {
     let read = board_reader::read(file);
     match read.answer {
         Err(refused) => writeln!(out, "{}", OfFile(refused)),
-        Ok(next) => write(out, read.board, file, next),
+        Ok(next) => write(out, read.board, &file[..next.min(file.len())]),
     }
 }

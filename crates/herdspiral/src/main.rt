@@ -23,6 +23,13 @@ mod page;
 // One byte more than the longest input: these tell that an input is too long, and no more is read.
 const INPUT_ROOM: usize = LONGEST_INPUT + 1;
 
+// What is told where a read or a write failed, or the argument is no length of a log.
+const UNREAD: &[u8] = b"herdspiral: standard input cannot be read\n";
+
+const UNWRITTEN: &[u8] = b"herdspiral: standard output cannot be written\n";
+
+const NO_LENGTH: &[u8] = b"herdspiral: the length of the log is not a decimal number\n";
+
 // Room for the lines that are written out together.
 const LINES_ROOM: usize = 16_384;
 
@@ -106,19 +113,9 @@ fn print_lines<W: Write, E: Write>(
     }
 }
 
-// Tells that a read failed.
-fn tell_unread<E: Write>(err: &mut E, _error: io::Error) {
-    let _ = err.write_all(b"herdspiral: standard input cannot be read\n");
-}
-
-// Tells that a write failed.
-fn tell_unwritten<E: Write>(err: &mut E, _error: io::Error) {
-    let _ = err.write_all(b"herdspiral: standard output cannot be written\n");
-}
-
-// Tells that the argument is no length of a log.
-fn tell_no_number<E: Write>(err: &mut E) {
-    let _ = err.write_all(b"herdspiral: the length of the log is not a decimal number\n");
+// Tells something on standard error. Where that takes nothing, it is passed over.
+fn tell<E: Write>(err: &mut E, words: &[u8]) {
+    let _ = err.write_all(words);
 }
 
 // Runs a session.
@@ -138,14 +135,14 @@ fn main(rt: HostRuntime) {
     let mut buffer = [0; INPUT_ROOM];
     let input = match read_input(&mut rt.stdin(), &mut buffer) {
         Ok(read) => &buffer[..read],
-        Err(error) => return tell_unread(&mut err, error),
+        Err(_) => return tell(&mut err, UNREAD),
     };
     let printed = match page::asked_length(&rt) {
         Ok(None) => run_session(&mut out, &mut err, input),
         Ok(Some(length)) => page::print_page(&mut out, &mut err, input, length),
-        Err(NoNumber) => return tell_no_number(&mut err),
+        Err(NoNumber) => return tell(&mut err, NO_LENGTH),
     };
-    if let Err(error) = printed {
-        tell_unwritten(&mut err, error);
+    if printed.is_err() {
+        tell(&mut err, UNWRITTEN);
     }
 }

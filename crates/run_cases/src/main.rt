@@ -21,8 +21,8 @@ use std::io::Write;
 // Answers the case that this character ends.
 fn answer<W: Write>(out: &mut W, character: u8, sets: &[u8], case: &[u8]) -> io::Result<()> {
     match character {
-        b'+' => press_case::answer_push(out, Asked::of(sets, case)),
-        b'-' => press_case::answer_release(out, Asked::of(sets, case)),
+        b'+' => press_case::answer_press(out, Asked::of(sets, case), presses::push),
+        b'-' => press_case::answer_press(out, Asked::of(sets, case), presses::release),
         b'^' => move_case::answer_move(out, Asked::of(sets, case)),
         b'=' => run_case::answer_run(out, Asked::of(sets, case)),
         b'%' => report_case::answer_report(out, Asked::of(sets, case)),

@@ -1,35 +1,24 @@
 // Buttons pushed and released. What is asked is the button.
 use crate::asked::Asked;
 use crate::print_left;
+use board::Board;
 use cases::refusal::ByCall;
+use kept::Kept;
 use presses::Pressed;
 use std::io;
 use std::io::Write;
 
-// Prints what a push or a release came to and what it left.
-fn print_pressed<W: Write>(out: &mut W, asked: Asked, pressed: Pressed) -> io::Result<()> {
+// Pushes or releases a button as is asked, by one of the calls, and prints what came of it and what it left.
+pub fn answer_press<W: Write, F>(out: &mut W, asked: Asked, press: F) -> io::Result<()>
+where
+    F: FnOnce(Board, Kept, u32) -> Pressed,
+    requires { F.IsAlwaysCallable press }
+{
+    let pressed = press(asked.board, asked.kept, asked.number);
     match pressed.answer {
         Ok(()) => write!(out, "pressed done")?,
         Err(refused) => write!(out, "pressed refused {}", ByCall(refused))?,
     }
     print_left::print_state(out, pressed.kept.state)?;
     print_left::print_sets(out, asked, pressed.kept)
-}
-
-// Pushes a button as is asked.
-pub fn answer_push<W: Write>(out: &mut W, asked: Asked) -> io::Result<()> {
-    print_pressed(
-        out,
-        asked,
-        presses::push(asked.board, asked.kept, asked.number),
-    )
-}
-
-// Releases a button as is asked.
-pub fn answer_release<W: Write>(out: &mut W, asked: Asked) -> io::Result<()> {
-    print_pressed(
-        out,
-        asked,
-        presses::release(asked.board, asked.kept, asked.number),
-    )
 }

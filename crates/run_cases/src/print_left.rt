@@ -24,14 +24,12 @@ fn print_row<W: Write>(out: &mut W, row: &[u64; 64]) -> io::Result<()> {
 // are the board's own in the state that it hands back, and each set.
 pub fn print_sets<W: Write>(out: &mut W, asked: Asked, left: Kept) -> io::Result<()> {
     let sets = left.sets;
-    let given = asked.kept.sets;
-    let own = neighbours::neighbours(asked.board, left.state);
-    let given = if sets.near == given.near && sets.bare == given.bare {
+    let given = if sets == asked.kept.sets {
         "given"
     } else {
         "changed"
     };
-    let own = if sets.near == own.near && sets.bare == own.bare {
+    let own = if sets == neighbours::neighbours(asked.board, left.state) {
         "own"
     } else {
         "foreign"

@@ -27,16 +27,15 @@ fn print_word<W: Write>(out: &mut W, word: Result<Ending, Refusal>) -> io::Resul
     }
 }
 
-// Prints the log after so many moves: the moves made, of which not all are shown, and each byte past them that is
-// touched although it must not be.
-fn print_log<W: Write>(out: &mut W, log: &[u8], moves: usize) -> io::Result<()> {
-    for (at, &byte) in log.iter().enumerate() {
-        if moves <= at {
-            if byte != UNTOUCHED {
-                write!(out, " and more")?;
-            }
-        } else if at < MOST_SHOWN {
-            write!(out, " {byte}")?;
+// Prints the log: the moves made, of which not all are shown, and each byte past them that is touched although it must
+// not be.
+fn print_log<W: Write>(out: &mut W, made: &[u8], past: &[u8]) -> io::Result<()> {
+    for byte in made.iter().take(MOST_SHOWN) {
+        write!(out, " {byte}")?;
+    }
+    for byte in past {
+        if *byte != UNTOUCHED {
+            write!(out, " and more")?;
         }
     }
     Ok(())
@@ -54,6 +53,7 @@ pub fn answer_run<W: Write>(out: &mut W, asked: Asked) -> io::Result<()> {
     write!(out, " {}", ran.moves)?;
     print_left::print_state(out, ran.kept.state)?;
     write!(out, " {} {} {}:", ran.relay, ran.earlier, ran.between)?;
-    print_log(out, log, ran.moves)?;
+    let (made, past) = log.split_at(ran.moves.min(log.len()));
+    print_log(out, made, past)?;
     print_left::print_sets(out, asked, ran.kept)
 }
