@@ -6,8 +6,8 @@ use search::{Finding, PLACES, Verdict};
 use std::io;
 use std::io::Write;
 
-// Prints the chain that a verdict shows, if it has a length, and looks at the places past it: one is used there although
-// it must not be.
+// Prints the chain that a verdict shows, if it has a length, and looks at the places past it: one is used there
+// although it must not be.
 fn print_chain<W: Write>(out: &mut W, terminals: &[u8; PLACES], length: usize) -> io::Result<()> {
     if length != 0 {
         write!(out, " {length}:")?;
