@@ -16,6 +16,18 @@ pub enum Besides {
     Zeros,
 }
 
+// How a program answers its cases.
+pub trait Answers {
+    // Answers a case, by the character that ends it, the bytes before its colon and those after it.
+    fn answer<W: Write>(
+        &self,
+        out: &mut W,
+        character: u8,
+        sets: &[u8],
+        bytes: &[u8],
+    ) -> io::Result<()>;
+}
+
 // The most bytes of a case: more than the longest input has.
 const MOST_BYTES: usize = 65_540;
 
@@ -108,19 +120,14 @@ fn read_text<'t, R: Read>(
     Ok(&text[..length])
 }
 
-// Takes all of the text, and has each case answered where it ends, by the character that ends it, the bytes before its
-// colon and those after it. What stands after the last case is malformed. Of a text longer than 65,536 bytes the rest
-// is not taken, and has no answers.
-pub fn answer_cases<R: Read, W: Write, F>(
+// Takes all of the text, and has each case answered where it ends. What stands after the last case is malformed. Of a
+// text longer than 65,536 bytes the rest is not taken, and has no answers.
+pub fn answer_cases<R: Read, W: Write, A: Answers>(
     reader: &mut R,
     out: &mut W,
     besides: Besides,
-    answer: F,
-) -> io::Result<()>
-where
-    F: Fn(&mut W, u8, &[u8], &[u8]) -> io::Result<()>,
-    requires { F.IsAlwaysCallable answer }
-{
+    answers: &A,
+) -> io::Result<()> {
     let room = besides.room();
     let mut text = [0; LONGEST_TEXT];
     let mut case = Case::fresh();
@@ -148,7 +155,7 @@ where
                 } else {
                     let bytes = case.bytes.as_slice();
                     let (sets, asked) = bytes.split_at(case.sets.min(bytes.len()));
-                    answer(out, character, sets, asked)?;
+                    answers.answer(out, character, sets, asked)?;
                 }
                 case.clear();
             }

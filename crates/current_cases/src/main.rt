@@ -13,20 +13,30 @@ mod board_case;
 mod divide_case;
 mod judge_case;
 
-use cases::typed::{self, Besides};
+use cases::typed::{self, Answers, Besides};
 use std::io;
 use std::io::Write;
 
-// Answers the case that this character ends.
-fn answer<W: Write>(out: &mut W, character: u8, sets: &[u8], case: &[u8]) -> io::Result<()> {
-    match character {
-        b'@' => board_case::answer_case(out, sets, case, judge_case::answer_judgement),
-        b'!' => board_case::answer_case(out, sets, case, divide_case::answer_judgement),
-        b'?' => board_case::answer_case(out, sets, case, divide_case::answer_check),
-        _ => writeln!(out, "bad text"),
+// Its cases, each answered by the character that ends it.
+struct Typed;
+
+impl Answers for Typed {
+    fn answer<W: Write>(
+        &self,
+        out: &mut W,
+        character: u8,
+        sets: &[u8],
+        case: &[u8],
+    ) -> io::Result<()> {
+        match character {
+            b'@' => board_case::answer_case(out, sets, case, judge_case::answer_judgement),
+            b'!' => board_case::answer_case(out, sets, case, divide_case::answer_judgement),
+            b'?' => board_case::answer_case(out, sets, case, divide_case::answer_check),
+            _ => writeln!(out, "bad text"),
+        }
     }
 }
 
 fn main(rt: HostRuntime) -> io::Result<()> {
-    typed::answer_cases(&mut rt.stdin(), &mut rt.stdout(), Besides::Sets, answer)
+    typed::answer_cases(&mut rt.stdin(), &mut rt.stdout(), Besides::Sets, &Typed)
 }

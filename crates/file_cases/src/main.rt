@@ -8,7 +8,7 @@ mod file_case;
 mod handed_case;
 
 use cases::refusal::ByCall;
-use cases::typed::{self, Besides};
+use cases::typed::{self, Answers, Besides};
 use refusals::Refusal;
 use std::io;
 use std::io::Write;
@@ -21,16 +21,26 @@ fn print_written<W: Write>(out: &mut W, written: Result<usize, Refusal>) -> io::
     }
 }
 
-// Answers the case that this character ends.
-fn answer<W: Write>(out: &mut W, character: u8, _sets: &[u8], case: &[u8]) -> io::Result<()> {
-    match character {
-        b'>' => file_case::answer_file(out, case, file_case::write_back),
-        b'?' => file_case::answer_file(out, case, file_case::write_short),
-        b'!' => handed_case::answer_board(out, case),
-        _ => writeln!(out, "bad text"),
+// Its cases, each answered by the character that ends it.
+struct Typed;
+
+impl Answers for Typed {
+    fn answer<W: Write>(
+        &self,
+        out: &mut W,
+        character: u8,
+        _sets: &[u8],
+        case: &[u8],
+    ) -> io::Result<()> {
+        match character {
+            b'>' => file_case::answer_file(out, case, file_case::write_back),
+            b'?' => file_case::answer_file(out, case, file_case::write_short),
+            b'!' => handed_case::answer_board(out, case),
+            _ => writeln!(out, "bad text"),
+        }
     }
 }
 
 fn main(rt: HostRuntime) -> io::Result<()> {
-    typed::answer_cases(&mut rt.stdin(), &mut rt.stdout(), Besides::Zeros, answer)
+    typed::answer_cases(&mut rt.stdin(), &mut rt.stdout(), Besides::Zeros, &Typed)
 }

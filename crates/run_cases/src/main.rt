@@ -14,22 +14,32 @@ mod report_case;
 mod run_case;
 
 use asked::Asked;
-use cases::typed::{self, Besides};
+use cases::typed::{self, Answers, Besides};
 use std::io;
 use std::io::Write;
 
-// Answers the case that this character ends.
-fn answer<W: Write>(out: &mut W, character: u8, sets: &[u8], case: &[u8]) -> io::Result<()> {
-    match character {
-        b'+' => press_case::answer_press(out, Asked::of(sets, case), presses::push),
-        b'-' => press_case::answer_press(out, Asked::of(sets, case), presses::release),
-        b'^' => move_case::answer_move(out, Asked::of(sets, case)),
-        b'=' => run_case::answer_run(out, Asked::of(sets, case)),
-        b'%' => report_case::answer_report(out, Asked::of(sets, case)),
-        _ => writeln!(out, "bad text"),
+// Its cases, each answered by the character that ends it.
+struct Typed;
+
+impl Answers for Typed {
+    fn answer<W: Write>(
+        &self,
+        out: &mut W,
+        character: u8,
+        sets: &[u8],
+        case: &[u8],
+    ) -> io::Result<()> {
+        match character {
+            b'+' => press_case::answer_press(out, Asked::of(sets, case), presses::push),
+            b'-' => press_case::answer_press(out, Asked::of(sets, case), presses::release),
+            b'^' => move_case::answer_move(out, Asked::of(sets, case)),
+            b'=' => run_case::answer_run(out, Asked::of(sets, case)),
+            b'%' => report_case::answer_report(out, Asked::of(sets, case)),
+            _ => writeln!(out, "bad text"),
+        }
     }
 }
 
 fn main(rt: HostRuntime) -> io::Result<()> {
-    typed::answer_cases(&mut rt.stdin(), &mut rt.stdout(), Besides::Sets, answer)
+    typed::answer_cases(&mut rt.stdin(), &mut rt.stdout(), Besides::Sets, &Typed)
 }
