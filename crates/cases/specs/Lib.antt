@@ -1,3 +1,4 @@
 -- The definitions that the contracts cite.
 pub mod Handed
 pub mod Printed
+pub mod Typed

@@ -1,6 +1,8 @@
 // The text of cases: pairs of hex digits are a case's bytes, `#` opens a comment up to the end of the line, white space
 // stands between, and any other character ends the case.
-use arrayvec::ArrayVec;
+ghost use Rattle.std.specs.Prelude.{◌≡◌, ◌≤◌, ◌*◌, IsTrue};
+ghost use Rattle.cases.specs.Typed.{most_bytes, typed_digits};
+
 use board_reader::LONGEST_INPUT;
 use std::io;
 use std::io::{Read, Write};
@@ -33,7 +35,10 @@ const MOST_BYTES: usize = 65_540;
 
 impl Besides {
     // The most bytes of a case; digits beyond them are dropped.
-    fn room(self) -> usize {
+    fn room(self) -> usize
+        ensures value { result ≡ most_bytes self }
+        ensures fits { result ≤ 65540 }
+    {
         match self {
             Besides::Sets => 8_192,
             Besides::Zeros => MOST_BYTES,
@@ -41,66 +46,95 @@ impl Besides {
     }
 }
 
-// A case as far as it is typed: its bytes, the first digit of the next, and how many bytes stand before its colon.
+// A case as far as it is typed: what its text may hold besides, its bytes and how many there are, the first digit of the
+// next, and how many bytes stand before its colon.
 #[derive(Drop)]
 struct Case {
-    bytes: ArrayVec<u8, MOST_BYTES>,
+    besides: Besides,
+    bytes: [u8; MOST_BYTES],
+    length: usize,
     half: Option<u8>,
     sets: usize,
+    ghost digits_fit: { typed_digits length half ≤ 2 * most_bytes besides },
+    ghost sets_fit: { sets ≤ length },
 }
 
 impl Case {
     // A case of which nothing is typed yet.
-    fn fresh() -> Self {
+    fn fresh(besides: Besides) -> Self
+        ensures of_text { result.besides ≡ besides }
+        ensures nothing_typed { typed_digits result.length result.half ≡ 0 }
+    {
         Case {
-            bytes: ArrayVec::new(),
+            besides,
+            bytes: [0; MOST_BYTES],
+            length: 0,
             half: None,
             sets: 0,
         }
     }
 
     // Begins the next case.
-    fn clear(&mut self) {
-        self.bytes.clear();
+    fn clear(&mut self)
+        ensures same_text { self.new.besides ≡ self.old.besides }
+        ensures nothing_typed { typed_digits self.new.length self.new.half ≡ 0 }
+    {
+        self.length = 0;
         self.half = None;
         self.sets = 0;
     }
 
     // Whether nothing is typed yet.
     fn is_fresh(&self) -> bool {
-        self.bytes.is_empty() && self.half.is_none()
+        self.length == 0 && self.half.is_none()
     }
 
     // Adds a digit, if there is room for a byte.
-    fn add_digit(&mut self, digit: u8, room: usize) {
-        if room <= self.bytes.len() {
+    fn add_digit(&mut self, digit: u8)
+        ensures same_text { self.new.besides ≡ self.old.besides }
+        ensures no_fewer { typed_digits self.old.length self.old.half ≤ typed_digits self.new.length self.new.half }
+    {
+        if self.besides.room() <= self.length {
             return;
         }
         self.half = match self.half {
             None => Some(digit),
             Some(high) => {
-                let _ = self.bytes.try_push(16 * (high % 16) + digit % 16);
+                self.bytes[self.length] = 16 * (high % 16) + digit % 16;
+                self.length += 1;
                 None
             }
         };
     }
 
-    // Adds zero bytes up to the longest input, unless a byte is not whole.
-    fn add_zeros(&mut self) {
-        if self.half.is_none() {
-            for _ in self.bytes.len()..LONGEST_INPUT {
-                let _ = self.bytes.try_push(0);
-            }
+    // Adds zero bytes up to the longest input, as far as there is room, unless a byte is not whole.
+    fn add_zeros(&mut self)
+        ensures same_text { self.new.besides ≡ self.old.besides }
+        ensures no_fewer { typed_digits self.old.length self.old.half ≤ typed_digits self.new.length self.new.half }
+    {
+        let end = LONGEST_INPUT.min(self.besides.room());
+        if self.half.is_none() && self.length < end {
+            self.bytes[self.length..end].fill(0);
+            self.length = end;
         }
     }
 
     // Ends the kept sets, and says whether they may end here.
-    fn end_sets(&mut self) -> bool {
+    fn end_sets(&mut self) -> bool
+        ensures same_text { self.new.besides ≡ self.old.besides }
+        ensures bytes_stay { typed_digits self.new.length self.new.half ≡ typed_digits self.old.length self.old.half }
+        ensures ended { IsTrue result → self.new.sets ≡ self.new.length }
+    {
         if self.sets != 0 || self.half.is_some() {
             return false;
         }
-        self.sets = self.bytes.len();
+        self.sets = self.length;
         true
+    }
+
+    // The bytes before the colon, and those after it.
+    fn parts(&self) -> (&[u8], &[u8]) {
+        self.bytes[..self.length].split_at(self.sets)
     }
 }
 
@@ -128,9 +162,8 @@ pub fn answer_cases<R: Read, W: Write, A: Answers>(
     besides: Besides,
     answers: &A,
 ) -> io::Result<()> {
-    let room = besides.room();
     let mut text = [0; LONGEST_TEXT];
-    let mut case = Case::fresh();
+    let mut case = Case::fresh(besides);
     let mut comment = false;
     for &character in read_text(reader, &mut text)? {
         if comment {
@@ -138,8 +171,8 @@ pub fn answer_cases<R: Read, W: Write, A: Answers>(
             continue;
         }
         match character {
-            b'0'..=b'9' => case.add_digit(character - b'0', room),
-            b'a'..=b'f' => case.add_digit(character - b'a' + 10, room),
+            b'0'..=b'9' => case.add_digit(character - b'0'),
+            b'a'..=b'f' => case.add_digit(character - b'a' + 10),
             b' ' | b'\n' => {}
             b'#' => comment = true,
             b'*' if besides == Besides::Zeros => case.add_zeros(),
@@ -153,8 +186,7 @@ pub fn answer_cases<R: Read, W: Write, A: Answers>(
                 if case.half.is_some() {
                     writeln!(out, "bad text")?;
                 } else {
-                    let bytes = case.bytes.as_slice();
-                    let (sets, asked) = bytes.split_at(case.sets.min(bytes.len()));
+                    let (sets, asked) = case.parts();
                     answers.answer(out, character, sets, asked)?;
                 }
                 case.clear();

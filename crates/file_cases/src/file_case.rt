@@ -5,36 +5,32 @@ use cases::refusal::OfFile;
 use std::io;
 use std::io::Write;
 
-// More bytes than any file has.
-const ROOM_TO_SPARE: usize = 1_040;
-
-// What every byte of a buffer is before it is lent.
-const UNTOUCHED: u8 = 0xaa;
+// What a buffer is before it is lent, each byte the same: more than any file has.
+const UNTOUCHED: [u8; 1_040] = [0xaa; 1_040];
 
 // Whether a buffer holds a file and is untouched after it.
 fn holds_file(buffer: &[u8], file: &[u8]) -> bool {
     match buffer.strip_prefix(file) {
-        Some(past) => past.iter().all(|&byte| byte == UNTOUCHED),
+        Some(past) => UNTOUCHED.starts_with(past),
         None => false,
     }
 }
 
 // Writes a board, and prints whether the buffer then has the bytes of the file that it was read from.
 pub fn write_back<W: Write>(out: &mut W, board: Board, file: &[u8]) -> io::Result<()> {
-    let mut buffer = [UNTOUCHED; ROOM_TO_SPARE];
+    let mut buffer = UNTOUCHED;
     write!(out, "read {} wrote ", file.len())?;
     print_written(out, board_writer::write(board, &mut buffer))?;
-    let word = if holds_file(&buffer, file) {
-        "same"
+    if holds_file(&buffer, file) {
+        writeln!(out, " same")
     } else {
-        "differs"
-    };
-    writeln!(out, " {word}")
+        writeln!(out, " differs")
+    }
 }
 
 // Writes a board into one byte less of a buffer than the file has that it was read from, and prints what came of it.
 pub fn write_short<W: Write>(out: &mut W, board: Board, file: &[u8]) -> io::Result<()> {
-    let mut buffer = [UNTOUCHED; ROOM_TO_SPARE];
+    let mut buffer = UNTOUCHED;
     let Some(short) = file.len().checked_sub(1) else {
         return Ok(());
     };
@@ -43,12 +39,11 @@ pub fn write_short<W: Write>(out: &mut W, board: Board, file: &[u8]) -> io::Resu
     }
     write!(out, "short ")?;
     print_written(out, board_writer::write(board, &mut buffer[..short]))?;
-    let word = if holds_file(&buffer, b"") {
-        "kept"
+    if holds_file(&buffer, b"") {
+        writeln!(out, " kept")
     } else {
-        "changed"
-    };
-    writeln!(out, " {word}")
+        writeln!(out, " changed")
+    }
 }
 
 // Reads a board file, and has the board that it gives written, by what was read of the file.

@@ -24,17 +24,16 @@ fn print_row<W: Write>(out: &mut W, row: &[u64; 64]) -> io::Result<()> {
 // are the board's own in the state that it hands back, and each set.
 pub fn print_sets<W: Write>(out: &mut W, asked: Asked, left: Kept) -> io::Result<()> {
     let sets = left.sets;
-    let given = if sets == asked.kept.sets {
-        "given"
+    if sets == asked.kept.sets {
+        write!(out, " sets given")?;
     } else {
-        "changed"
-    };
-    let own = if sets == neighbours::neighbours(asked.board, left.state) {
-        "own"
+        write!(out, " sets changed")?;
+    }
+    if sets == neighbours::neighbours(asked.board, left.state) {
+        write!(out, " own near")?;
     } else {
-        "foreign"
-    };
-    write!(out, " sets {given} {own} near")?;
+        write!(out, " foreign near")?;
+    }
     print_row(out, &sets.near)?;
     write!(out, " bare")?;
     print_row(out, &sets.bare)?;
