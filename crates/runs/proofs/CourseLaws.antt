@@ -84,9 +84,10 @@ ran-onward keep x log room =
       log = after i;
     }
 
-pub course_starts : (f : Stepper) (keep : State → Kept) (k : ℕ) (log notches : List ℕ) (h : Kept) → h ≡ keep h.state
-    → Course f keep k (ran keep (run_of f k (length log) h.state) log) (length log) (length notches) log notches 0 h
-course_starts f keep k log notches h own =
+pub course_starts : (f : Stepper) (keep : State → Kept) (k words : ℕ) (log notches : List ℕ) (h : Kept)
+    → h ≡ keep h.state → length notches ≡ words
+    → Course f keep k (ran keep (run_of f k (length log) h.state) log) (length log) words log notches 0 h
+course_starts f keep k words log notches h own many =
     let whole : length log ≡ length log - 0 = omega arith in
     record {
       long = refl;
@@ -94,7 +95,7 @@ course_starts f keep k log notches h own =
       own = own;
       came = [];
       trail = begun;
-      many = refl;
+      many = many;
       covered = tt;
       goes =
           ran-onward keep (run_of f k (length log) h.state) log (goes-room (run_goes f k [] (length log) h.state))

@@ -3,6 +3,7 @@ ghost use Rattle.std.specs.Prelude.{◌≡◌, ◌<◌, ◌≤◌, length};
 ghost use Rattle.board.specs.Rules.{most_relays};
 ghost use Rattle.kept.specs.Kept.{kept_at};
 ghost use Rattle.moves.specs.Steps.{told_move};
+ghost use Rattle.runs.specs.LookingBack.{most_words};
 ghost use Rattle.runs.specs.Looks.{draw_mark, byte_of};
 ghost use Rattle.runs.specs.Running.{ran_over, told_ran};
 
@@ -25,18 +26,16 @@ fn byte(relay: u8, motion: Move) -> u8
 
 // Unless it met its state before, it looks at the relays from 0 up; the first that does not rest decides: a move is
 // made and logged and it looks again, and anything else stops the run. The sets belong to the board and the state, and
-// are kept so. Where the windings lie is found once for the run, and which terminals are served and linked once for a
-// look.
-pub fn follow<const WORDS: usize>(
-    board: Board,
-    start: Kept,
-    log: &mut [u8],
-    notches: &mut Notches<WORDS>,
-) -> Ran
+// are kept so. It begins with no notch cut. Where the windings lie is found once for the run, and which terminals are
+// served and linked once for a look.
+pub fn follow<const WORDS: usize>(board: Board, start: Kept, log: &mut [u8]) -> Ran
+    requires some_words { 0 < WORDS }
+    requires words_few { WORDS ≤ most_words }
     requires relays_few { board.counts.relays ≤ most_relays }
     requires start_kept { start ≡ kept_at board start.state }
     ensures { told_ran result log.new ≡ ran_over board start log.old }
 {
+    let mut notches = Notches { words: [0; WORDS] };
     let relays = board.counts.relays;
     let windings = judge::find_all_windings(board);
     let mut kept = start;

@@ -7,7 +7,6 @@ ghost use Rattle.refusals.specs.Refusals.{number_of};
 ghost use Rattle.refusals.specs.Outcomes.{told};
 ghost use Rattle.runs.specs.Running.{runnable, unrun, told_ran, Runs};
 
-use crate::back::Notches;
 use board::Board;
 use kept::Kept;
 use refusals::{No, Refusal, unless};
@@ -84,17 +83,7 @@ pub fn run(board: Board, kept: Kept, log: &mut [u8]) -> Ran
 {
     match runnable(board, kept, log) {
         Err(refusal) => refuse(kept, refusal),
-        Ok(()) if log.len() <= SHORT_LOG => {
-            let mut notches = Notches {
-                words: [0; FEW_WORDS],
-            };
-            course::follow(board, kept, log, &mut notches)
-        }
-        Ok(()) => {
-            let mut notches = Notches {
-                words: [0; MANY_WORDS],
-            };
-            course::follow(board, kept, log, &mut notches)
-        }
+        Ok(()) if log.len() <= SHORT_LOG => course::follow::<FEW_WORDS>(board, kept, log),
+        Ok(()) => course::follow::<MANY_WORDS>(board, kept, log),
     }
 }

@@ -7,11 +7,13 @@ use Rattle.runs.proofs.run.Goals as goal
 
 pub follow-requires : goal.follow-requires
 follow-requires c =
-    let can = runnable-follow _ _ _ (sym c.runnable.ensures ∙ ap told c.in-Ok.is) in (omega arith, can)
+    let can = runnable-follow _ _ _ (sym c.runnable.ensures ∙ ap told c.in-Ok.is) in
+    record { some_words = omega arith; words_few = omega arith; relays_few = can.0; start_kept = can.1 }
 
 pub follow-requires-in-Ok-2 : goal.follow-requires-in-Ok-2
 follow-requires-in-Ok-2 c =
-    let can = runnable-follow _ _ _ (sym c.runnable.ensures ∙ ap told c.in-Ok-2.is) in (omega arith, can)
+    let can = runnable-follow _ _ _ (sym c.runnable.ensures ∙ ap told c.in-Ok-2.is) in
+    record { some_words = omega arith; words_few = omega arith; relays_few = can.0; start_kept = can.1 }
 
 pub returns-in-Err : goal.returns-in-Err
 returns-in-Err c =

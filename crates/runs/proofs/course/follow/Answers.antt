@@ -4,6 +4,7 @@
 use borrow.Author.Rules.{rules}
 use native.Mathlib.Omega.{arith}
 use mathlib.Core.Path.{refl, sym, ap, ◌∙◌}
+use lib.ListN.{length-replicate}
 use Rattle.moves.specs.Steps.{told_move}
 use Rattle.moves.proofs.StepLaws.{step_turns, kept_made_lem}
 use Rattle.runs.proofs.SeenLaws.{step_seen, told-moving}
@@ -14,7 +15,7 @@ use Rattle.runs.proofs.NotchLaws.{covered-spares}
 use Rattle.runs.proofs.course.follow.Goals as goal
 
 pub run-init : goal.run-init
-run-init g c = course_starts _ _ _ _ _ _ c.requires.start_kept
+run-init g c = course_starts _ _ _ _ _ _ _ c.requires.start_kept (length-replicate g.row.WORDS 0)
 
 pub look_back-requires : goal.look_back-requires
 look_back-requires g c = search (rules, covered-spares)
@@ -40,7 +41,7 @@ run-preserved g c =
     (λ own. c.after-kept.ensures
     ∙ kept_made_lem _ c.loop-relay.kept c.from-in-Drew.result (told_move c.step-motion.result) own)
     (told-moving c.step-motion.result c.in-Drew.is)
-    c.if-log-moves.false c.byte.ensures c.args.notches.now.some
+    c.if-log-moves.false c.byte.ensures c.requires.some_words
     c.look_back.ensures.notched
 
 pub returns-in-Some : goal.returns-in-Some

@@ -20,7 +20,7 @@ abbrev pub invariant-run : goal.invariant-run
 invariant-run g l =
     Course (step_of l.board) (kept_at l.board) l.relays
     (ran (kept_at l.board) (run_of (step_of l.board) l.relays (length l.initial.log) l.initial.kept.state)
-    l.initial.log) (length l.initial.log) (length l.initial.notches.words)
+    l.initial.log) (length l.initial.log) g.row.WORDS
     l.log l.notches.words l.moves l.kept
 
 abbrev pub decreases-run : goal.decreases-run
