@@ -41,25 +41,39 @@ def without_theorems(text):
     return re.sub(r"pub fn \w+\(\)\n    ensures \{ \w+ \}\n\{\}\n", "", text)
 
 
+def functions_of(code):
+    """The functions that a file declares with `pub`: the type whose method each is, if it is one, its name, and its contract's text."""
+    kind = None
+    lines = code.split("\n")
+    for number, line in enumerate(lines):
+        block = re.match(r"impl(?:<[^>]*>)? (\w+)(?:<[^>]*>)? \{", line)
+        if block:
+            kind = block.group(1)
+        elif line == "}":
+            kind = None
+        function = re.match(r'\s*pub (?:extern "C" )?fn (\w+)', line)
+        if function:
+            end = number
+            while lines[end].strip() != "{" and not lines[end].rstrip().endswith(" {"):
+                end += 1
+            yield kind if line.startswith(" ") else None, function.group(1), "\n".join(lines[number:end + 1])
+
+
 def public_functions(crate):
-    """The functions that another crate can call: a pair of the name, as crate::module::Type::function, and the contract's text."""
-    functions = []
-    for name, module in exported_files(crate):
-        kind = None
-        lines = without_theorems(text("crates", crate, "src", name)).split("\n")
-        for number, line in enumerate(lines):
-            block = re.match(r"impl (\w+) \{", line)
-            if block:
-                kind = block.group(1)
-            elif line == "}":
-                kind = None
-            function = re.match(r'\s*pub (?:extern "C" )?fn (\w+)', line)
-            if function:
-                end = number
-                while lines[end].strip() != "{" and not lines[end].rstrip().endswith(" {"):
-                    end += 1
-                own = [kind] if kind and line.startswith(" ") else []
-                functions.append(("::".join([crate] + module + own + [function.group(1)]), "\n".join(lines[number:end + 1])))
+    """The functions that another crate can call: a pair of the name, as crate::module::Type::function, and the contract's text.
+    A method of a type that the library exports is one of them, whatever module of the crate it stands in."""
+    functions, home = [], {}
+    exported = exported_files(crate)
+    for name, module in exported:
+        code = without_theorems(text("crates", crate, "src", name))
+        home.update({kind: module for kind in re.findall(r"^pub (?:struct|enum) (\w+)", code, re.M)})
+        for kind, function, contract in functions_of(code):
+            functions.append(("::".join([crate] + module + ([kind] if kind else []) + [function]), contract))
+    inner = set(files(crate, "src")) - {os.path.join("crates", crate, "src", name) for name, _ in exported}
+    for name in inner:
+        for kind, function, contract in functions_of(text(name)):
+            if kind in home:
+                functions.append(("::".join([crate] + home[kind] + [kind, function]), contract))
     return sorted(functions)
 
 

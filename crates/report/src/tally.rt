@@ -10,7 +10,7 @@ use runs::Ending;
 impl Figures {
     // The figures of one run.
     #[tactic(auto, unfolding(crate::specs::BothWays::one_run))]
-    pub fn one_run(word: Result<Ending, Refusal>, moves: usize) -> Self
+    pub(crate) fn one_run(word: Result<Ending, Refusal>, moves: usize) -> Self
         ensures { result ≡ one_run (told_ending word) moves }
     {
         let one = Figures {
@@ -30,7 +30,7 @@ impl Figures {
 
     // The figures of some runs with others after them. The most moves are those of the others, and the first setting
     // that has so many is one of theirs, only where they are more.
-    pub fn followed(self, others: Self) -> Self
+    pub(crate) fn followed(self, others: Self) -> Self
         requires some_within { Within (2 ^ 32) self }
         requires others_within { Within (2 ^ 32) others }
         ensures { result ≡ followed self others }
