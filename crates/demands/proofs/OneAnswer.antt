@@ -26,7 +26,7 @@ use Rattle.session.proofs.ToldLaws.{session-told, handed-tells}
 use Rattle.demands.proofs.TabledLaws.{next_line_tabled, next_lines_tabled}
 use Rattle.demands.specs.OneAnswer.{One, OneLent, OneAnswer}
 
-one_itself : {A : Type 0} (a : A) → One (λ (x : A). x ≡ a)
+pub one_itself : {A : Type 0} (a : A) → One (λ (x : A). x ≡ a)
 one_itself a = record { answer = a; allowed = refl; only = λ x y e f. e ∙ sym f }
 
 one_told : {A R : Type 0} (told : R → A) → Told told → (a : A) → One (λ x. told x ≡ a)
