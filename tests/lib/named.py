@@ -52,7 +52,7 @@ ENDINGS = ("py", "md", "txt", "antt", "rt", "rs", "hex", "lines", "words", "page
 
 
 # Pages that set names of before beside today's.
-RECORDS = ("docs/PORT.md", "docs/DESIGN-PASS.md")
+RECORDS = ("docs/PORT.md", "docs/DESIGN-PASS.md", "docs/LOOK-BACK.md")
 
 
 def documents():

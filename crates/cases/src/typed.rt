@@ -46,8 +46,8 @@ impl Besides {
     }
 }
 
-// A case as far as it is typed: what its text may hold besides, its bytes and how many there are, the first digit of the
-// next, and how many bytes stand before its colon.
+// A case as far as it is typed: what its text may hold besides, its bytes and how many there are, the first digit of
+// the next, and how many bytes stand before its colon.
 #[derive(Drop)]
 struct Case {
     besides: Besides,
