@@ -19,8 +19,8 @@ pub fn every_call_comes_back()
     ensures { EveryCallComesBack }
 {}
 
-// The line `bits_wide` of demand 1 holds the code: what std promises of `u32::from` of a byte, by which each call widens
-// one, is that line's promise.
+// The line `bits_wide` of demand 1 holds the code: what std promises of `u32::from` of a byte, by which each call
+// widens one, is that line's promise.
 pub fn bytes_are_widened()
     ensures { (x y : ℕ) → x < 256 → ⟦<u32 as From<u8>>⟧.from_gives x y → WideByte x y }
 {}
