@@ -1,6 +1,6 @@
 // The text of cases: pairs of hex digits are a case's bytes, `#` opens a comment up to the end of the line, white space
 // stands between, and any other character ends the case.
-ghost use Rattle.std.specs.Prelude.{◌≡◌, ◌≤◌, ◌*◌, IsTrue};
+ghost use Rattle.std.specs.Prelude.{◌≡◌, ◌≤◌, ◌*◌, ◌++◌, IsTrue, length, take};
 ghost use Rattle.cases.specs.Typed.{most_bytes, typed_digits};
 
 use board_reader::LONGEST_INPUT;
@@ -133,7 +133,10 @@ impl Case {
     }
 
     // The bytes before the colon, and those after it.
-    fn parts(&self) -> (&[u8], &[u8]) {
+    fn parts(&self) -> (&[u8], &[u8])
+        ensures sets { length result.0.now ≡ self.now.sets }
+        ensures all { result.0.now ++ result.1.now ≡ take self.now.length self.now.bytes }
+    {
         self.bytes[..self.length].split_at(self.sets)
     }
 }
