@@ -1,7 +1,7 @@
 -- Laws of the number of a session's next event.
-use Prim.Native.Nat.{ℕ, suc, ◌+◌, ◌≤◌}
+use Prim.Native.Nat.{ℕ, suc, ◌+◌, ◌<◌, ◌≤◌}
 use mathlib.Core.Path.{◌≡◌}
-use borrow.Author.Tests.{le-leb}
+use borrow.Author.Tests.{le-leb, lt-leb}
 use native.Mathlib.Omega.{arith}
 use mathlib.Core.Bool.{Bool, true, false, cond}
 use lib.Dec.{leb}
@@ -11,6 +11,10 @@ use Rattle.session.specs.Carried.{following}
 pub following_on : (e : ℕ) → e ≤ longest_input → e + 1 ≡ following e
 unfolding following
 following_on e short = rw (le-leb e longest_input short) (omega arith)
+
+pub following-stands : (e : ℕ) → longest_input < e → e ≡ following e
+unfolding following
+following-stands e long = rw (lt-leb e longest_input long)
 
 pub following_most : (e : ℕ) → following e ≤ suc e
 unfolding following

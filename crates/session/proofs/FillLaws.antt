@@ -1,5 +1,5 @@
 -- Laws of filling a buffer: the loop of `next_lines` has handed out the first of the lines that fit, and each call of
--- `next_line` on what is left of the buffer hands out the next of them, or ends it.
+-- `hand_line` on what is left of the buffer hands out the next of them, or ends it.
 use Prim.Native.Nat.{ℕ, zero, suc, ◌+◌, ◌-◌, ◌<◌, ◌≤◌}
 use native.Mathlib.Omega.{arith}
 use mathlib.Core.Path.{◌≡◌, refl, sym, ap, subst, ◌∙◌}
@@ -12,31 +12,31 @@ use borrow.Author.Tests.{leb-true, leb-false}
 use borrow.Rule.Slice.PartMut.{mid_of, put_mid}
 use Rattle.bits.proofs.BoolLaws.{by_test}
 use Rattle.refusals.specs.Outcomes.{Outcome, given, refused}
-use Rattle.refusals.specs.Refusals.{buffer_too_short}
+use Rattle.refusals.specs.Refusals.{buffer_too_short, number_of}
 use Rattle.board.specs.declared.Board.{Board}
 use Rattle.board_reader.specs.Editions.{current_edition}
 use Rattle.lines.specs.Lines.{Line, line_text, longest_line}
 use Rattle.lines.proofs.LineLaws.{line-length_some, line-length_most, line-room, line_short}
-use Rattle.std.specs.Prelude.{Result, Option, Some}
+use Rattle.std.specs.Prelude.{Result, Option, Some, None}
 use Rattle.refusals.specs.declared.Refusal.{Refusal}
-use Rattle.session.specs.declared.Session as code-session
-use Rattle.session.specs.declared.Handed as code-handed
+use Rattle.session.specs.declared.fill.HandedLine.{HandedLine}
 use Rattle.session.specs.Sessions.{line_texts, printed}
-use Rattle.session.specs.Carried.{Ahead, Coming, line, no_line, next_of, told_ahead, told_session}
+use Rattle.session.specs.Carried.{Ahead, Session, onward, Coming, line, no_line, next_of, told_ahead}
 use Rattle.session.specs.HandingOut.{HandOut, written, nothing, HandedAhead, carrying, handed_by, line_handed}
-use Rattle.session.specs.HandingOut.{told_hand_out, told_handed, next_line, NextLine, Handed}
-use Rattle.session.specs.Filling.{fits_on, fitting, filled_by, lines_handed, summed, next_lines}
+use Rattle.session.specs.HandingOut.{told_line_handed}
+use Rattle.session.specs.Filling.{fits_on, fitting, filled_by, lines_handed, summed}
 use Rattle.session.proofs.NextLineLaws.{line_handed_short, line_handed-room}
-use Rattle.refusals.proofs.Tabled.{tells_injective}
-use Rattle.session.proofs.ToldLaws.{hand_out_tells}
 use Rattle.session.proofs.FitLaws.{bytes_of, bytes-append, bytes_one, fitting_short, fitting_next}
 
--- what is handed on behind the bytes x, and what the answer r hands on with the buffer o
+-- what is handed on behind the bytes x
 abbrev pub behind : List ℕ → HandedAhead → HandedAhead
 behind x y = record { ahead = y.ahead; answer = y.answer; out = x ++ y.out }
 
-abbrev pub handed_on : code-handed.Handed → List ℕ → HandedAhead
-handed_on r o = record { ahead = told_ahead r.session.ahead; answer = told_hand_out r.answer; out = o }
+told_behind : (a : Ahead) (r : Result (Option HandedLine) Refusal) (x o : List ℕ)
+    → told_line_handed a r (x ++ o) ≡ behind x (told_line_handed a r o)
+told_behind a (Result.Ok (Some l)) x o = refl
+told_behind a (Result.Ok None) x o = refl
+told_behind a (Result.Err e) x o = refl
 
 -- ---- a part of the buffer that was lent, and is back
 
@@ -54,17 +54,14 @@ module _ (out : List ℕ) (at : ℕ) where
       ap (λ (x : List ℕ). take at out ++ (o ++ x)) none ∙ ap (λ (x : List ℕ). take at out ++ x) (append-nil o)
 
   -- the answer r to a call on what is left behind `at` bytes, which left the bytes o there
-  pub call_behind : (z : code-session.Session) (s o out' : List ℕ) (r : code-handed.Handed)
-      → NextLine z s (mid_of at (length out - at) out) r o
-      → out' ≡ put_mid at (length out - at) out o
-      → handed_on r out' ≡ behind (take at out) (line_handed z.board (told_ahead z.ahead) s (drop at out))
-  unfolding next_line
-  call_behind z s o out' r called back =
-      let lent = called ∙ ap (λ (p : List ℕ). carrying (told_session z) (line_handed z.board
-      (told_ahead z.ahead) s p)) part-lent in
-      ap (handed_on r) (back ∙ part_back o)
-      ∙ ap (λ (h : Handed).
-      behind (take at out) (record { ahead = h.session.ahead; answer = h.answer; out = h.out })) lent
+  pub call_behind : (b : Board) (a : Ahead) (s o : List ℕ) (r : Result (Option HandedLine) Refusal)
+      → told_line_handed a r o ≡ line_handed b a s (mid_of at (length out - at) out)
+      → told_line_handed a r (put_mid at (length out - at) out o)
+      ≡ behind (take at out) (line_handed b a s (drop at out))
+  call_behind b a s o r called =
+      ap (told_line_handed a r) (part_back o)
+      ∙ told_behind a r (take at out) o
+      ∙ ap (behind (take at out)) (called ∙ ap (line_handed b a s) part-lent)
 
 -- ---- the answer
 
@@ -249,58 +246,55 @@ module _ (b : Board) (a₀ : Ahead) (s out₀ : List ℕ) (a : Ahead) (out : Lis
           within = omega (arith, room, room-left, line-length_most l);
         }
 
-  -- ---- what a call of `next_line` on the rest comes to
+  -- ---- what a call of `hand_line` on the rest comes to
 
-  module _ (r : code-handed.Handed) (out' : List ℕ)
-      (called : handed_on r out' ≡ behind (take used out) (line_handed b a s (drop used out))) where
-    came_to_lem : (x : HandedAhead) → line_handed b a s (drop used out) ≡ x
-        → handed_on r out' ≡ behind (take used out) x
-    came_to_lem x is = called ∙ ap (behind (take used out)) is
+  module _ (x : HandedAhead) (called : x ≡ behind (take used out) (line_handed b a s (drop used out))) where
+    came_to_lem : (y : HandedAhead) → line_handed b a s (drop used out) ≡ y → x ≡ behind (take used out) y
+    came_to_lem y is = called ∙ ap (behind (take used out)) is
 
     pub record Goes (n : ℕ) : Type 0 where
       pub grows : 0 < n
-      pub filled_on : FilledTo b a₀ s out₀ (told_ahead r.session.ahead) out' (used + n)
+      pub filled_on : FilledTo b a₀ s out₀ x.ahead x.out (used + n)
 
-    goes_by : (n : ℕ) → r.answer ≡ Result.Ok (Some n) → Ways b a s (drop used out) → Goes n
+    goes_by : (n : ℕ) → x.answer ≡ given (written n) → Ways b a s (drop used out) → Goes n
     goes_by n is (no_room short e) =
-        absurd (line_not_refused (ap told_hand_out (sym is) ∙ ap (λ (x : HandedAhead). x.answer) (came_to_lem _ e)))
+        absurd (line_not_refused (sym is ∙ ap (λ (y : HandedAhead). y.answer) (came_to_lem _ e)))
     goes_by n is (no_more y room none e) =
-        absurd (line_not_nothing (ap told_hand_out (sym is) ∙ ap (λ (x : HandedAhead). x.answer) (came_to_lem _ e)))
+        absurd (line_not_nothing (sym is ∙ ap (λ (y : HandedAhead). y.answer) (came_to_lem _ e)))
     goes_by n is (one_line y l room next e) =
         let told = came_to_lem _ e in
-        let long : n ≡ length (line_text l) =
-        line_is (ap told_hand_out (sym is) ∙ ap (λ (x : HandedAhead). x.answer) told) in
+        let long : n ≡ length (line_text l) = line_is (sym is ∙ ap (λ (y : HandedAhead). y.answer) told) in
         record {
           grows = omega (arith, long, line-length_some l);
           filled_on =
-              rw (ap (λ (x : HandedAhead). x.ahead) told, ap (λ (x : HandedAhead). x.out) told, long)
+              rw (ap (λ (y : HandedAhead). y.ahead) told, ap (λ (y : HandedAhead). y.out) told, long)
               (filled_line y l room next);
         }
 
-    pub line_goes : (n : ℕ) → r.answer ≡ Result.Ok (Some n) → Goes n
+    pub line_goes : (n : ℕ) → x.answer ≡ given (written n) → Goes n
     line_goes n is = goes_by n is (ways b a s (drop used out))
 
     -- ---- the end: no line, or no room for one
 
     -- no further line fits, and the buffer is as it was before the call
     record Ends : Type 0 where
-      none : f.rest ≡ (told_ahead r.session.ahead, [])
-      buffer : out' ≡ out
-      why : Why (length out₀ - used) (told_hand_out r.answer)
+      none : f.rest ≡ (x.ahead, [])
+      buffer : x.out ≡ out
+      why : Why (length out₀ - used) x.answer
 
     ends_with : (y : Ahead) (o : Outcome HandOut) → f.rest ≡ (y, []) → Why (length out₀ - used) o
-        → handed_on r out' ≡ behind (take used out) (record { ahead = y; answer = o; out = drop used out })
+        → x ≡ behind (take used out) (record { ahead = y; answer = o; out = drop used out })
         → Ends
     ends_with y o none why told =
         record {
           none =
               none
-              ∙ ap {B = Ahead × List Line} (λ (x : Ahead). (x, [])) (ap (λ (x : HandedAhead). x.ahead) (sym told));
-          buffer = ap (λ (x : HandedAhead). x.out) told ∙ take-append-drop used out;
-          why = subst (Why (length out₀ - used)) (ap (λ (x : HandedAhead). x.answer) (sym told)) why;
+              ∙ ap {B = Ahead × List Line} (λ (z : Ahead). (z, [])) (ap (λ (z : HandedAhead). z.ahead) (sym told));
+          buffer = ap (λ (z : HandedAhead). z.out) told ∙ take-append-drop used out;
+          why = subst (Why (length out₀ - used)) (ap (λ (z : HandedAhead). z.answer) (sym told)) why;
         }
 
-    ends_by : ((n : ℕ) → r.answer ≡ Result.Ok (Some n) → ⊥) → Ways b a s (drop used out) → Ends
+    ends_by : ((n : ℕ) → x.answer ≡ given (written n) → ⊥) → Ways b a s (drop used out) → Ends
     ends_by never (no_room short e) =
         let less : length out₀ - used < longest_line = omega (arith, short, room-left) in
         ends_with a (refused buffer_too_short 0)
@@ -309,55 +303,50 @@ module _ (b : Board) (a₀ : Ahead) (s out₀ : List ℕ) (a : Ahead) (out : Lis
         ends_with y (given nothing) (left_next room (y, no_line) none) (inl (omega (arith, room, room-left), refl))
         (came_to_lem _ e)
     ends_by never (one_line y l room next e) =
-        absurd (never (length (line_text l))
-        (tells_injective told_hand_out hand_out_tells r.answer (Result.Ok (Some (length (line_text l))))
-        (ap (λ (x : HandedAhead). x.answer) (came_to_lem _ e))))
+        absurd (never (length (line_text l)) (ap (λ (z : HandedAhead). z.answer) (came_to_lem _ e)))
 
-    pub line-ends : ((n : ℕ) → r.answer ≡ Result.Ok (Some n) → ⊥) → (o : Result (Option ℕ) Refusal)
-        → told_hand_out o ≡ summed used (told_hand_out r.answer)
-        → record { ahead = told_ahead r.session.ahead; answer = told_hand_out o; out = out' } ≡ lines_handed b a₀ s out₀
+    pub line-ends : ((n : ℕ) → x.answer ≡ given (written n) → ⊥) → (o : Outcome HandOut)
+        → o ≡ summed used x.answer → record { ahead = x.ahead; answer = o; out = x.out } ≡ lines_handed b a₀ s out₀
     line-ends never o told =
         let end = ends_by never (ways b a s (drop used out)) in
         let fits =
         f.all
         ∙ ap {B = Ahead × List Line} (λ (w : Ahead × List Line). (w.0, f.lines ++ w.1)) end.none
-        ∙ ap {B = Ahead × List Line} (λ (ls : List Line). (told_ahead r.session.ahead, ls)) (append-nil f.lines) in
+        ∙ ap {B = Ahead × List Line} (λ (ls : List Line). (x.ahead, ls)) (append-nil f.lines) in
         rw (told, end.buffer, f.text, f.bytes)
-        (lines_end b a₀ s out₀ (told_ahead r.session.ahead) (told_hand_out r.answer) f.lines fits
-        (subst (λ (n : ℕ). Why (length out₀ - n) (told_hand_out r.answer)) f.bytes end.why))
+        (lines_end b a₀ s out₀ x.ahead x.answer f.lines fits
+        (subst (λ (n : ℕ). Why (length out₀ - n) x.answer) f.bytes end.why))
 
 -- ---- one call of the loop, on what is left behind `used` bytes
 
-module _ (z₀ z : code-session.Session) (s out₀ out : List ℕ) (used : ℕ) (same : z.board ≡ z₀.board)
-    (f : FilledTo z₀.board (told_ahead z₀.ahead) s out₀ (told_ahead z.ahead) out used) (r : code-handed.Handed)
-    (o : List ℕ) (called : NextLine z s (mid_of used (length out - used) out) r o) where
+module _ (z : Session) (a : Ahead) (s out₀ out : List ℕ) (used : ℕ) (f : FilledTo z.board z.ahead s out₀ a out used)
+    (r : Result (Option HandedLine) Refusal) (o : List ℕ)
+    (called : told_line_handed a r o ≡ line_handed z.board a s (mid_of used (length out - used) out)) where
   -- the buffer after the call
   abbrev pub after : List ℕ
   after = put_mid used (length out - used) out o
 
-  pub on : handed_on r after ≡ behind (take used out) (line_handed z₀.board (told_ahead z.ahead) s (drop used out))
-  on =
-      subst
-      (λ (b : Board). handed_on r after ≡ behind (take used out) (line_handed b (told_ahead z.ahead) s (drop used out)))
-      same (call_behind out used z s o after r called refl)
+  told_by : (q : Result (Option HandedLine) Refusal) → r ≡ q
+      → told_line_handed a q after ≡ behind (take used out) (line_handed z.board a s (drop used out))
+  told_by q is =
+      ap (λ (p : Result (Option HandedLine) Refusal). told_line_handed a p after) (sym is)
+      ∙ call_behind out used z.board a s o r called
 
-  pub step_board : r.session.board ≡ z₀.board
-  unfolding next_line
-  step_board = ap (λ (h : Handed). h.session.board) called ∙ same
+  pub step_goes : (l : HandedLine) → r ≡ Result.Ok (Some l)
+      → (0 < l.length) × FilledTo z.board z.ahead s out₀ (told_ahead l.ahead) after (used + l.length)
+  step_goes l is =
+      let goes = line_goes z.board z.ahead s out₀ a out used f _ (told_by (Result.Ok (Some l)) is) l.length refl in
+      (goes.grows, goes.filled_on)
 
-  pub step_goes : (n : ℕ) → r.answer ≡ Result.Ok (Some n)
-      → Goes z₀.board (told_ahead z₀.ahead) s out₀ (told_ahead z.ahead) out used f r after on n
-  step_goes = line_goes z₀.board (told_ahead z₀.ahead) s out₀ (told_ahead z.ahead) out used f r after on
+  pub step_over : r ≡ Result.Ok None → (q : Outcome HandOut) → q ≡ summed used (given nothing)
+      → record { session = onward z a; answer = q; out = after } ≡ carrying z (lines_handed z.board z.ahead s out₀)
+  step_over is q told =
+      ap (carrying z) (line-ends z.board z.ahead s out₀ a out used f _ (told_by (Result.Ok None) is)
+      (λ n e. line_not_nothing (sym e)) q told)
 
-  pub step_ends : ((n : ℕ) → r.answer ≡ Result.Ok (Some n) → ⊥) → (q : Result (Option ℕ) Refusal)
-      → told_hand_out q ≡ summed used (told_hand_out r.answer)
-      → told_handed (record { session = r.session; answer = q }) after ≡ next_lines (told_session z₀) s out₀
-  unfolding next_lines
-  step_ends never q told =
-      (λ i. record {
-        session = record { board = step_board i; ahead = told_ahead r.session.ahead };
-        answer = told_hand_out q;
-        out = after;
-      })
-      ∙ ap (carrying (told_session z₀))
-      (line-ends z₀.board (told_ahead z₀.ahead) s out₀ (told_ahead z.ahead) out used f r after on never q told)
+  pub step_refused : (e : Refusal) → r ≡ Result.Err e → (q : Outcome HandOut)
+      → q ≡ summed used (refused (number_of e.no) e.place)
+      → record { session = onward z a; answer = q; out = after } ≡ carrying z (lines_handed z.board z.ahead s out₀)
+  step_refused e is q told =
+      ap (carrying z) (line-ends z.board z.ahead s out₀ a out used f _ (told_by (Result.Err e) is)
+      (λ n w. line_not_refused (sym w)) q told)

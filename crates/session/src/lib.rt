@@ -87,17 +87,21 @@ pub fn next_line(session: Session, s: &[u8], out: &mut [u8]) -> Handed
 pub fn next_lines(session: Session, s: &[u8], out: &mut [u8]) -> Handed
     ensures { NextLines session s.now out.old result out.new }
 {
-    let mut session = session;
+    let board = session.board;
+    let mut ahead = session.ahead;
     let mut used = 0;
-    loop {
-        let handed = next_line(session, s, &mut out[used..]);
-        session = handed.session;
-        let Ok(Some(length)) = handed.answer else {
-            return Handed {
-                session,
-                answer: fill::sum_up(used, handed.answer),
-            };
-        };
-        used += length;
+    let last = loop {
+        match fill::hand_line(board, ahead, s, &mut out[used..]) {
+            Ok(Some(line)) => {
+                ahead = line.ahead;
+                used += line.length;
+            }
+            Ok(None) => break Ok(None),
+            Err(refusal) => break Err(refusal),
+        }
+    };
+    Handed {
+        session: Session { board, ahead },
+        answer: fill::sum_up(used, last),
     }
 }
