@@ -4,7 +4,7 @@
 // page of all settings of the board at the start of the input instead (`page.rt`).
 #![tactic(auto)]
 
-ghost use Rattle.std.specs.Prelude.{ℕ, suc, ◌+◌, ◌<◌, ◌≤◌, ◌≡◌, IfOk, OnOk, OnErr, length, take, drop};
+ghost use Rattle.std.specs.Prelude.{ℕ, suc, ◌+◌, ◌<◌, ◌≤◌, ◌≡◌, List, None, Ok, IfOk, OnOk, OnErr, length, take, drop};
 ghost use Rattle.std.specs.Io.KnownBytes.{Appends, Consumes, IsAtEnd, Keeps};
 ghost use Rattle.board_reader.specs.Editions.{current_edition};
 ghost use Rattle.board_reader.specs.Reading.{longest_input};
@@ -128,21 +128,37 @@ fn run_session<W: Write, E: Write>(out: &mut W, err: &mut E, input: &[u8]) -> io
     Ok(())
 }
 
+// Reads the input, and prints its session; or the page of its board, where a length of the log is asked for. An error
+// is what to tell of it. Where a session was printed, it is that of all that was read: to the input's end, or one byte
+// more than the longest input.
+fn answer_input<R: Read, W: Write, E: Write>(
+    reader: &mut R,
+    out: &mut W,
+    err: &mut E,
+    asked: Result<Option<usize>, NoNumber>,
+) -> Result<(), &'static [u8]>
+    ensures { asked ≡ Ok None → OnOk result ((input : List ℕ)
+        × Consumes (R.remaining reader.old) (R.remaining reader.new) input
+        × (length input < suc longest_input → IsAtEnd (R.remaining reader.new))
+        × Appends (W.contents out.old) (W.contents out.new) (session_text current_edition input)) }
+{
+    let mut buffer = [0; INPUT_ROOM];
+    let Ok(read) = read_input(reader, &mut buffer) else {
+        return Err(UNREAD);
+    };
+    let input = &buffer[..read];
+    match asked {
+        Ok(None) => run_session(out, err, input).map_err(|_| UNWRITTEN),
+        Ok(Some(length)) => page::print_page(out, err, input, length).map_err(|_| UNWRITTEN),
+        Err(NoNumber) => Err(NO_LENGTH),
+    }
+}
+
 // What standard output and standard error are given is written at once: neither is buffered here.
 fn main(rt: HostRuntime) {
-    let mut out = rt.stdout();
     let mut err = rt.stderr();
-    let mut buffer = [0; INPUT_ROOM];
-    let input = match read_input(&mut rt.stdin(), &mut buffer) {
-        Ok(read) => &buffer[..read],
-        Err(_) => return tell(&mut err, UNREAD),
-    };
-    let printed = match page::asked_length(&rt) {
-        Ok(None) => run_session(&mut out, &mut err, input),
-        Ok(Some(length)) => page::print_page(&mut out, &mut err, input, length),
-        Err(NoNumber) => return tell(&mut err, NO_LENGTH),
-    };
-    if printed.is_err() {
-        tell(&mut err, UNWRITTEN);
+    let asked = page::asked_length(&rt);
+    if let Err(words) = answer_input(&mut rt.stdin(), &mut rt.stdout(), &mut err, asked) {
+        tell(&mut err, words);
     }
 }
