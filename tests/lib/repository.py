@@ -37,8 +37,9 @@ def exported_files(crate):
 
 
 def without_theorems(text):
-    """Code without the functions that stand for a theorem: no parameter, an empty body, and a statement as the contract."""
-    return re.sub(r"pub fn \w+\(\)\n    ensures \{ \w+ \}\n\{\}\n", "", text)
+    """Code without the functions that stand for a theorem: no parameter, an empty body, and a statement as the contract, which is of
+    each type where the function has a type's parameter."""
+    return re.sub(r"pub fn \w+(?:<[^<>]*>)?\(\)\n    ensures \{ [^{}\n]* \}\n\{\}\n", "", text)
 
 
 def functions_of(code):

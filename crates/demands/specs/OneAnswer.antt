@@ -4,8 +4,9 @@
 --     One P        the promise P allows an answer, and any two that it allows are one
 --     OneLent P    P allows an answer with what it leaves in a lent log or buffer, and any two that it allows are one
 --                  answer, and leave the same
---     OneAnswer    the list; the argument of `bits_wide` is a byte: its promise is kept by std's `u32::from` today;
---                  that of `refusals_unless` is a `No`, as in every call: `AsksLine` is one answer of any type likewise
+--     OneAnswer    the list; the argument of `bits_wide` is a byte: its promise is kept by std's `u32::from` today,
+--                  which `bytes_are_widened` shows; that of `refusals_unless` is a `No`, as in every call: of any type
+--                  `any_line_is_one_answer` says it
 use Rattle.std.specs.Prelude.{ℕ, ◌<◌, ◌≡◌, Bool, List, Option}
 use Rattle.bits.specs.Sets.{SetHas, SetWith, SetWithout, SetFlipped, SetRemaining, SetTogether, SetLowestFrom}
 use Rattle.bits.specs.Sets.{SetAllBelow, WideByte}
