@@ -2,7 +2,7 @@
 use Prim.Native.Nat.{ℕ, ◌+◌, ◌-◌, ◌≤◌, ◌<◌}
 use native.Mathlib.Omega.{arith}
 use mathlib.Core.Path.{◌≡◌, refl, sym, ap, subst, ◌∙◌}
-use mathlib.Core.Bool.{Bool, true, false, ◌&&◌}
+use mathlib.Core.Bool.{Bool, true, false, not, ◌&&◌}
 use mathlib.Core.Logic.{◌⊎◌, inl, inr}
 use mathlib.Core.List.{List, [], ◌∷◌, ◌++◌}
 use Rattle.std.specs.Prelude.{Option, Some, None}
@@ -17,6 +17,8 @@ use Rattle.kinds.specs.declared.Kind.{Kind}
 use Rattle.board.specs.declared.Part.{Part}
 use Rattle.board.specs.Rules.{most_terminals}
 use Rattle.lists.proofs.TableLaws.{table-length, table_at}
+use Rattle.state.specs.declared.State.{State}
+use Rattle.neighbours.specs.Conduction.{conducts, winds, conducts_bare}
 use Rattle.neighbours.specs.Neighbours.{with_part, set_from}
 use Rattle.neighbours.specs.Rows.{EachSet, only_at, without, among, among_by, gathered}
 use Rattle.neighbours.proofs.SetAtLaws.{from_none}
@@ -45,6 +47,23 @@ each_apart at f p near off =
     neither false u off = refl
     neither true u (inl off) = cc
     neither true u (inr off) = off
+
+-- ---- a part conducts and is no winding
+
+module _ (s : State) (k : Kind) where
+  pub bare_on : winds k ≡ false → conducts s k ≡ true → conducts_bare s k ≡ true
+  bare_on no_winding on = rw (no_winding, on) refl
+
+  pub bare_winding : winds k ≡ true → conducts_bare s k ≡ false
+  bare_winding is = rw is refl
+
+  pub bare_off : {A : Type 0} → A ⊎ (conducts s k ≡ false) → A ⊎ (conducts_bare s k ≡ false)
+  bare_off (inl a) = inl a
+  bare_off (inr off) = inr (neither (winds k) (conducts s k) off)
+    where
+      neither : (t u : Bool) → u ≡ false → (not t && u) ≡ false
+      neither true u off = refl
+      neither false u off = off
 
 -- ---- on the way up along the terminals of a set, in `clear`: those below x are done, the others are as they were
 
@@ -193,6 +212,13 @@ gathered_last g ps p near next more =
     (λ x below. gathered_at g (ps ++ (p ∷ [])) near x below
     ∙ from_last g x (get_or near x 0) ps p
     ∙ ap (λ (k : ℕ). set_from g x k ps) (sym (more.each x below)))
+
+-- what all the parts join comes to what those that are left join to the sets so far: on by the last of these
+pub gathered_on : (g : Part → Bool) (all left ps : List Part) (p : Part) (start near next : List ℕ)
+    → gathered g all start ≡ gathered g left near → left ≡ ps ++ (p ∷ []) → EachSet near next (with_part (g p) p)
+    → gathered g all start ≡ gathered g ps next
+gathered_on g all left ps p start near next so last more =
+    so ∙ ap (λ (qs : List Part). gathered g qs near) last ∙ gathered_last g ps p near next more
 
 pub gathered_none : (g : Part → Bool) (near : List ℕ) → length near ≡ most_terminals → gathered g [] near ≡ near
 gathered_none g near long = sym (gathered_each g [] near near long (λ x below. sym (from_none g x (get_or near x 0))))

@@ -7,10 +7,6 @@
 --     among_by at f p       so it is, and the kind of p passes the test f
 --     gathered g ps near    the sets `near`, each with those besides that the parts ps join to its terminal, of them
 --                           those that pass the test g
---     GathersBy post at ps near r
---                           the sets r are `near`, each with those besides that the parts ps join to its terminal, of
---                           them those with both ends in the set `at` and of a kind that passes the test f, where f is
---                           whatever the code's test comes to, by its result `post`
 use Rattle.std.specs.Prelude.{ℕ, ◌<◌, ◌≡◌, Bool, cond, ◌&&◌, List, length, get_or}
 use Rattle.lists.specs.Tables.{table_from}
 use Rattle.bits.specs.Sets.{member, remaining}
@@ -37,7 +33,3 @@ among_by at f p = among at p && f p.kind
 
 unfoldable pub gathered : (Part → Bool) → List Part → List ℕ → List ℕ
 gathered g ps near = table_from (λ (x : ℕ). set_from g x (get_or near x 0) ps) most_terminals 0
-
-abbrev pub GathersBy : (Kind → Bool → Type 0) → ℕ → List Part → List ℕ → List ℕ → Type 0
-GathersBy post at ps near r =
-    (f : Kind → Bool) → ((k : Kind) (t : Bool) → post k t → t ≡ f k) → r ≡ gathered (among_by at f) ps near

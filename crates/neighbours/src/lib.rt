@@ -3,16 +3,15 @@
 #![tactic(auto)]
 
 ghost use Rattle.std.specs.Prelude.{◌≡◌};
-ghost use Rattle.neighbours.specs.Conduction.{Conducts};
+ghost use Rattle.neighbours.specs.Conduction.{conducts, conducts_bare, winds, Conducts};
 ghost use Rattle.neighbours.specs.Neighbours.{Neighbours, Renews};
+ghost use Rattle.neighbours.specs.Rows.{among_by, gathered};
 
-use bare::conducts_bare;
-use board::Board;
+use board::{Board, Part};
 use kinds::Kind;
 use row::Row;
 use state::State;
 
-mod bare;
 mod row;
 
 // The sets of neighbours: for each of 64 terminals the set of terminals that a conducting part joins to it, and the set
@@ -47,14 +46,40 @@ pub fn conducts(kind: Kind, state: State) -> bool
     }
 }
 
+// Whether a part of this kind is a winding.
+fn winds(kind: Kind) -> bool
+    ensures { result ≡ winds kind }
+{
+    matches!(
+        kind,
+        Kind::Regular(_) | Kind::Drawing(_) | Kind::Dropping(_)
+    )
+}
+
+// Joins each pair of these terminals besides that a part joins, part by part from the last: in one row by all parts that
+// conduct in this state, in the other by those of them that are no winding, which can shunt one (docs/RULES.md,
+// "Shunted"). One pass does for both rows.
+fn gather(near: &mut Row, bare: &mut Row, at: u64, parts: &[Part], state: State)
+    ensures near_gathered { near.new.sets ≡ gathered (among_by at (conducts state)) parts.now near.old.sets }
+    ensures bare_gathered { bare.new.sets ≡ gathered (among_by at (conducts_bare state)) parts.now bare.old.sets }
+{
+    for &part in parts.iter().rev() {
+        if row::is_among(part, at) && conducts(part.kind, state) {
+            near.bridge(part);
+            if !winds(part.kind) {
+                bare.bridge(part);
+            }
+        }
+    }
+}
+
 // The sets of a board in a state.
 pub fn neighbours(board: Board, state: State) -> Sets
     ensures { Neighbours board state result }
 {
     let mut near = Row { sets: [0; PLACES] };
     let mut bare = Row { sets: [0; PLACES] };
-    near.gather(EVERYWHERE, board.parts(), |kind| conducts(kind, state));
-    bare.gather(EVERYWHERE, board.parts(), |kind| conducts_bare(kind, state));
+    gather(&mut near, &mut bare, EVERYWHERE, board.parts(), state);
     Sets {
         near: near.sets,
         bare: bare.sets,
@@ -70,8 +95,7 @@ pub fn renew(sets: Sets, at: u64, board: Board, state: State) -> Sets
     let mut bare = Row { sets: bare };
     near.clear(at);
     bare.clear(at);
-    near.gather(at, board.parts(), |kind| conducts(kind, state));
-    bare.gather(at, board.parts(), |kind| conducts_bare(kind, state));
+    gather(&mut near, &mut bare, at, board.parts(), state);
     Sets {
         near: near.sets,
         bare: bare.sets,

@@ -2,11 +2,10 @@
 ghost use Rattle.std.specs.Prelude.{◌≡◌, true, length};
 ghost use Rattle.board.specs.Rules.{most_terminals};
 ghost use Rattle.neighbours.specs.Neighbours.{with_other, with_part};
-ghost use Rattle.neighbours.specs.Rows.{EachSet, GathersBy, among, only_at, without};
+ghost use Rattle.neighbours.specs.Rows.{EachSet, among, only_at, without};
 
 use crate::PLACES;
 use board::{MOST_TERMINALS, Part};
-use kinds::Kind;
 
 // A row of sets, one for each of 64 terminals.
 #[derive(Drop)]
@@ -39,30 +38,17 @@ impl Row {
     }
 
     // Joins the ends of a part besides, in both directions.
-    fn bridge(&mut self, part: &Part)
-        ensures { EachSet self.old.sets self.new.sets (with_part true part.now) }
+    pub fn bridge(&mut self, part: Part)
+        ensures { EachSet self.old.sets self.new.sets (with_part true part) }
     {
         self.join(part.a, part.b);
         self.join(part.b, part.a);
     }
-
-    // Joins each pair of these terminals besides that a part joins whose kind passes the test: part by part from the
-    // last.
-    pub fn gather<J: Fn(Kind) -> bool>(&mut self, at: u64, parts: &[Part], joins: J)
-        requires { J.IsAlwaysCallable joins }
-        ensures { GathersBy (J.post joins) at parts.now self.old.sets self.new.sets }
-    {
-        for part in parts.iter().rev() {
-            if is_among(part, at) && joins(part.kind) {
-                self.bridge(part);
-            }
-        }
-    }
 }
 
 // Whether both ends of a part are among these terminals.
-fn is_among(part: &Part, at: u64) -> bool
-    ensures { result ≡ among at part.now }
+pub fn is_among(part: Part, at: u64) -> bool
+    ensures { result ≡ among at part }
 {
     bits::has(at, u32::from(part.a)) && bits::has(at, u32::from(part.b))
 }
