@@ -1,8 +1,8 @@
 -- Laws of a board's file and of what writing it comes to.
 use mathlib.Core.Path.{◌≡◌, refl, sym, ap, ◌∙◌}
 use mathlib.Core.Bool.{true, false}
-use mathlib.Core.List.{List, ◌++◌}
-use Prim.Native.Nat.{ℕ, ◌+◌, ◌≤◌, ◌<◌}
+use mathlib.Core.List.{List, [], ◌∷◌, ◌++◌}
+use Prim.Native.Nat.{ℕ, ◌+◌, ◌-◌, ◌/◌, ◌≤◌, ◌<◌}
 use native.Mathlib.Omega.{arith}
 use lib.ListN.{length, take, drop, length-append}
 use lib.Seq.{sets, take_at}
@@ -14,7 +14,9 @@ use Rattle.refusals.specs.Outcomes.{Outcome, given, refused, told}
 use Rattle.refusals.proofs.OutcomeLaws.{given_injective, refused_never}
 use Rattle.number.specs.Numbers.{current_width, number_bytes, WritesNumber}
 use Rattle.number.proofs.Buffers.{sets_at_zero}
-use Rattle.number.proofs.NumberLaws.{number_bytes-length, number_written}
+use Rattle.bits.proofs.BoolLaws.{by_less}
+use Rattle.number.proofs.FormLaws.{encode_more, encode_some}
+use Rattle.number.proofs.NumberLaws.{number_bytes-length, number_bytes_one, number_written}
 use Rattle.refusals.specs.Refusals.{broken_board, buffer_too_short}
 use Rattle.refusals.specs.Order.{first_no}
 use Rattle.board.specs.declared.Board.{Board}
@@ -22,6 +24,20 @@ use Rattle.board.specs.Parts.{parts_of}
 use Rattle.board.specs.Rules.{board_fine}
 use Rattle.board_writer.specs.File.{parts_bytes, counts_bytes, board_bytes}
 use Rattle.board_writer.specs.Writing.{writing}
+
+-- ---- a number of one byte is that byte
+
+longer_than_one : (v : ℕ) → 128 ≤ v → 1 < length (number_bytes v)
+unfolding number_bytes
+longer_than_one v more =
+    let left : ℕ = current_width.longest - 1 in
+    omega (arith, ap length (encode_more left v more), encode_some left (v / 128) (omega arith))
+
+pub number_one : (v : ℕ) → length (number_bytes v) ≡ 1 → (v < 128) × (number_bytes v ≡ v ∷ [])
+number_one v one =
+    by_less v 128
+    (λ small. (small, number_bytes_one v small))
+    (λ more. absurd (omega (arith, one, longer_than_one v more)))
 
 -- ---- a number, at the start of bytes that have room for the longest
 

@@ -2,10 +2,9 @@
 // refusal with no byte written.
 #![tactic(auto)]
 
-ghost use Rattle.std.specs.Prelude.{◌≡◌, ◌+◌, ◌≤◌, ◌++◌, true, length};
+ghost use Rattle.std.specs.Prelude.{◌≡◌, ◌+◌, ◌≤◌, ◌++◌, length};
 ghost use Rattle.number.specs.Numbers.{number_bytes};
 ghost use Rattle.board.specs.Parts.{most_parts};
-ghost use Rattle.board.specs.Rules.{board_fine};
 ghost use Rattle.board_writer.specs.File.{counts_bytes, part_bytes, board_bytes, longest_file};
 ghost use Rattle.board_writer.specs.Writing.{Writes};
 
@@ -19,11 +18,15 @@ pub const LONGEST_FILE: usize = 1029;
 // The longest form of a number, in bytes.
 const LONGEST_NUMBER: usize = 5;
 
-// Adds a number's bytes.
+// Adds a number's bytes. A number of one byte is that byte itself, and all of a board's have one, but for C.
 fn push_number(file: &mut ArrayVec<u8, LONGEST_FILE>, value: u32)
     requires { length file.old.items + length (number_bytes value) ≤ longest_file }
     ensures { file.new.items ≡ file.old.items ++ number_bytes value }
 {
+    if number::number_length(value) == 1 {
+        file.push(value as u8);
+        return;
+    }
     let mut bytes = [0; LONGEST_NUMBER];
     let length = number::write_number(value, &mut bytes, 0).unwrap();
     file.try_extend_from_slice(&bytes[..length]).unwrap();
@@ -54,17 +57,16 @@ fn push_part(file: &mut ArrayVec<u8, LONGEST_FILE>, part: Part)
     }
 }
 
-// The file of a board that breaks no rule.
-fn file(board: Board) -> ArrayVec<u8, LONGEST_FILE>
-    requires { board_fine board ≡ true }
-    ensures { result.items ≡ board_bytes board }
+// Adds a board's file: its counts, and then part after part.
+fn push_board(file: &mut ArrayVec<u8, LONGEST_FILE>, board: Board)
+    requires room { length file.old.items + length (board_bytes board) ≤ longest_file }
+    requires parts { board.counts.parts ≤ most_parts }
+    ensures { file.new.items ≡ file.old.items ++ board_bytes board }
 {
-    let mut file = ArrayVec::new();
-    push_counts(&mut file, board.counts);
+    push_counts(file, board.counts);
     for &part in board.parts() {
-        push_part(&mut file, part);
+        push_part(file, part);
     }
-    file
 }
 
 // Writes a board's file at the start of the buffer: 15, then 16, with no byte written.
@@ -72,7 +74,8 @@ pub fn write(board: Board, out: &mut [u8]) -> Result<usize, Refusal>
     ensures { Writes board out.old result out.new }
 {
     unless(board::check(board), No::BrokenBoard)?;
-    let file = file(board);
+    let mut file = ArrayVec::new();
+    push_board(&mut file, board);
     let bytes = file.as_slice();
     unless(bytes.len() <= out.len(), No::BufferTooShort)?;
     out[..bytes.len()].copy_from_slice(bytes);

@@ -1,8 +1,19 @@
--- `board_writer::push_number` adds a number's bytes: five bytes have room for the longest form, and the file for them.
-use Rattle.std.proofs.Common.{◌≡◌, ◌≤◌, length, take, ap, sym, length-take-le, arith, refl}
+-- `board_writer::push_number` adds a number's bytes: a number of one byte is that byte; five bytes have room for the
+-- longest form, and the file for what they hold.
+use Rattle.std.proofs.Common.{◌≡◌, ◌∙◌, ◌≤◌, ◌++◌, length, take, ap, sym, length-take-le, arith, refl}
 use Rattle.number.specs.Numbers.{number_bytes}
-use Rattle.board_writer.proofs.WriteLaws.{number_first, number_within, number_some}
+use Rattle.board_writer.proofs.WriteLaws.{number_one, number_first, number_within, number_some}
 use Rattle.board_writer.proofs.push_number.Goals as goal
+
+pub overflow_cast-value : goal.overflow_cast-value
+overflow_cast-value c =
+    let one = number_one c.args.value (sym c.number_length.ensures ∙ c.if-number_length-eq1.true) in
+    record { fits = omega (arith, one.0) }
+
+pub returns-then-number_length-eq1 : goal.returns-then-number_length-eq1
+returns-then-number_length-eq1 c =
+    let one = number_one c.args.value (sym c.number_length.ensures ∙ c.if-number_length-eq1.true) in
+    c.push.ensures.items ∙ ap (λ l. c.args.file.now.items ++ l) (sym one.1)
 
 pub unwrap-length-requires : goal.unwrap-length-requires
 unwrap-length-requires c = number_some _ _ _ refl _ c.write_number.ensures
