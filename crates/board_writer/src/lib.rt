@@ -18,7 +18,7 @@ pub const LONGEST_FILE: usize = 1029;
 // The longest form of a number, in bytes.
 const LONGEST_NUMBER: usize = 5;
 
-// Adds a number's bytes. A number of one byte is that byte itself, and all of a board's have one, but for C.
+// Adds a number's bytes. A number of one byte is that byte itself, and all of a board's numbers are such, but for C.
 fn push_number(file: &mut ArrayVec<u8, LONGEST_FILE>, value: u32)
     requires { length file.old.items + length (number_bytes value) ≤ longest_file }
     ensures { file.new.items ≡ file.old.items ++ number_bytes value }

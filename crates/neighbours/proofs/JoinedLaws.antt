@@ -4,8 +4,8 @@
 use Prim.Native.Nat.{ℕ, ◌≤◌, ◌<◌}
 use native.Mathlib.Omega.{arith}
 use mathlib.Core.Path.{◌≡◌, refl, sym, subst, ap, ◌∙◌}
-use mathlib.Core.Logic.{inl, inr}
-use mathlib.Core.Bool.{Bool, true, false, not, false≢true}
+use mathlib.Core.Logic.{◌⊎◌, inl, inr}
+use mathlib.Core.Bool.{Bool, true, false, not, ◌&&◌, false≢true}
 use mathlib.Core.List.{List, [], ◌∷◌}
 use lib.Dec.{eqb, ltb}
 use borrow.Author.Tests.{eqb-true, eqb-false, ltb-true, ltb-false, not-true}
@@ -276,8 +276,20 @@ bare_parts : (s : State) (k : Kind) → conducts_bare s k ≡ true → (winds k 
 bare_parts s k on =
     let both = both_true (not (winds k)) (conducts s k) on in (not-true (winds k) both.0, both.1)
 
-parts_bare : (s : State) (k : Kind) → winds k ≡ false → conducts s k ≡ true → conducts_bare s k ≡ true
+pub parts_bare : (s : State) (k : Kind) → winds k ≡ false → conducts s k ≡ true → conducts_bare s k ≡ true
 parts_bare s k apart on = rw (apart, on) refl
+
+module _ (s : State) (k : Kind) where
+  pub bare_winding : winds k ≡ true → conducts_bare s k ≡ false
+  bare_winding is = rw is refl
+
+  pub bare_off : {A : Type 0} → A ⊎ (conducts s k ≡ false) → A ⊎ (conducts_bare s k ≡ false)
+  bare_off (inl a) = inl a
+  bare_off (inr off) = inr (neither (winds k) (conducts s k) off)
+    where
+      neither : (t u : Bool) → u ≡ false → (not t && u) ≡ false
+      neither true u off = refl
+      neither false u off = off
 
 module _ (b : Board) (s : State) (x y : ℕ) where
   by_bare : joined (bare_neighbours b s) x y ≡ joined (sets_at (conducts_bare s) (parts_of b)) x y

@@ -2,7 +2,7 @@
 use Prim.Native.Nat.{ℕ, ◌+◌, ◌-◌, ◌≤◌, ◌<◌}
 use native.Mathlib.Omega.{arith}
 use mathlib.Core.Path.{◌≡◌, refl, sym, ap, subst, ◌∙◌}
-use mathlib.Core.Bool.{Bool, true, false, not, ◌&&◌}
+use mathlib.Core.Bool.{Bool, true, false, ◌&&◌}
 use mathlib.Core.Logic.{◌⊎◌, inl, inr}
 use mathlib.Core.List.{List, [], ◌∷◌, ◌++◌}
 use Rattle.std.specs.Prelude.{Option, Some, None}
@@ -17,8 +17,6 @@ use Rattle.kinds.specs.declared.Kind.{Kind}
 use Rattle.board.specs.declared.Part.{Part}
 use Rattle.board.specs.Rules.{most_terminals}
 use Rattle.lists.proofs.TableLaws.{table-length, table_at}
-use Rattle.state.specs.declared.State.{State}
-use Rattle.neighbours.specs.Conduction.{conducts, winds, conducts_bare}
 use Rattle.neighbours.specs.Neighbours.{with_part, set_from}
 use Rattle.neighbours.specs.Rows.{EachSet, only_at, without, among, among_by, gathered}
 use Rattle.neighbours.proofs.SetAtLaws.{from_none}
@@ -47,23 +45,6 @@ each_apart at f p near off =
     neither false u off = refl
     neither true u (inl off) = cc
     neither true u (inr off) = off
-
--- ---- a part conducts and is no winding
-
-module _ (s : State) (k : Kind) where
-  pub bare_on : winds k ≡ false → conducts s k ≡ true → conducts_bare s k ≡ true
-  bare_on no_winding on = rw (no_winding, on) refl
-
-  pub bare_winding : winds k ≡ true → conducts_bare s k ≡ false
-  bare_winding is = rw is refl
-
-  pub bare_off : {A : Type 0} → A ⊎ (conducts s k ≡ false) → A ⊎ (conducts_bare s k ≡ false)
-  bare_off (inl a) = inl a
-  bare_off (inr off) = inr (neither (winds k) (conducts s k) off)
-    where
-      neither : (t u : Bool) → u ≡ false → (not t && u) ≡ false
-      neither true u off = refl
-      neither false u off = off
 
 -- ---- on the way up along the terminals of a set, in `clear`: those below x are done, the others are as they were
 

@@ -57,8 +57,8 @@ fn winds(kind: Kind) -> bool
 }
 
 // Joins each pair of these terminals besides that a part joins, part by part from the last, in both rows: in the one by
-// all parts that conduct in this state, in the other by those of them that are no winding, which can shunt a winding
-// (docs/RULES.md, "Shunted").
+// all parts that conduct in this state, in the other by those of them that are no winding. Through these a winding is
+// shunted (docs/RULES.md, "Shunted").
 fn gather(near: &mut Row, bare: &mut Row, at: u64, parts: &[Part], state: State)
     ensures near_gathered { near.new.sets ≡ gathered (among_by at (conducts state)) parts.now near.old.sets }
     ensures bare_gathered { bare.new.sets ≡ gathered (among_by at (conducts_bare state)) parts.now bare.old.sets }

@@ -8,8 +8,8 @@ use Rattle.std.proofs.lemmas.List.{nil_from_length}
 use Rattle.board.specs.declared.Part.{Part}
 use Rattle.neighbours.specs.Conduction.{conducts, conducts_bare}
 use Rattle.neighbours.specs.Rows.{among, among_by, gathered}
-use Rattle.neighbours.proofs.RowLaws.{each_joined, each_apart, bare_on, bare_winding, bare_off, gathered_on}
-use Rattle.neighbours.proofs.RowLaws.{gathered_none}
+use Rattle.neighbours.proofs.JoinedLaws.{parts_bare, bare_winding, bare_off}
+use Rattle.neighbours.proofs.RowLaws.{each_joined, each_apart, gathered_on, gathered_none}
 use Rattle.neighbours.proofs.gather.Goals.{else-is_among-via-then-is_among+else-conducts}
 use Rattle.neighbours.proofs.gather.Goals.{else-is_among-via-else-is_among}
 use Rattle.neighbours.proofs.gather.Goals as goal
@@ -40,7 +40,7 @@ loop-part-preserved-then-not-winds c =
     let p = c.in-Some.field-0.now in
     let within : among c.args.at p ≡ true = sym c.is_among.ensures ∙ c.if-is_among.true in
     let on : conducts c.args.state p.kind ≡ true = sym c.conducts.ensures ∙ c.if-conducts.true in
-    let bare = bare_on c.args.state p.kind (sym c.winds.ensures ∙ c.if-not-winds.true) on in (
+    let bare = parts_bare c.args.state p.kind (sym c.winds.ensures ∙ c.if-not-winds.true) on in (
       gathered_on _ _ _ _ p _ _ _ c.loop-part.invariant.0 c.in-Some.ensures.steps
           (each_joined c.args.at (conducts c.args.state) p _ _ within on c.bridge.ensures),
       gathered_on _ _ _ _ p _ _ _ c.loop-part.invariant.1 c.in-Some.ensures.steps
