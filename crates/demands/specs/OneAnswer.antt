@@ -7,10 +7,11 @@
 --     OneAnswer    the list; the argument of `bits_wide` is a byte: its promise is kept by std's `u32::from` today,
 --                  which `bytes_are_widened` shows; that of `refusals_unless` is a `No`, as in every call: of any type
 --                  `any_line_is_one_answer` says it
-use Rattle.std.specs.Prelude.{ℕ, ◌<◌, ◌≡◌, Bool, List, Option}
+use Rattle.std.specs.Prelude.{ℕ, ◌<◌, ◌≡◌, Bool, List, Option, Result}
 use Rattle.bits.specs.Sets.{SetHas, SetWith, SetWithout, SetFlipped, SetRemaining, SetTogether, SetLowestFrom}
 use Rattle.bits.specs.Sets.{SetAllBelow, WideByte}
 use Rattle.refusals.specs.declared.No.{No}
+use Rattle.refusals.specs.declared.Refusal.{Refusal}
 use Rattle.refusals.specs.Order.{AsksLine}
 use Rattle.number.specs.Numbers.{ReadsNumber, NumberLength, WritesNumber}
 use Rattle.kinds.specs.declared.Kind.{Kind}
@@ -48,8 +49,11 @@ use Rattle.presses.specs.Presses.{Pushes, Releases}
 use Rattle.moves.specs.declared.Move.{Move}
 use Rattle.moves.specs.Steps.{StepsRelay, AfterMove}
 use Rattle.moves.specs.Moving.{Moves}
+use Rattle.runs.specs.declared.Ending.{Ending}
 use Rattle.runs.specs.Running.{Runs}
+use Rattle.report.specs.declared.Figures.{Figures}
 use Rattle.report.specs.Reporting.{Reports}
+use Rattle.report.specs.BothWays.{OneRun, Followed}
 use Rattle.lines.specs.declared.Line.{Line}
 use Rattle.lines.specs.Lines.{WritesLine}
 use Rattle.events.specs.declared.Event.{Event}
@@ -135,6 +139,8 @@ pub record OneAnswer : Type 0 where
   pub moves_move_relay : (b : Board) (h : Kept) (r : ℕ) → One (Moves b h r)
   pub runs_run : (b : Board) (h : Kept) (log : List ℕ) → OneLent (Runs b h log)
   pub report_report : (b : Board) (n : ℕ) → One (Reports b n)
+  pub report_one_run : (w : Result Ending Refusal) (m : ℕ) → One (OneRun w m)
+  pub report_followed : (f g : Figures) → One (Followed f g)
   pub lines_write_line : (l : Line) (out : List ℕ) → OneLent (WritesLine l out)
   pub events_run_line : (b : Board) (e : ℕ) (h : Kept) → One (RunLine b e h)
   pub events_event_line : (b : Board) (e : ℕ) (h : Kept) (v : Event) → One (EventLine b e h v)

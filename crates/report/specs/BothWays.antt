@@ -9,16 +9,23 @@
 --     added f g m k     the figures f and g added up, with m for the most moves and k for the first setting that has it
 --     followed f g      the figures of some runs with others after them, from those of the ones and of the others
 --     Within n f        no figure of f that is added up is above n
--- No promise to other crates speaks of these: `all_runs-both_ways` (proofs/SettingLaws.antt), `one_run-figures` and
--- `figures-followed` (proofs/FigureLaws.antt) say that they come to the same.
-use Rattle.std.specs.Prelude.{ℕ, zero, suc, ◌+◌, ◌≤◌, max, ◌≡◌, true, cond, List, [], ◌∷◌, ◌++◌, ltb}
+--     most_figure       the most that a figure can be
+--     capped f          the figures f, where one that is added up counts as most_figure if it is above that
+--     OneRun w m r      promise: `one_run` of the word w and m moves answers r
+--     Followed f g r    promise: `followed` of the figures f and g answers r
+-- `all_runs-both_ways` (proofs/SettingLaws.antt), `one_run-figures` and `figures-followed` (proofs/FigureLaws.antt) say
+-- that they come to the same; of figures within 2 to the 32 none is capped (`followed_whole`).
+use Rattle.std.specs.Prelude.{ℕ, zero, suc, ◌+◌, ◌-◌, ◌^◌, ◌≤◌, min, max, ◌≡◌, true, cond, List, [], ◌∷◌, ◌++◌, ltb}
+use Rattle.std.specs.Prelude.{Result}
+use Rattle.refusals.specs.declared.Refusal.{Refusal}
 use Rattle.refusals.specs.Outcomes.{Outcome, given, refused}
 use Rattle.board.specs.declared.Board.{Board}
 use Rattle.board.specs.Rules.{board_fine}
 use Rattle.state.specs.declared.State.{State}
 use Rattle.state.specs.States.{with_pushed, state_fine}
 use Rattle.runs.specs.Runs.{Ending, idle, spent, conflict, buzz}
-use Rattle.runs.specs.Running.{longest_log}
+use Rattle.runs.specs.declared.Ending as code-ending
+use Rattle.runs.specs.Running.{longest_log, told_ending}
 use Rattle.report.specs.declared.Figures.{Figures}
 use Rattle.report.specs.Settings.{most_reported}
 use Rattle.report.specs.Figures.{same_word}
@@ -76,3 +83,25 @@ pub record Within (n : ℕ) (f : Figures) : Type 0 where
   pub spent : f.spent ≤ n
   pub moves : f.moves ≤ n
   pub first : f.first ≤ n
+
+abbrev pub most_figure : ℕ
+most_figure = 2 ^ 64 - 1
+
+abbrev pub capped : Figures → Figures
+capped f =
+    record {
+      settings = min f.settings most_figure;
+      idle = min f.idle most_figure;
+      buzz = min f.buzz most_figure;
+      conflict = min f.conflict most_figure;
+      spent = min f.spent most_figure;
+      moves = min f.moves most_figure;
+      most = f.most;
+      first = min f.first most_figure;
+    }
+
+abbrev pub OneRun : Result code-ending.Ending Refusal → ℕ → Figures → Type 0
+OneRun w m r = r ≡ one_run (told_ending w) m
+
+abbrev pub Followed : Figures → Figures → Figures → Type 0
+Followed f g r = r ≡ capped (followed f g)

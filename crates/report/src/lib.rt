@@ -16,6 +16,8 @@ use state::State;
 
 mod settings;
 mod tally;
+#[cfg(test)]
+mod tests;
 
 // The most buttons of a board that is reported on.
 pub const MOST_REPORTED: u8 = 12;

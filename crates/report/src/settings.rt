@@ -30,5 +30,5 @@ pub fn report_from(board: Board, state: State, left: u8, log: &mut [u8]) -> Figu
     let button = left - 1;
     let off = report_from(board, state, button, log);
     let on = report_from(board, state.push(u32::from(button)), button, log);
-    off.followed(on)
+    off.followed_within(on)
 }

@@ -12,8 +12,8 @@ returns-then-left-eq0 t c = search (rules, both_ways_one)
 pub report_from-on-requires : goal.report_from-on-requires
 report_from-on-requires t c = search (rules, can_set_on)
 
-pub followed-requires : goal.followed-requires
-followed-requires t c =
+pub followed_within-requires : goal.followed_within-requires
+followed_within-requires t c =
     record {
       some_within = both_ways-within _ _ _ _ ((can_set_fewer _ _ _ _ c.requires _ (omega arith))) _
           c.report_from-off.ensures;

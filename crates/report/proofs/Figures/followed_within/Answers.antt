@@ -1,7 +1,7 @@
--- `report::Figures::followed` meets its contract: no sum is too large, and the most moves are those of the others only
+-- `report::Figures::followed_within` meets its contract: no sum is too large, and the most moves are those of the others only
 -- where these have more.
 use Rattle.report.proofs.FigureLaws.{followed_more, followed_rest}
-use Rattle.report.proofs.Figures.followed.Goals as goal
+use Rattle.report.proofs.Figures.followed_within.Goals as goal
 
 pub returns-then-self-others : goal.returns-then-self-others
 returns-then-self-others c = followed_more _ _ c.if-self-others.true
