@@ -40,7 +40,7 @@ def line_of(name):
 def parameters(contract):
     """A function's parameters: pairs of the name and the type, which is empty for `self`, and `&Self` for `&self`."""
     inside = contract[contract.index("(") + 1:contract.index(") ->")]
-    named = [("self: &Self" if part.strip() == "&self" else part.strip()).partition(": ") for part in inside.split(", ") if part.strip()]
+    named = [("self: &Self" if part.strip() == "&self" else part.strip()).partition(": ") for part in re.split(r", (?![^<]*>)", inside) if part.strip()]
     return [(name, kind) for name, _, kind in named]
 
 

@@ -1,5 +1,5 @@
--- `report::Figures::followed_within` meets its contract: no sum is too large, and the most moves are those of the others only
--- where these have more.
+-- `report::Figures::followed_within` meets its contract: no sum is too large, and the most moves are those of the
+-- others only where these have more.
 use Rattle.report.proofs.FigureLaws.{followed_more, followed_rest}
 use Rattle.report.proofs.Figures.followed_within.Goals as goal
 
