@@ -7,7 +7,7 @@ use refusals::Refusal;
 use runs::Ending;
 
 impl Figures {
-    // The figures of one run, of the word that it ended with and its moves. A refused one counts as a setting alone.
+    // The figures of one run, by the word that it ended with and its moves. A refused one is counted by no word.
     #[tactic(auto, unfolding(crate::specs::BothWays::one_run))]
     pub fn one_run(word: Result<Ending, Refusal>, moves: usize) -> Self
         ensures { OneRun word moves result }
@@ -50,7 +50,7 @@ impl Figures {
         }
     }
 
-    // The same, of figures that are so few that no sum is too large.
+    // The same, of figures that are so small that no sum is too large.
     pub(crate) fn followed_within(self, others: Self) -> Self
         requires some_within { Within (2 ^ 32) self }
         requires others_within { Within (2 ^ 32) others }

@@ -1,4 +1,4 @@
-// Figures that are put together by those who hold some, by values worked out by hand: no program does so.
+// Figures put together by a caller, by values worked out by hand: no program does so.
 use crate::Figures;
 use refusals::{No, Refusal};
 use runs::Ending;
