@@ -1,8 +1,8 @@
 -- Laws of figures: those of one run, those of some runs with others after them, and how large they are.
-use Prim.Native.Nat.{ℕ, suc, ◌+◌, ◌*◌, ◌^◌, ◌<◌, ◌≤◌, min, max}
+use Prim.Native.Nat.{ℕ, suc, ◌+◌, ◌*◌, ◌^◌, ◌<◌, ◌≤◌, max}
 use native.Mathlib.Omega.{arith}
 use native.Mathlib.Nat.{suc-mul}
-use mathlib.Core.Path.{◌≡◌, refl, sym, ap, subst, ◌∙◌}
+use mathlib.Core.Path.{◌≡◌, refl, sym, ap, subst}
 use mathlib.Core.Bool.{cond}
 use mathlib.Core.List.{List, [], ◌∷◌, ◌++◌}
 use lib.Dec.{ltb, eqb}
@@ -17,7 +17,7 @@ use Rattle.report.specs.declared.Figures.{Figures}
 use Rattle.report.specs.Figures.{moves_in, same_word, ended_with, total_moves, most_moves, first_with}
 use Rattle.report.specs.Figures.{figures_of}
 use Rattle.report.specs.Settings.{most_reported}
-use Rattle.report.specs.BothWays.{one_run, added, followed, Within, most_figure, Followed}
+use Rattle.report.specs.BothWays.{one_run, added, followed, Within, Followed}
 
 -- ---- some runs with others after them
 
@@ -108,26 +108,7 @@ module _ (f g : Figures) where
 pub followed_whole : (f g r : Figures) → Within (2 ^ 32) f → Within (2 ^ 32) g → Followed f g r → r ≡ followed f g
 unfolding followed
 followed_whole f g r some others is =
-    is
-    ∙ (λ i. record {
-      settings = whole some.settings others.settings i;
-      idle = whole some.idle others.idle i;
-      buzz = whole some.buzz others.buzz i;
-      conflict = whole some.conflict others.conflict i;
-      spent = whole some.spent others.spent i;
-      moves = whole some.moves others.moves i;
-      most = max f.most g.most;
-      first = first i;
-    })
-  where
-    whole : {x y : ℕ} → x ≤ 2 ^ 32 → y ≤ 2 ^ 32 → min (x + y) most_figure ≡ x + y
-    whole x_few y_few = omega arith
-
-    first : min (cond (ltb f.most g.most) (f.settings + g.first) f.first) most_figure
-        ≡ cond (ltb f.most g.most) (f.settings + g.first) f.first
-    first =
-        by_test (ltb f.most g.most) (λ is. rw is (whole some.settings others.first))
-        (λ is. rw is (omega (arith, some.first)))
+    by_test (ltb f.most g.most) (λ t. rw (is, t) (search arith)) (λ t. rw (is, t) (search arith))
 
 -- ---- one run
 

@@ -1,5 +1,5 @@
 -- How the code goes through all settings. "set both positions of each button in every combination": the report calls
--- itself for button off and button on, and puts the figures of both together.
+-- itself for button off and button on, and puts the figures of both together, as whoever has figures may.
 --     both_ways f k s   what f makes of each state in which the buttons below k are set in some way, and all else is as
 --                       in s: first those with button k - 1 as in s, then those with it pushed
 --     CanSet b s k n    what it needs for that, of board b and logs of length n: the board breaks no rule, the state

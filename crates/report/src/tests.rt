@@ -1,4 +1,4 @@
-// Figures put together by a caller, by values worked out by hand: no program does so.
+// Figures put together by a caller, by values worked out by hand; programs make reports alone.
 use crate::Figures;
 use refusals::{No, Refusal};
 use runs::Ending;
